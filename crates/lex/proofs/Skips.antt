@@ -1,0 +1,72 @@
+-- Blanks and comments, passed over one at a time: `i + skipped false (drop i s)` stays what it is.
+-- Assumes nothing.
+use mathlib.Core.Path.{_≡_, refl, _∙_, sym, ap}
+use mathlib.Core.Bool.{Bool, true, false, not}
+use mathlib.Core.List.{List, [], _∷_}
+use Prim.Native.Nat.{ℕ, suc, _+_, _<_, _≤_}
+use native.Mathlib.Nat.{add-zero}
+use native.Mathlib.Numerals.{add-one}
+use native.Mathlib.Omega.{arith}
+use lib.Dec.{eqb}
+use lib.ListN.{length, getD, drop, drop-of-length-le}
+use lib.Seq.{drop-cons, drop-drop, getD-drop}
+use borrow.Author.Tests.{eqb-true}
+use Rattle.lex.specs.Bytes.{isWs, or, countWhile, differsFrom, before}
+use Rattle.lex.specs.Lex.{beginsComment, skipped}
+use Rattle.lex.proofs.Laws.{cases}
+
+-- a comment runs to the end of its line
+comment : (bs : List ℕ) → skipped true bs ≡ before 10 bs + skipped false (drop (before 10 bs) bs)
+unfolding skipped before countWhile differsFrom isWs or
+comment [] = refl
+comment (b ∷ bs) = go (eqb b 10) refl (comment bs)
+  where
+    go : (t : Bool) → eqb b 10 ≡ t → skipped true bs ≡ before 10 bs + skipped false (drop (before 10 bs) bs)
+        → skipped true (b ∷ bs) ≡ before 10 (b ∷ bs) + skipped false (drop (before 10 (b ∷ bs)) (b ∷ bs))
+    go true q h = rw (eqb-true b 10 q) (omega arith)
+    go false q h = simp (q, skipped, countWhile, differsFrom) (omega arith)
+
+hash : (b next : ℕ) → beginsComment b next ≡ true → b ≡ 35
+unfolding beginsComment
+hash b next =
+    cases (λ (t : Bool). t ≡ true → b ≡ 35) (eqb b 35) (λ e f. eqb-true b 35 e) (λ e f. let z : _≡_ {A = ℕ} 0 1 = cc in absurd (omega arith))
+
+-- a line that begins a comment is longer than none
+line : (s : List ℕ) (i next : ℕ) → i < length s → beginsComment (getD s i 0) next ≡ true → before 10 (drop i s) ≡ suc (before 10 (drop (suc i) s))
+unfolding before countWhile differsFrom
+line s i next h e = rw (drop-cons s i 0 h, hash (getD s i 0) next e)
+
+pub line-pos : (s : List ℕ) (i next : ℕ) → i < length s → beginsComment (getD s i 0) next ≡ true → 0 < before 10 (drop i s)
+line-pos s i next h e = rw (line s i next h e) (omega arith)
+
+-- the byte behind the one at `i`
+behind : (s : List ℕ) (i : ℕ) → getD (drop (suc i) s) 0 0 ≡ getD s (i + 1) 0
+behind s i = getD-drop (suc i) s 0 0 ∙ ap (λ (k : ℕ). getD s k 0) (omega arith)
+
+module _ (s : List ℕ) (i n : ℕ) (scanned : i + skipped false (drop i s) ≡ n) where
+  pub skip-end : length s ≤ i → i ≡ n
+  unfolding skipped
+  skip-end h = omega (arith, rw (drop-of-length-le s h) at scanned)
+
+  module _ (h : i < length s) where
+    pub skip-blank : isWs (getD s i 0) ≡ true → i + 1 + skipped false (drop (i + 1) s) ≡ n
+    unfolding skipped
+    skip-blank e = rw add-one (omega (arith, rw (drop-cons s i 0 h, e, skipped) at scanned))
+
+    pub skip-stop : isWs (getD s i 0) ≡ false → beginsComment (getD s i 0) (getD s (i + 1) 0) ≡ false → i ≡ n
+    unfolding skipped
+    skip-stop e f =
+        let g : beginsComment (getD s i 0) (getD (drop (suc i) s) 0 0) ≡ false = rw (behind s i) f in
+        omega (arith, rw (drop-cons s i 0 h, e, g, skipped) at scanned)
+
+    pub skip-comment : isWs (getD s i 0) ≡ false → beginsComment (getD s i 0) (getD s (i + 1) 0) ≡ true
+        → (k : ℕ) → k ≡ before 10 (drop i s) → i + k + skipped false (drop (i + k) s) ≡ n
+    unfolding skipped
+    skip-comment e f k q =
+        let g : beginsComment (getD s i 0) (getD (drop (suc i) s) 0 0) ≡ true = rw (behind s i) f in
+        let m = before 10 (drop (suc i) s) in
+        let long = line s i (getD s (i + 1) 0) h f in
+        let sum : i + k ≡ suc i + m = omega arith in
+        let to : drop (i + k) s ≡ drop m (drop (suc i) s) = ap (λ (x : ℕ). drop x s) sum ∙ sym (drop-drop m (suc i) s) in
+        let here = rw (drop-cons s i 0 h, e, g, skipped) at scanned in
+        rw to (omega (arith, comment (drop (suc i) s)))

@@ -1,0 +1,88 @@
+-- `piece` meets its contract: the tests that led to each return pick the case.
+-- Assumes nothing.
+use mathlib.Core.Path.{_∙_, sym}
+use borrow.Rule.Slice.PartAt.{part-to-end}
+use borrow.Author.Needs.{needs}
+use borrow.Author.Tests.{eq-eqb, ne-eqb}
+use Rattle.lex.specs.Lex.{piece}
+use Rattle.lex.proofs.piece.Statement.{statement}
+use Rattle.lex.proofs.piece.Tie as tie
+
+shared-slice-read-b : tie.Need-shared-slice-read-b
+shared-slice-read-b c = search needs
+
+is-ident-start-requires : tie.Need-is-ident-start-requires
+is-ident-start-requires c κs = search needs
+
+name-requires : tie.Need-name-requires
+name-requires c κs = search needs
+
+returns : tie.Need-returns
+unfolding piece
+returns c = rw (sym (c .before .before .is-ident-start .ensures) ∙ c .before .if1 .taken, piece) (c .name .ensures)
+
+is-digit-requires : tie.Need-is-digit-requires
+is-digit-requires c κs = search needs
+
+number-requires : tie.Need-number-requires
+number-requires c κs = search needs
+
+returns-2 : tie.Need-returns-2
+unfolding piece
+returns-2 c =
+    let c3 = c .before .before .before in
+    let c4 = c3 .before in
+    rw (sym (c4 .is-ident-start .ensures) ∙ c3 .if1 .left, sym (c .before .before .is-digit .ensures) ∙ c .before .if2 .taken, piece) (c .number .ensures)
+
+sub-string : tie.Need-sub-string
+sub-string c = search needs
+
+part-string-start : tie.Need-part-string-start
+part-string-start c = search needs
+
+part-string-end : tie.Need-part-string-end
+part-string-end c = search needs
+
+string-requires : tie.Need-string-requires
+string-requires c κs = search needs
+
+returns-3 : tie.Need-returns-3
+unfolding piece
+returns-3 c =
+    let c3 = c .before .before .before in
+    let c4 = c3 .before in
+    let c5 = c4 .before in
+    let c6 = c5 .before in
+    rw (sym (c6 .is-ident-start .ensures) ∙ c5 .if1 .left, sym (c4 .is-digit .ensures) ∙ c3 .if2 .left, eq-eqb _ _ (c .before .before .if3 .taken), piece)
+    (rw part-to-end at (c .string .ensures))
+
+symbol-requires : tie.Need-symbol-requires
+symbol-requires c κs = search needs
+
+returns-4 : tie.Need-returns-4
+unfolding piece
+returns-4 c =
+    let c3 = c .before .before .before in
+    let c4 = c3 .before in
+    let c5 = c4 .before in
+    rw (sym (c5 .is-ident-start .ensures) ∙ c4 .if1 .left, sym (c3 .is-digit .ensures) ∙ c .before .before .if2 .left, ne-eqb _ _ (c .before .if3 .left), piece)
+    (c .symbol .ensures)
+
+pub piece-spec : {M : Type 1} → statement M
+piece-spec =
+    tie.close
+    (tie.spec
+    shared-slice-read-b
+    is-ident-start-requires
+    name-requires
+    returns
+    is-digit-requires
+    number-requires
+    returns-2
+    sub-string
+    part-string-start
+    part-string-end
+    string-requires
+    returns-3
+    symbol-requires
+    returns-4)

@@ -1,0 +1,362 @@
+// The lexer: what stands at a position of a script, and the next token.
+mod byte_search;
+mod class;
+mod diagnostic;
+mod tok;
+mod utf8;
+
+use byte_search::Found;
+use byte_search::find_byte;
+use byte_search::line_end;
+use byte_search::peek;
+use byte_search::skip_ident_cont;
+use byte_search::skip_num_cont;
+use class::is_digit;
+use class::is_ident_start;
+use class::is_ws;
+pub use diagnostic::Diagnostic;
+pub use tok::Fault;
+pub use tok::Next;
+use tok::Piece;
+pub use tok::Step;
+pub use tok::Token;
+pub use tok::Type;
+pub use tok::same;
+use utf8::is_utf8;
+ghost use mathlib.Core.Path.{_≡_};
+ghost use mathlib.Core.Bool.{false};
+ghost use Prim.Native.Nat.{_+_, _<_, _≤_};
+ghost use lib.ListN.{length, drop};
+ghost use Rattle.lex.specs.Lex.{beginsComment, skipped, punctuator as punctuatorOf, punctuation as punctuationOf, leadingSpace, doc as docOf, string as stringOf, doubleIn, number as numberOf, name as nameOf, symbol as symbolOf, piece as pieceOf, stepAt, nextAt, isPrefixSign};
+
+// A sign detached from what precedes it and glued to what follows begins a new expression.
+pub fn is_prefix_sign(script: &[u8], at: usize) -> bool
+    ensures { λ r. ⌜ r ≡ isPrefixSign (now (script .entry)) at ⌝ }
+{
+    if script.len() <= at {
+        return false;
+    }
+    let after = at + 1;
+    if script.len() <= after {
+        return false;
+    }
+    if is_ws(script[after]) {
+        return false;
+    }
+    if at == 0 {
+        return true;
+    }
+    is_ws(script[at - 1])
+}
+
+// A comment begins with `#`, but not with `#!`.
+fn begins_comment(b: u8, next: u8) -> bool
+    ensures { λ r. ⌜ r ≡ beginsComment b next ⌝ }
+{
+    if b != b'#' {
+        return false;
+    }
+    next != b'!'
+}
+
+// The position after blanks and comments.
+fn skip_whitespace(script: &[u8], pos: usize) -> usize
+    ensures { λ r. ⌜ r ≡ pos + skipped false (drop pos (now (script .entry))) ⌝ }
+{
+    let mut p = pos;
+    while p < script.len() {
+        let b = script[p];
+        if is_ws(b) {
+            p += 1;
+        } else if begins_comment(b, peek(script, p + 1)) {
+            p += line_end(&script[p..]);
+        } else {
+            return p;
+        }
+    }
+    p
+}
+
+// A sign of one byte, or an unknown character.
+fn punctuator(b: u8) -> Piece
+    ensures { λ r. ⌜ r ≡ punctuatorOf b ⌝ }
+{
+    let kind = Type::from_punctuator(b);
+    if 0 < kind {
+        Piece::Token {
+            kind,
+            len: 1,
+            taken: 1,
+        }
+    } else {
+        Piece::Fault {
+            number: 33,
+            len: 1,
+            seen: b,
+            taken: 1,
+        }
+    }
+}
+
+// A sign of two bytes, or what one byte is.
+fn punctuation(b: u8, next: u8) -> Piece
+    ensures { λ r. ⌜ r ≡ punctuationOf b next ⌝ }
+{
+    if next != b'=' {
+        return punctuator(b);
+    }
+    if b == b'=' {
+        return Piece::Token {
+            kind: Type::DOUBLE_EQUAL,
+            len: 2,
+            taken: 2,
+        };
+    }
+    if b == b'!' {
+        return Piece::Token {
+            kind: Type::NOT_EQUAL,
+            len: 2,
+            taken: 2,
+        };
+    }
+    punctuator(b)
+}
+
+// 1 where the line begins with a space.
+fn leading_space(line: &[u8]) -> usize
+    ensures { λ r. ⌜ r ≡ leadingSpace (now (line .entry)) ⌝ }
+{
+    if peek(line, 0) == b' ' { 1 } else { 0 }
+}
+
+// A doc, of which `rest` is what follows `#!`.
+fn doc(rest: &[u8]) -> Piece
+    ensures { λ r. ⌜ r ≡ docOf (now (rest .entry)) ⌝ }
+{
+    let n = line_end(rest);
+    let line = &rest[..n];
+    let space = leading_space(line);
+    if is_utf8(&line[space..]) {
+        Piece::Token {
+            kind: Type::DOC,
+            len: n - space,
+            taken: n + 2,
+        }
+    } else {
+        Piece::Fault {
+            number: 32,
+            len: n + 1,
+            seen: 0,
+            taken: n + 1,
+        }
+    }
+}
+
+// A string, of which `rest` is what follows the quote.
+fn string(rest: &[u8]) -> Piece
+    ensures { λ r. ⌜ r ≡ stringOf (now (rest .entry)) ⌝ }
+{
+    let Found::At(n) = find_byte(b'"', rest) else {
+        let line = line_end(rest) + 1;
+        return Piece::Fault {
+            number: 31,
+            len: line,
+            seen: 0,
+            taken: line,
+        };
+    };
+    if is_utf8(&rest[..n]) {
+        Piece::Token {
+            kind: Type::S,
+            len: n,
+            taken: n + 2,
+        }
+    } else {
+        Piece::Fault {
+            number: 32,
+            len: n + 1,
+            seen: 0,
+            taken: n + 2,
+        }
+    }
+}
+
+// A number with a dot before `from`, in a run of `n` digits and dots.
+fn double(rest: &[u8], n: usize, from: usize) -> Piece
+    requires { ⌜ (from ≤ n) × (n ≤ length (now rest)) ⌝ }
+    ensures { λ r. ⌜ r ≡ doubleIn n from (now (rest .entry)) ⌝ }
+{
+    let Found::At(more) = find_byte(b'.', &rest[from..n]) else {
+        return Piece::Token {
+            kind: Type::D,
+            len: n,
+            taken: n,
+        };
+    };
+    let second = from + more;
+    if is_ident_start(peek(rest, second + 1)) {
+        return Piece::Token {
+            kind: Type::D,
+            len: second,
+            taken: second,
+        };
+    }
+    Piece::Fault {
+        number: 34,
+        len: n,
+        seen: 0,
+        taken: n,
+    }
+}
+
+// A number: it ends at a dot that a name follows, which is the parser's.
+fn number(rest: &[u8]) -> Piece
+    ensures { λ r. ⌜ r ≡ numberOf (now (rest .entry)) ⌝ }
+{
+    let n = skip_num_cont(rest);
+    let Found::At(first) = find_byte(b'.', &rest[..n]) else {
+        return Piece::Token {
+            kind: Type::I,
+            len: n,
+            taken: n,
+        };
+    };
+    if is_ident_start(peek(rest, first + 1)) {
+        return Piece::Token {
+            kind: Type::I,
+            len: first,
+            taken: first,
+        };
+    }
+    double(rest, n, first + 1)
+}
+
+// A name or a keyword.
+fn name(rest: &[u8]) -> Piece
+    ensures { λ r. ⌜ r ≡ nameOf (now (rest .entry)) ⌝ }
+{
+    let n = skip_ident_cont(rest);
+    let kind = Type::from_keyword(&rest[..n]);
+    Piece::Token {
+        kind,
+        len: n,
+        taken: n,
+    }
+}
+
+// A doc, a sign or an unknown character.
+fn symbol(rest: &[u8]) -> Piece
+    requires { ⌜ 0 < length (now rest) ⌝ }
+    ensures { λ r. ⌜ r ≡ symbolOf (now (rest .entry)) ⌝ }
+{
+    let b = rest[0];
+    let next = peek(rest, 1);
+    if b != b'#' {
+        return punctuation(b, next);
+    }
+    if next == b'!' {
+        return doc(&rest[2..]);
+    }
+    punctuator(b)
+}
+
+// What stands where no blank or comment begins.
+fn piece(rest: &[u8]) -> Piece
+    requires { ⌜ 0 < length (now rest) ⌝ }
+    ensures { λ r. ⌜ r ≡ pieceOf (now (rest .entry)) ⌝ }
+{
+    let b = rest[0];
+    if is_ident_start(b) {
+        return name(rest);
+    }
+    if is_digit(b) {
+        return number(rest);
+    }
+    if b == b'"' {
+        return string(&rest[1..]);
+    }
+    symbol(rest)
+}
+
+// What stands at a position after blanks and comments.
+pub fn step(script: &[u8], pos: usize) -> Step
+    ensures { λ r. ⌜ r ≡ stepAt (now (script .entry)) pos ⌝ }
+{
+    let start = skip_whitespace(script, pos);
+    if script.len() <= start {
+        return Step::End { at: start };
+    }
+    match piece(&script[start..]) {
+        Piece::Token { kind, len, taken } => Step::Token {
+            token: Token { kind, start, len },
+            next: start + taken,
+        },
+        Piece::Fault {
+            number,
+            len,
+            seen,
+            taken,
+        } => Step::Fault {
+            fault: Fault {
+                number,
+                start,
+                len,
+                seen,
+            },
+            next: start + taken,
+        },
+    }
+}
+
+// The first token at a position or after it, past all faults, and the position after it; Eof at the end.
+pub fn next_token(script: &[u8], pos: usize) -> Next
+    ensures { λ r. ⌜ r ≡ nextAt (now (script .entry)) pos ⌝ }
+{
+    let mut p = pos;
+    loop {
+        match step(script, p) {
+            Step::Token { token, next } => return Next { token, next },
+            Step::Fault { fault: _, next } => p = next,
+            Step::End { at } => return Next {
+                token: Token {
+                    kind: Type::EOF,
+                    start: at,
+                    len: 3,
+                },
+                next: at,
+            },
+        }
+    }
+}
+
+// The script and a position in it.
+pub struct Lexer<'l> {
+    pub input: &'l [u8],
+    pub pos: usize,
+}
+
+impl<'l> Lexer<'l> {
+    // A lexer at the start of the script.
+    pub fn new(input: &'l [u8]) -> Lexer<'l>
+        ensures { λ r. ⌜ (r .input ≡ input .entry) × (r .pos ≡ 0) ⌝ }
+    {
+        Lexer { input, pos: 0 }
+    }
+
+    // The first token at the position or after it.
+    pub fn one(self) -> Next
+        ensures { λ r. ⌜ r ≡ nextAt (now (self .entry .input)) (self .entry .pos) ⌝ }
+    {
+        next_token(self.input, self.pos)
+    }
+
+    // The lexer at another position of its script.
+    pub fn with_pos(self, pos: usize) -> Lexer<'l>
+        ensures { λ r. ⌜ (r .input ≡ self .entry .input) × (r .pos ≡ pos) ⌝ }
+    {
+        Lexer {
+            input: self.input,
+            pos,
+        }
+    }
+}

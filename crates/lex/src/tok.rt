@@ -1,0 +1,336 @@
+// Tokens: their kinds, the keyword table and the fixed spellings.
+use crate::byte_search::Found;
+use crate::byte_search::find_byte;
+ghost use mathlib.Core.Path.{_≡_};
+ghost use lib.ListN.{length};
+ghost use Rattle.lex.specs.Kind.{sameBytes, keywords, nameKind, punctuatorKind, fixedSpelling};
+
+// A token: its kind, where it starts and how long its spelling is.
+pub struct Token {
+    pub kind: u32,
+    pub start: usize,
+    pub len: usize,
+}
+
+// A fault: its number, where its span starts and how long it is, and the byte that is seen; 0 but for an unknown character.
+pub struct Fault {
+    pub number: u32,
+    pub start: usize,
+    pub len: usize,
+    pub seen: u8,
+}
+
+// What stands where no blank or comment begins: a token or a fault, its length, and how many bytes are taken.
+pub enum Piece {
+    Token {
+        kind: u32,
+        len: usize,
+        taken: usize,
+    },
+    Fault {
+        number: u32,
+        len: usize,
+        seen: u8,
+        taken: usize,
+    },
+}
+
+// What stands at a position after blanks and comments, with the next position; or where the script ends.
+pub enum Step {
+    Token { token: Token, next: usize },
+    Fault { fault: Fault, next: usize },
+    End { at: usize },
+}
+
+// A token and the position after it.
+pub struct Next {
+    pub token: Token,
+    pub next: usize,
+}
+
+// The kinds of token are numbers, in the order of the Rust enum.
+pub struct Type(pub u32);
+
+impl Type {
+    pub const EOF: u32 = 1;
+
+    pub const BRACE_LEFT: u32 = 2;
+
+    pub const BRACE_RIGHT: u32 = 3;
+
+    pub const PLUS: u32 = 4;
+
+    pub const MINUS: u32 = 5;
+
+    pub const ASTERIKS: u32 = 6;
+
+    pub const SLASH: u32 = 7;
+
+    pub const PERCENT: u32 = 8;
+
+    pub const EQUAL: u32 = 9;
+
+    pub const DOUBLE_EQUAL: u32 = 10;
+
+    pub const LESS_THAN: u32 = 11;
+
+    pub const GREATER_THAN: u32 = 12;
+
+    pub const EXCLAIM: u32 = 13;
+
+    pub const NOT_EQUAL: u32 = 14;
+
+    pub const QUESTION: u32 = 15;
+
+    pub const COLON: u32 = 16;
+
+    pub const DOT: u32 = 17;
+
+    pub const BRAKET_LEFT: u32 = 18;
+
+    pub const BRAKET_RIGHT: u32 = 19;
+
+    pub const CURLY_LEFT: u32 = 20;
+
+    pub const CURLY_RIGHT: u32 = 21;
+
+    // S, D, I, IDENT and DOC: a string, a double, an integer, a name and a doc, each with a spelling of its own.
+    pub const S: u32 = 22;
+
+    pub const D: u32 = 23;
+
+    pub const I: u32 = 24;
+
+    pub const IDENT: u32 = 25;
+
+    pub const DOC: u32 = 26;
+
+    // The keywords.
+    pub const IMPORT: u32 = 27;
+
+    pub const EXTERN: u32 = 28;
+
+    pub const LET: u32 = 29;
+
+    pub const FN: u32 = 30;
+
+    pub const MATCH: u32 = 31;
+
+    pub const AS: u32 = 32;
+
+    pub const TRUE: u32 = 33;
+
+    pub const FALSE: u32 = 34;
+
+    // The names of types.
+    pub const STR: u32 = 35;
+
+    pub const INT: u32 = 36;
+
+    pub const DOUBLE: u32 = 37;
+
+    pub const BOOL: u32 = 38;
+
+    pub const VOID: u32 = 39;
+
+    pub const OPTION: u32 = 40;
+
+    pub const ARRAY: u32 = 41;
+
+    pub const FOREIGN: u32 = 42;
+
+    pub const RECORD: u32 = 43;
+
+    // The kind of a name: its keyword's, or IDENT.
+    pub fn from_keyword(name: &[u8]) -> u32
+        ensures { λ r. ⌜ r ≡ nameKind keywords (now (name .entry)) ⌝ }
+    {
+        let mut k: usize = 0;
+        while k < 17 {
+            let from = SPELLING_ENDS[k];
+            let to = SPELLING_ENDS[k + 1];
+            if same(&SPELLINGS[from..to], name) {
+                return KEYWORD_KINDS[k];
+            }
+            k += 1;
+        }
+        Type::IDENT
+    }
+
+    // The kind of a sign of one byte; 0 where the byte is none.
+    pub fn from_punctuator(b: u8) -> u32
+        ensures { λ r. ⌜ r ≡ punctuatorKind b ⌝ }
+    {
+        match find_byte(b, &PUNCTUATORS) {
+            Found::At(i) => PUNCTUATOR_KINDS[i],
+            Found::Nothing => 0,
+        }
+    }
+
+    // The length of `as_str`; 0 for a kind whose tokens have spellings of their own, and for a number that is no kind.
+    pub fn spelling_len(kind: u32) -> usize
+        ensures { λ r. ⌜ r ≡ length (fixedSpelling kind) ⌝ }
+    {
+        if kind < 44 {
+            let k = kind as usize;
+            SPELLING_LENS[k]
+        } else {
+            0
+        }
+    }
+}
+
+// The keywords' spellings, one after the other.
+const SPELLINGS: [u8; 77] =
+    *b"importexternletfnmatchastruefalseStrIntDoubleBoolVoidOptionArrayForeignRecord";
+
+// Where each keyword's spelling ends; the first begins at 0.
+const SPELLING_ENDS: [usize; 18] = [
+    0,
+    6,
+    12,
+    15,
+    17,
+    22,
+    24,
+    28,
+    33,
+    36,
+    39,
+    45,
+    49,
+    53,
+    59,
+    64,
+    71,
+    77,
+];
+
+// The kind of each keyword.
+const KEYWORD_KINDS: [u32; 17] = [
+    Type::IMPORT,
+    Type::EXTERN,
+    Type::LET,
+    Type::FN,
+    Type::MATCH,
+    Type::AS,
+    Type::TRUE,
+    Type::FALSE,
+    Type::STR,
+    Type::INT,
+    Type::DOUBLE,
+    Type::BOOL,
+    Type::VOID,
+    Type::OPTION,
+    Type::ARRAY,
+    Type::FOREIGN,
+    Type::RECORD,
+];
+
+// The signs of one byte, and the kind of each.
+const PUNCTUATORS: [u8; 18] = [
+    b'(',
+    b')',
+    b'+',
+    b'-',
+    b'*',
+    b'/',
+    b'%',
+    b'=',
+    b'<',
+    b'>',
+    b'!',
+    b'?',
+    b':',
+    b'.',
+    b'[',
+    b']',
+    b'{',
+    b'}',
+];
+
+const PUNCTUATOR_KINDS: [u32; 18] = [
+    Type::BRACE_LEFT,
+    Type::BRACE_RIGHT,
+    Type::PLUS,
+    Type::MINUS,
+    Type::ASTERIKS,
+    Type::SLASH,
+    Type::PERCENT,
+    Type::EQUAL,
+    Type::LESS_THAN,
+    Type::GREATER_THAN,
+    Type::EXCLAIM,
+    Type::QUESTION,
+    Type::COLON,
+    Type::DOT,
+    Type::BRAKET_LEFT,
+    Type::BRAKET_RIGHT,
+    Type::CURLY_LEFT,
+    Type::CURLY_RIGHT,
+];
+
+// The length of each kind's fixed spelling.
+const SPELLING_LENS: [usize; 44] = [
+    0,
+    3,
+    1,
+    1,
+    1,
+    1,
+    1,
+    1,
+    1,
+    1,
+    2,
+    1,
+    1,
+    1,
+    2,
+    1,
+    1,
+    1,
+    1,
+    1,
+    1,
+    1,
+    0,
+    0,
+    0,
+    0,
+    0,
+    6,
+    6,
+    3,
+    2,
+    5,
+    2,
+    4,
+    5,
+    3,
+    3,
+    6,
+    4,
+    4,
+    6,
+    5,
+    7,
+    6,
+];
+
+// The two spellings are the same bytes.
+pub fn same(a: &[u8], b: &[u8]) -> bool
+    ensures { λ r. ⌜ r ≡ sameBytes (now (a .entry)) (now (b .entry)) ⌝ }
+{
+    if a.len() != b.len() {
+        return false;
+    }
+    let mut i = 0;
+    while i < a.len() {
+        if a[i] != b[i] {
+            return false;
+        }
+        i += 1;
+    }
+    true
+}

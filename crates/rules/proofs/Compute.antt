@@ -1,0 +1,63 @@
+-- What the rules say of a script that is written as a text, for antt to compute.
+use mathlib.Core.Bool.{Bool}
+use mathlib.Core.Option.{Option, none}
+use mathlib.Core.List.{List, [], _∷_, flatten}
+use Prim.Native.Nat.{ℕ}
+use Prim.Native.Char.{code}
+use Prim.Native.String.{String, [] as []ˢ, _∷_ as _∷ˢ_}
+use Rattle.lex.specs.Bytes as Bytes
+use Rattle.lex.specs.Kind as Kind
+use Rattle.lex.specs.Utf8 as Utf8
+use Rattle.lex.specs.Lex as Lex
+use Rattle.rules.specs.Combinators as Combinators
+use Rattle.rules.specs.Rules as Rules
+use Rattle.rules.specs.Parse as Parse
+use Rattle.rules.specs.Shape as Shape
+use Rattle.rules.specs.Strike as Strike
+use Rattle.rules.specs.Tree.{Notes}
+use Rattle.rules.specs.Rules.{stageOne}
+use Rattle.rules.specs.Parse.{Reading, read, ended, parse, parseCollect}
+use Rattle.rules.specs.Shape.{Word, Shapes, shapeOf}
+use Rattle.rules.specs.Strike.{strike, noDocBeforeImport, notesOf}
+
+pub record Computed : Type 0 where
+  pub strict : Reading
+  pub collecting : Reading
+  -- the shape, where strict mode accepts
+  pub shape : Option Shapes
+  -- what striking leaves
+  pub words : List Word
+  pub notes : Notes
+  pub docs : Bool
+
+-- ASCII
+unfoldable pub bytes : String → List ℕ
+bytes []ˢ = []
+bytes (c ∷ˢ s) = code c ∷ bytes s
+
+unfoldable pub shapeIn : List ℕ → Reading → Option Shapes
+shapeIn script (read t es) = shapeOf script t
+shapeIn script (ended e) = none
+
+unfoldable pub computed : String → Computed
+unfolding
+    bytes shapeIn flatten
+    Bytes.or Bytes.between Bytes.isWs Bytes.isDigit Bytes.isIdentStart Bytes.isIdentCont Bytes.isNumCont Bytes.countWhile Bytes.differsFrom Bytes.before Bytes.findByte
+    Kind.sameBytes Kind.keywords Kind.nameKind Kind.punctuators Kind.punctuatorKinds Kind.punctuatorKind
+    Utf8.leastSecond Utf8.greatestSecond Utf8.afterLead Utf8.afterContinuation Utf8.nextState Utf8.stateAfter Utf8.utf8
+    Lex.beginsComment Lex.skipped Lex.punctuator Lex.punctuation Lex.leadingSpace Lex.docIn Lex.doc Lex.string Lex.doubleIn Lex.numberIn Lex.number Lex.name Lex.symbol Lex.piece Lex.standsAt Lex.stepAt Lex.cutFrom Lex.cutAt Lex.cut Lex.tokensOf Lex.diagnosticOf Lex.faultsOf Lex.isPrefixSign
+    Combinators._>>=_ Combinators._>>_ Combinators.pure Combinators.current Combinators.rest Combinators.cur Combinators.advance Combinators.struck Combinators.byKind Combinators.ifKind Combinators.choose Combinators.atToken Combinators.failExpecting Combinators.expect Combinators.expectIdent Combinators.rejectKind Combinators.withArena Combinators.pushNodeAnd Combinators.pushType Combinators.allocSlice Combinators.tokenCells Combinators.runCells Combinators.iterate Combinators.loop Combinators.members Combinators.listUntil Combinators.withDocs Combinators.collectDocs Combinators.takeDocs
+    Rules.stageOne Rules.openAngle Rules.atomType Rules.foreignType Rules.suppliedVoid Rules.importPath Rules.bracketedPaths Rules.strikeSingle Rules.parseImport Rules.atom Rules.ident Rules.isCallableTarget Rules.callable Rules.fieldAccess Rules.breaksOff Rules.requireNoDocs Rules.noteAfterDefault Rules.nodeMember Rules.typedName Rules.optionType Rules.arrayType Rules.recordType Rules.typeByKind Rules.parseType Rules.parseBody Rules.parseArgs Rules.returnType Rules.parseLet Rules.parseFn Rules.externFn Rules.parseExtern Rules.defaultCase Rules.conditionCase Rules.nextCase Rules.parseMatch Rules.parsePrefix Rules.field Rules.recordLiteral Rules.arrayLiteral Rules.group Rules.unary Rules.operand Rules.call Rules.postfix Rules.cast Rules.binary Rules.infixes Rules.parseExpr Rules.readers
+    Parse.begin Parse.synchronizeRoot Parse.merged Parse.parseRoots Parse.parse Parse.recover Parse.parseRootsCollect Parse.parseCollect
+    Shape.spellingStart Shape.wordOf Shape.wellFormed Shape.word Shape.map₁ Shape.map₂ Shape.map₃ Shape.map₄ Shape.map₅ Shape.andThen Shape.decoded Shape.chain Shape.number Shape.token Shape.run Shape.resolve Shape.both Shape.items Shape.from Shape.listAt Shape.w Shape.wordIn Shape.paramIn Shape.fieldIn Shape.words Shape.params Shape.shapes Shape.fields Shape.caseIn Shape.cases Shape.fnIn Shape.fns Shape.typeShape Shape.nodeShape Shape.lookup Shape.tabulate Shape.typeIn Shape.typeAt Shape.nodeIn Shape.nodeAt Shape.shapesOf Shape.shapeOf
+    Strike.keep Strike.noDocBeforeImport Strike.notesOf Strike.strike
+computed text =
+    let script = bytes text in
+    record {
+      strict = parse stageOne script;
+      collecting = parseCollect stageOne script;
+      shape = shapeIn script (parse stageOne script);
+      words = strike stageOne script;
+      notes = notesOf stageOne script;
+      docs = noDocBeforeImport (Lex.tokensOf (Lex.cut script));
+    }

@@ -1,0 +1,390 @@
+-- The reading rules, one for each function of parser.rs and under its name.
+use mathlib.Core.Bool.{Bool, true, false}
+use mathlib.Core.Option.{Option, none, some}
+use mathlib.Core.List.{List, [], _∷_, _++_}
+use Prim.Native.Nat.{ℕ, zero, suc, _+_}
+use lib.Dec.{eqb, ltb}
+use lib.ListN.{length, getD}
+use Rattle.lex.specs.Kind.{kEof, kBraceLeft, kBraceRight, kPlus, kMinus, kAsteriks, kSlash, kPercent, kEqual, kDoubleEqual, kLessThan, kGreaterThan, kColon, kDot, kBraketLeft, kBraketRight, kCurlyLeft, kCurlyRight, kS, kD, kI, kIdent, kImport, kExtern, kLet, kFn, kMatch, kAs, kTrue, kFalse, kStr, kInt, kDouble, kBool, kVoid, kOption, kArray, kForeign, kRecord}
+use Rattle.lex.specs.Lex.{isPrefixSign}
+use Rattle.lex.specs.declared.tok.Token.{Token}
+use Rattle.rules.specs.Tree.{ok, err}
+use Rattle.rules.specs.Combinators.{Rule, _>>=_, _>>_, pure, cur, advance, struck, byKind, ifKind, choose, atToken, fail, expect, expectIdent, rejectKind, pushNode, pushNodeAnd, pushType, allocSlice, tokenCells, runCells, ControlFlow, continue, break, loop, members, listUntil, collectDocs, takeDocs, Readers}
+use Rattle.rules.specs.declared.Run.{Run}
+use Rattle.rules.specs.declared.NodeId.{NodeId}
+use Rattle.rules.specs.declared.TypeExprId.{TypeExprId}
+use Rattle.rules.specs.declared.Node.{Node}
+use Rattle.rules.specs.declared.Node.the-variants as N
+use Rattle.rules.specs.declared.TypeExpr.the-variants as T
+
+-- ---- powers
+
+-- the powers of an infix sign on its left and right
+pub record Powers : Type 0 where
+  pub left : ℕ
+  pub right : ℕ
+
+abbrev pub powers : ℕ → ℕ → Option Powers
+powers l r = some (record { left = l; right = r })
+
+-- the infix signs of stage one: NotEqual is none of them
+unfoldable pub stageOne : ℕ → Option Powers
+stageOne = choose
+    ((kPlus, powers 1 2) ∷ (kMinus, powers 1 2) ∷ (kAsteriks, powers 3 4) ∷ (kSlash, powers 3 4) ∷ (kPercent, powers 3 4) ∷
+    (kDoubleEqual, powers 0 1) ∷ (kLessThan, powers 0 1) ∷ (kGreaterThan, powers 0 1) ∷ [])
+    none
+
+abbrev pub prefixPower : ℕ
+prefixPower = 5
+
+-- ---- rules that read nothing deeper
+
+-- `Foreign<`, `Option<`, `Array<`, `number` being the error where nothing follows
+unfoldable pub openAngle : ℕ → Rule ℕ
+openAngle number = do
+  advance
+  expect kLessThan
+  rejectKind kGreaterThan number
+
+unfoldable pub atomType : Rule TypeExprId
+atomType = do
+  t ← advance
+  pushType (T.Atom t)
+
+unfoldable pub foreignType : Rule TypeExprId
+foreignType = do
+  openAngle 20
+  name ← expectIdent
+  expect kGreaterThan
+  pushType (T.Foreign name)
+
+-- a Void that the script leaves out, at the next token
+unfoldable pub suppliedVoid : Rule TypeExprId
+suppliedVoid = do
+  t ← cur
+  pushType (T.Atom (record { kind = kVoid; start = t .start; len = 4 }))
+
+unfoldable pub importPath : Rule (List ℕ)
+importPath = ifKind kS (advance >>= (λ p. pure (tokenCells p))) (fail 15)
+
+unfoldable pub bracketedPaths : Rule (List (List ℕ))
+bracketedPaths = do
+  expect kBraceLeft
+  ps ← members kBraceRight importPath
+  expect kBraceRight
+  pure ps
+
+-- `x` reads `(`, paths and `)`: the brackets about a single path are struck out
+unfoldable pub strikeSingle : Rule (List (List ℕ)) → Rule (List (List ℕ))
+strikeSingle x = λ s. elim (x s) [
+  | ok ps t ↦ elim (eqb (length ps) 1) [
+    | true ↦ ok ps (record { left = t .left; docs = t .docs; arena = t .arena; notes = record { marks = s .notes .marks ++ (false ∷ true ∷ false ∷ []); afterDefault = t .notes .afterDefault } })
+    | false ↦ ok ps t
+  ]
+  | err e t ↦ err e t
+]
+
+unfoldable pub parseImport : Rule NodeId
+parseImport = do
+  src ← advance
+  paths ← ifKind kS (advance >>= (λ p. pure (tokenCells p ∷ []))) (strikeSingle bracketedPaths)
+  pkgs ← allocSlice paths
+  pushNode (λ id. N.Import id src pkgs)
+
+unfoldable pub atom : Rule NodeId
+atom = do
+  t ← advance
+  pushNode (λ id. N.Atom id t)
+
+unfoldable pub ident : Rule NodeId
+ident = do
+  t ← advance
+  pushNode (λ id. N.Ident id t)
+
+unfoldable pub isCallableTarget : Node → Bool
+isCallableTarget (N.Atom id raw) = false
+isCallableTarget (N.Ident id name) = true
+isCallableTarget (N.Bin id op lhs rhs) = false
+isCallableTarget (N.Unary id op rhs) = false
+isCallableTarget (N.Let id docs name rhs) = false
+isCallableTarget (N.Fn id docs name args ret body) = false
+isCallableTarget (N.Match id cases t b) = false
+isCallableTarget (N.Call id target args) = false
+isCallableTarget (N.Field id target name) = true
+isCallableTarget (N.Cast id src lhs rhs) = false
+isCallableTarget (N.Import id src pkgs) = false
+isCallableTarget (N.Extern id src docs name fns) = false
+isCallableTarget (N.Record id src fields) = false
+isCallableTarget (N.Array id src elements) = false
+
+unfoldable pub callable : NodeId → Rule Bool
+callable n = λ s. ok (isCallableTarget (getD (s .arena .nodes) (n .0) (N.Atom 0 (record { kind = 0; start = 0; len = 0 })))) s
+
+unfoldable pub fieldAccess : NodeId → Rule (ControlFlow NodeId)
+fieldAccess target = do
+  advance
+  name ← expectIdent
+  n ← pushNode (λ id. N.Field id target name)
+  pure (continue n)
+
+-- a sign that begins an operand ends the one before it
+unfoldable pub breaksOff : List ℕ → Token → Bool
+breaksOff script t = choose ((kPlus, isPrefixSign script (t .start)) ∷ (kMinus, isPrefixSign script (t .start)) ∷ []) false (t .kind)
+
+-- docs wait for a let, a fn or an extern
+unfoldable pub requireNoDocs : {A : Type 0} → Rule A → Rule A
+requireNoDocs x = λ s. elim (s .docs) [
+  | [] ↦ x s
+  | d ∷ ds ↦ ifKind kEof (λ t. err (atToken 13 0 (lastOf d ds)) t) (λ t. err (atToken 14 0 d) t) s
+]
+  where
+    lastOf : Token → List Token → Token
+    lastOf d [] = d
+    lastOf d (e ∷ es) = lastOf e es
+
+-- the cases of a match so far, and its default
+pub record Cases : Type 0 where
+  pub cases : List (List ℕ)
+  pub default : Option (Token × Run)
+
+-- one more block that follows a default, where there is one
+unfoldable pub noteAfterDefault : Cases → Rule ℕ
+noteAfterDefault c = λ s. elim (c .default) [ none ↦ ok 0 s | some d ↦ ok 1 (record { left = s .left; docs = s .docs; arena = s .arena; notes = record { marks = s .notes .marks; afterDefault = s .notes .afterDefault + 1 } }) ]
+
+-- a node that is a member of a list
+unfoldable pub nodeMember : Rule NodeId → Rule (List ℕ)
+nodeMember x = do
+  n ← x
+  pure (n .0 ∷ [])
+
+-- ---- the rules at one level, over the readers one level deeper
+
+module _ (deeper : Readers) where
+  -- ---- types
+
+  -- <name> : <type>
+  unfoldable pub typedName : Rule (List ℕ)
+  typedName = do
+    name ← expectIdent
+    expect kColon
+    t ← deeper .type
+    pure (tokenCells name ++ (t .0 ∷ []))
+
+  unfoldable pub optionType : Rule TypeExprId
+  optionType = do
+    openAngle 21
+    t ← deeper .type
+    expect kGreaterThan
+    pushType (T.Option t)
+
+  unfoldable pub arrayType : Rule TypeExprId
+  arrayType = do
+    openAngle 22
+    t ← deeper .type
+    expect kGreaterThan
+    pushType (T.Array t)
+
+  unfoldable pub recordType : Rule TypeExprId
+  recordType = do
+    src ← advance
+    expect kLessThan
+    fields ← listUntil kGreaterThan typedName
+    pushType (T.Record src fields)
+
+  unfoldable pub typeByKind : ℕ → Rule TypeExprId
+  typeByKind = choose
+      ((kStr, atomType) ∷ (kInt, atomType) ∷ (kBool, atomType) ∷ (kVoid, atomType) ∷ (kDouble, atomType) ∷
+      (kForeign, foreignType) ∷ (kOption, optionType) ∷ (kArray, arrayType) ∷ (kRecord, recordType) ∷ [])
+      (fail 23)
+
+  unfoldable pub parseType : Rule TypeExprId
+  parseType = byKind typeByKind
+
+  -- ---- items
+
+  unfoldable pub parseBody : Rule Run
+  parseBody = do
+    expect kCurlyLeft
+    listUntil kCurlyRight (nodeMember (deeper .prefix))
+
+  unfoldable pub parseArgs : Rule Run
+  parseArgs = do
+    expect kBraceLeft
+    listUntil kBraceRight typedName
+
+  -- a return type written `Void` is struck out
+  unfoldable pub returnType : Rule TypeExprId
+  returnType = ifKind kVoid (struck (deeper .type)) (deeper .type)
+
+  unfoldable pub parseLet : Rule NodeId
+  parseLet = do
+    docs ← takeDocs
+    expect kLet
+    name ← expectIdent
+    expect kEqual
+    rhs ← deeper .prefix
+    pushNode (λ id. N.Let id docs name rhs)
+
+  unfoldable pub parseFn : Rule NodeId
+  parseFn = do
+    docs ← takeDocs
+    advance
+    name ← expectIdent
+    args ← parseArgs
+    return-type ← ifKind kCurlyLeft suppliedVoid returnType
+    body ← parseBody
+    pushNodeAnd (args .len) (λ id. N.Fn id docs name args return-type body)
+
+  unfoldable pub externFn : Rule (List ℕ)
+  externFn = do
+    collectDocs
+    rejectKind kExtern 17
+    docs ← takeDocs
+    expect kFn
+    name ← expectIdent
+    args ← parseArgs
+    return-type ← ifKind kCurlyRight suppliedVoid (ifKind kFn suppliedVoid returnType)
+    pure (runCells docs ++ tokenCells name ++ runCells args ++ (return-type .0 ∷ []))
+
+  unfoldable pub parseExtern : Rule NodeId
+  parseExtern = do
+    docs ← takeDocs
+    src ← expect kExtern
+    name ← ifKind kS advance (fail 16)
+    expect kCurlyLeft
+    fns ← listUntil kCurlyRight externFn
+    pushNode (λ id. N.Extern id src docs name fns)
+
+  unfoldable pub defaultCase : Cases → Rule Cases
+  defaultCase c = do
+    t ← cur
+    body ← parseBody
+    pure (record { cases = c .cases; default = some (t, body) })
+
+  unfoldable pub conditionCase : Cases → Rule Cases
+  conditionCase c = do
+    t ← cur
+    condition ← deeper .expr 0
+    body ← parseBody
+    pure (record { cases = c .cases ++ ((tokenCells t ++ (condition .0 ∷ runCells body)) ∷ []); default = c .default })
+
+  -- the next block of a match, up to `}` or the end
+  unfoldable pub nextCase : Cases → Rule (ControlFlow Cases)
+  nextCase c = ifKind kEof (pure (break c)) (ifKind kCurlyRight (pure (break c)) (do
+    noteAfterDefault c
+    d ← ifKind kCurlyLeft (defaultCase c) (conditionCase c)
+    pure (continue d)))
+
+  unfoldable pub parseMatch : Rule NodeId
+  parseMatch = do
+    advance
+    t ← cur
+    expect kCurlyLeft
+    c ← loop nextCase (record { cases = []; default = none })
+    expect kCurlyRight
+    cases ← allocSlice (c .cases)
+    elim (c .default) [
+      | none ↦ (λ s. err (atToken 18 0 t) s)
+      | some d ↦ pushNode (λ id. N.Match id cases (d .0) (d .1))
+    ]
+
+  unfoldable pub parsePrefix : Rule NodeId
+  parsePrefix = do
+    collectDocs
+    byKind (choose
+        ((kImport, parseImport) ∷ (kLet, parseLet) ∷ (kFn, parseFn) ∷ (kExtern, parseExtern) ∷ [])
+        (requireNoDocs (ifKind kMatch parseMatch (deeper .expr 0))))
+
+  -- ---- expressions
+
+  unfoldable pub field : Rule (List ℕ)
+  field = do
+    key ← expectIdent
+    expect kColon
+    value ← deeper .expr 0
+    pure (tokenCells key ++ (value .0 ∷ []))
+
+  unfoldable pub recordLiteral : Rule NodeId
+  recordLiteral = do
+    src ← advance
+    fields ← listUntil kCurlyRight field
+    pushNode (λ id. N.Record id src fields)
+
+  unfoldable pub arrayLiteral : Rule NodeId
+  arrayLiteral = do
+    src ← advance
+    elements ← listUntil kBraketRight (nodeMember (deeper .expr 0))
+    pushNode (λ id. N.Array id src elements)
+
+  unfoldable pub group : Rule NodeId
+  group = do
+    struck advance
+    e ← deeper .expr 0
+    struck (expect kBraceRight)
+    pure e
+
+  unfoldable pub unary : Rule NodeId
+  unary = do
+    op ← advance
+    rhs ← deeper .expr prefixPower
+    pushNode (λ id. N.Unary id op rhs)
+
+  unfoldable pub operand : Rule NodeId
+  operand = byKind (choose
+      ((kCurlyLeft, recordLiteral) ∷ (kBraketLeft, arrayLiteral) ∷
+      (kS, atom) ∷ (kI, atom) ∷ (kD, atom) ∷ (kTrue, atom) ∷ (kFalse, atom) ∷ (kIdent, ident) ∷
+      (kBraceLeft, group) ∷ (kPlus, unary) ∷ (kMinus, unary) ∷ [])
+      (fail 19))
+
+  unfoldable pub call : NodeId → Rule (ControlFlow NodeId)
+  call target = do
+    advance
+    args ← listUntil kBraceRight (nodeMember (deeper .prefix))
+    n ← pushNode (λ id. N.Call id target args)
+    pure (continue n)
+
+  unfoldable pub postfix : NodeId → Rule NodeId
+  postfix = loop (λ lhs. ifKind kDot (fieldAccess lhs) (ifKind kBraceLeft (callable lhs >>= (λ c. elim c [ true ↦ call lhs | false ↦ pure (break lhs) ])) (pure (break lhs))))
+
+  unfoldable pub cast : NodeId → Rule (ControlFlow NodeId)
+  cast lhs = do
+    src ← advance
+    t ← deeper .type
+    n ← pushNode (λ id. N.Cast id src lhs t)
+    pure (continue n)
+
+  unfoldable pub binary : NodeId → Powers → Rule (ControlFlow NodeId)
+  binary lhs p = do
+    op ← advance
+    rhs ← deeper .expr (p .right)
+    n ← pushNode (λ id. N.Bin id op lhs rhs)
+    pure (continue n)
+
+  -- `power` has the infix signs
+  unfoldable pub infixes : (ℕ → Option Powers) → List ℕ → ℕ → NodeId → Rule NodeId
+  infixes power script least = loop (λ lhs. ifKind kAs (cast lhs) (cur >>= (λ t.
+      elim (power (t .kind)) [
+        | none ↦ pure (break lhs)
+        | some p ↦ elim (breaksOff script t) [
+          | true ↦ pure (break lhs)
+          | false ↦ elim (ltb (p .left) least) [ true ↦ pure (break lhs) | false ↦ binary lhs p ]
+        ]
+      ])))
+
+  unfoldable pub parseExpr : (ℕ → Option Powers) → List ℕ → ℕ → Rule NodeId
+  parseExpr power script least = do
+    x ← operand
+    y ← postfix x
+    infixes power script least y
+
+-- ---- levels
+
+-- the readers with so many levels left; a read below the last would stand too deep
+unfoldable pub readers : (ℕ → Option Powers) → List ℕ → ℕ → Readers
+readers power script zero = record { prefix = fail 10; expr = λ least. fail 10; type = fail 10 }
+readers power script (suc l) =
+    let d = readers power script l in
+    record { prefix = parsePrefix d; expr = parseExpr d power script; type = parseType d }
+
+abbrev pub maxLevels : ℕ
+maxLevels = 128

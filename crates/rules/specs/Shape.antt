@@ -1,0 +1,276 @@
+-- Same shape: what is left of a tree without positions, node numbers, value numbers and a case's own token.
+use mathlib.Core.Bool.{Bool, true, false}
+use mathlib.Core.Option.{Option, none, some}
+use mathlib.Core.List.{List, [], _∷_, _++_}
+use Prim.Native.Nat.{ℕ, zero, suc, _+_}
+use lib.Dec.{eqb, leb}
+use lib.ListN.{length, getD, take, drop}
+use Rattle.lex.specs.Kind.{kS, kDoc}
+use Rattle.lex.specs.Bytes.{between}
+use Rattle.rules.specs.Tree.{Arena, Tree}
+use Rattle.lex.specs.declared.tok.Token.{Token}
+use Rattle.rules.specs.declared.Run.{Run}
+use Rattle.rules.specs.declared.Node.{Node}
+use Rattle.rules.specs.declared.Node.the-variants as N
+use Rattle.rules.specs.declared.TypeExpr.{TypeExpr}
+use Rattle.rules.specs.declared.TypeExpr.the-variants as T
+
+-- ---- words
+
+-- a token without its place: its kind, and its spelling where the kind does not fix it
+pub record Word : Type 0 where
+  pub kind : ℕ
+  pub spelling : List ℕ
+
+-- the kinds whose spelling comes from the script: S, D, I, Ident and Doc, which stand in this order
+abbrev pub hasSpelling : ℕ → Bool
+hasSpelling k = elim (leb kS k) [ true ↦ leb k kDoc | false ↦ false ]
+
+-- where a token's spelling begins: behind a quote; behind `#!` and one blank
+unfoldable pub spellingStart : List ℕ → Token → ℕ
+spellingStart script t =
+    elim (eqb (t .kind) kS) [
+      | true ↦ t .start + 1
+      | false ↦
+          elim (eqb (t .kind) kDoc) [
+            | true ↦ elim (eqb (getD script (t .start + 2) 0) 32) [ true ↦ t .start + 3 | false ↦ t .start + 2 ]
+            | false ↦
+                t .start
+          ]
+    ]
+
+-- what a token says
+unfoldable pub wordOf : List ℕ → Token → Word
+wordOf script t = record { kind = t .kind; spelling = elim (hasSpelling (t .kind)) [ true ↦ take (t .len) (drop (spellingStart script t) script) | false ↦ [] ] }
+
+-- its kind is one of `Type`, and its spelling lies in the script
+unfoldable pub wellFormed : List ℕ → Token → Bool
+wellFormed script t = elim (between 1 43 (t .kind)) [ true ↦ elim (hasSpelling (t .kind)) [ true ↦ leb (spellingStart script t + t .len) (length script) | false ↦ true ] | false ↦ false ]
+
+unfoldable pub word : List ℕ → Token → Option Word
+word script t = elim (wellFormed script t) [ true ↦ some (wordOf script t) | false ↦ none ]
+
+-- ---- shapes
+
+mutual
+  pub data TypeShape : Type 0 where
+    atomT : Word → TypeShape
+    foreignT : Word → TypeShape
+    optionT : TypeShape → TypeShape
+    arrayT : TypeShape → TypeShape
+    recordT : Word → Params → TypeShape
+
+  -- names with their types: a fn's arguments, a record type's fields
+  pub data Params : Type 0 where
+    noParam : Params
+    param : Word → TypeShape → Params → Params
+
+-- a fn of an extern
+pub record FnShape : Type 0 where
+  pub docs : List Word
+  pub name : Word
+  pub args : Params
+  pub ret : TypeShape
+
+mutual
+  pub data Shape : Type 0 where
+    atom : (raw : Word) → Shape
+    ident : (name : Word) → Shape
+    bin : (op : Word) → (lhs rhs : Shape) → Shape
+    unary : (op : Word) → (rhs : Shape) → Shape
+    letS : (docs : List Word) → (name : Word) → (rhs : Shape) → Shape
+    fnS : (docs : List Word) → (name : Word) → (args : Params) → (ret : TypeShape) → (body : Shapes) → Shape
+    matchS : (cases : CaseShapes) → (default : Word) → (body : Shapes) → Shape
+    call : (target : Shape) → (args : Shapes) → Shape
+    field : (target : Shape) → (name : Word) → Shape
+    cast : (src : Word) → (lhs : Shape) → (rhs : TypeShape) → Shape
+    importS : (src : Word) → (pkgs : List Word) → Shape
+    externS : (src : Word) → (docs : List Word) → (name : Word) → (fns : List FnShape) → Shape
+    recordS : (src : Word) → (fields : FieldShapes) → Shape
+    array : (src : Word) → (members : Shapes) → Shape
+
+  pub data Shapes : Type 0 where
+    noShape : Shapes
+    shape : Shape → Shapes → Shapes
+
+  pub data FieldShapes : Type 0 where
+    noField : FieldShapes
+    fieldS : (key : Word) → (value : Shape) → FieldShapes → FieldShapes
+
+  pub data CaseShapes : Type 0 where
+    noCase : CaseShapes
+    caseS : (condition : Shape) → (body : Shapes) → CaseShapes → CaseShapes
+
+-- ---- looking up: none where a number, a run or a spelling lies outside, or a token's kind is unknown
+
+unfoldable pub map₁ : {A B : Type 0} → (A → B) → Option A → Option B
+map₁ f none = none
+map₁ f (some a) = some (f a)
+
+unfoldable pub map₂ : {A B C : Type 0} → (A → B → C) → Option A → Option B → Option C
+map₂ f none b = none
+map₂ f (some a) b = map₁ (f a) b
+
+unfoldable pub map₃ : {A B C D : Type 0} → (A → B → C → D) → Option A → Option B → Option C → Option D
+map₃ f none b c = none
+map₃ f (some a) b c = map₂ (f a) b c
+
+unfoldable pub map₄ : {A B C D E : Type 0} → (A → B → C → D → E) → Option A → Option B → Option C → Option D → Option E
+map₄ f none b c d = none
+map₄ f (some a) b c d = map₃ (f a) b c d
+
+unfoldable pub map₅ : {A B C D E F : Type 0} → (A → B → C → D → E → F) → Option A → Option B → Option C → Option D → Option E → Option F
+map₅ f none b c d e = none
+map₅ f (some a) b c d e = map₄ (f a) b c d e
+
+unfoldable pub andThen : {A B : Type 0} → Option A → (A → Option B) → Option B
+andThen none f = none
+andThen (some a) f = f a
+
+-- what cells say, from the first on, and the cells after that
+abbrev pub Decoder : Type 0 → Type 0
+Decoder A = List ℕ → Option (A × List ℕ)
+
+unfoldable pub decoded : {A : Type 0} → Option A → Decoder A
+decoded o = λ cs. map₁ (λ a. (a, cs)) o
+
+unfoldable pub chain : {A B : Type 0} → Decoder A → (A → Decoder B) → Decoder B
+chain x f = λ cs. andThen (x cs) (λ r. f (r .0) (r .1))
+
+unfoldable pub number : Decoder ℕ
+number [] = none
+number (i ∷ cs) = some (i, cs)
+
+unfoldable pub token : Decoder Token
+token = chain number (λ k. chain number (λ s. chain number (λ l. decoded (some (record { kind = k; start = s; len = l })))))
+
+unfoldable pub run : Decoder Run
+run = chain number (λ s. chain number (λ l. decoded (some (record { start = s; len = l }))))
+
+-- then what that stands for
+unfoldable pub resolve : {A B : Type 0} → Decoder A → (A → Option B) → Decoder B
+resolve x f = chain x (λ a. decoded (f a))
+
+unfoldable pub both : {A B : Type 0} → Decoder A → Decoder B → Decoder (A × B)
+both x y = chain x (λ a. chain y (λ b. decoded (some (a, b))))
+
+-- so many members, one after the other
+unfoldable pub items : {A L : Type 0} → Decoder A → L → (A → L → L) → ℕ → Decoder L
+items x nil cons zero = decoded (some nil)
+items x nil cons (suc n) = chain x (λ a. chain (items x nil cons n) (λ l. decoded (some (cons a l))))
+
+-- the cells from a place on
+unfoldable pub from : ℕ → List ℕ → Option (List ℕ)
+from zero cs = some cs
+from (suc n) [] = none
+from (suc n) (c ∷ cs) = from n cs
+
+-- the members of a run
+unfoldable pub listAt : {A L : Type 0} → Decoder A → L → (A → L → L) → List ℕ → Run → Option L
+listAt x nil cons cells r = andThen (from (r .start) cells) (λ cs. map₁ (λ q. q .0) (items x nil cons (r .len) cs))
+
+-- ---- the shape of a record, by those of the records before it
+
+pub record Env : Type 0 where
+  pub script : List ℕ
+  pub cells : List ℕ
+  pub type : ℕ → Option TypeShape
+  pub node : ℕ → Option Shape
+
+module _ (e : Env) where
+  unfoldable pub w : Token → Option Word
+  w t = word (e .script) t
+
+  unfoldable pub wordIn : Decoder Word
+  wordIn = resolve token w
+
+  unfoldable pub paramIn : Decoder (Word × TypeShape)
+  paramIn = both wordIn (resolve number (e .type))
+
+  unfoldable pub fieldIn : Decoder (Word × Shape)
+  fieldIn = both wordIn (resolve number (e .node))
+
+  unfoldable pub words : Run → Option (List Word)
+  words r = listAt wordIn [] _∷_ (e .cells) r
+
+  unfoldable pub params : Run → Option Params
+  params r = listAt paramIn noParam (λ p. param (p .0) (p .1)) (e .cells) r
+
+  unfoldable pub shapes : Run → Option Shapes
+  shapes r = listAt (resolve number (e .node)) noShape shape (e .cells) r
+
+  unfoldable pub fields : Run → Option FieldShapes
+  fields r = listAt fieldIn noField (λ p. fieldS (p .0) (p .1)) (e .cells) r
+
+  -- a case's own token is left out
+  unfoldable pub caseIn : Decoder ((Token × Shape) × Shapes)
+  caseIn = both (both token (resolve number (e .node))) (resolve run shapes)
+
+  unfoldable pub cases : Run → Option CaseShapes
+  cases r = listAt caseIn noCase (λ c. caseS (c .0 .1) (c .1)) (e .cells) r
+
+  unfoldable pub fnIn : Decoder (((List Word × Word) × Params) × TypeShape)
+  fnIn = both (both (both (resolve run words) wordIn) (resolve run params)) (resolve number (e .type))
+
+  unfoldable pub fns : Run → Option (List FnShape)
+  fns r = listAt fnIn [] (λ f. _∷_ (record { docs = f .0 .0 .0; name = f .0 .0 .1; args = f .0 .1; ret = f .1 })) (e .cells) r
+
+  unfoldable pub typeShape : TypeExpr → Option TypeShape
+  typeShape (T.Atom t) = map₁ atomT (w t)
+  typeShape (T.Foreign t) = map₁ foreignT (w t)
+  typeShape (T.Option t) = map₁ optionT (e .type (t .0))
+  typeShape (T.Array t) = map₁ arrayT (e .type (t .0))
+  typeShape (T.Record src fs) = map₂ recordT (w src) (params fs)
+
+  unfoldable pub nodeShape : Node → Option Shape
+  nodeShape (N.Atom id raw) = map₁ atom (w raw)
+  nodeShape (N.Ident id name) = map₁ ident (w name)
+  nodeShape (N.Bin id op lhs rhs) = map₃ bin (w op) (e .node (lhs .0)) (e .node (rhs .0))
+  nodeShape (N.Unary id op rhs) = map₂ unary (w op) (e .node (rhs .0))
+  nodeShape (N.Let id docs name rhs) = map₃ letS (words docs) (w name) (e .node (rhs .0))
+  nodeShape (N.Fn id docs name args ret body) = map₅ fnS (words docs) (w name) (params args) (e .type (ret .0)) (shapes body)
+  nodeShape (N.Match id cs t b) = map₃ matchS (cases cs) (w t) (shapes b)
+  nodeShape (N.Call id target args) = map₂ call (e .node (target .0)) (shapes args)
+  nodeShape (N.Field id target name) = map₂ field (e .node (target .0)) (w name)
+  nodeShape (N.Cast id src lhs rhs) = map₃ cast (w src) (e .node (lhs .0)) (e .type (rhs .0))
+  nodeShape (N.Import id src pkgs) = map₂ importS (w src) (words pkgs)
+  nodeShape (N.Extern id src docs name fs) = map₄ externS (w src) (words docs) (w name) (fns fs)
+  nodeShape (N.Record id src fs) = map₂ recordS (w src) (fields fs)
+  nodeShape (N.Array id src ms) = map₂ array (w src) (shapes ms)
+
+-- ---- a tree's shape
+
+-- what stands at a place of a table
+unfoldable pub lookup : {A : Type 0} → List (Option A) → ℕ → Option A
+lookup [] i = none
+lookup (x ∷ xs) zero = x
+lookup (x ∷ xs) (suc i) = lookup xs i
+
+-- a table grows from left to right, each entry made from those before it
+unfoldable pub tabulate : {R A : Type 0} → ((ℕ → Option A) → R → Option A) → List (Option A) → List R → List (Option A)
+tabulate f done [] = done
+tabulate f done (x ∷ xs) = tabulate f (done ++ (f (lookup done) x ∷ [])) xs
+
+module _ (script : List ℕ) (m : Arena) where
+  -- the types of a tree
+  unfoldable pub typeIn : (ℕ → Option TypeShape) → TypeExpr → Option TypeShape
+  typeIn types x = typeShape (record { script = script; cells = m .cells; type = types; node = λ i. none }) x
+
+  unfoldable pub typeAt : ℕ → Option TypeShape
+  typeAt = lookup (tabulate typeIn [] (m .types))
+
+  -- its nodes
+  unfoldable pub nodeIn : (ℕ → Option Shape) → Node → Option Shape
+  nodeIn nodes x = nodeShape (record { script = script; cells = m .cells; type = typeAt; node = nodes }) x
+
+  unfoldable pub nodeAt : ℕ → Option Shape
+  nodeAt = lookup (tabulate nodeIn [] (m .nodes))
+
+-- the shapes of numbered nodes, in order
+unfoldable pub shapesOf : (ℕ → Option Shape) → List ℕ → Option Shapes
+shapesOf node [] = some noShape
+shapesOf node (i ∷ is) = map₂ shape (node i) (shapesOf node is)
+
+-- a tree's shape: that of its roots
+unfoldable pub shapeOf : List ℕ → Tree → Option Shapes
+shapeOf script t = shapesOf (nodeAt script (t .arena)) (t .roots)

@@ -1,0 +1,118 @@
+// The records of the tree, and what a reading answers.
+use lex::Diagnostic;
+use lex::Token;
+
+// A list: its first cell and how many members it has.
+pub struct Run {
+    pub start: u32,
+    pub len: u32,
+}
+
+pub struct NodeId(pub u32);
+
+pub struct TypeExprId(pub u32);
+
+pub enum Node {
+    Atom {
+        id: u32,
+        raw: Token,
+    },
+    Ident {
+        id: u32,
+        name: Token,
+    },
+    Bin {
+        id: u32,
+        op: Token,
+        lhs: NodeId,
+        rhs: NodeId,
+    },
+    Unary {
+        id: u32,
+        op: Token,
+        rhs: NodeId,
+    },
+    Let {
+        id: u32,
+        docs: Run,
+        name: Token,
+        rhs: NodeId,
+    },
+    Fn {
+        id: u32,
+        docs: Run,
+        name: Token,
+        args: Run,
+        return_type: TypeExprId,
+        body: Run,
+    },
+    Match {
+        id: u32,
+        cases: Run,
+        default_token: Token,
+        default_body: Run,
+    },
+    Call {
+        id: u32,
+        target: NodeId,
+        args: Run,
+    },
+    Field {
+        id: u32,
+        target: NodeId,
+        name: Token,
+    },
+    Cast {
+        id: u32,
+        src: Token,
+        lhs: NodeId,
+        rhs: TypeExprId,
+    },
+    Import {
+        id: u32,
+        src: Token,
+        pkgs: Run,
+    },
+    Extern {
+        id: u32,
+        src: Token,
+        docs: Run,
+        name: Token,
+        fns: Run,
+    },
+    Record {
+        id: u32,
+        src: Token,
+        fields: Run,
+    },
+    Array {
+        id: u32,
+        src: Token,
+        members: Run,
+    },
+}
+
+pub enum TypeExpr {
+    Atom(Token),
+    Foreign(Token),
+    Option(TypeExprId),
+    Array(TypeExprId),
+    Record { src: Token, fields: Run },
+}
+
+// How many records, list cells, roots and values a reading made.
+pub struct Counts {
+    pub nodes: u32,
+    pub types: u32,
+    pub cells: u32,
+    pub roots: u32,
+    pub values: u32,
+    pub diagnostics: u32,
+}
+
+// What a reading answers.
+pub enum Parsed {
+    Tree(Counts),
+    Error(Diagnostic),
+    Refused(u32),
+}
