@@ -1,4 +1,4 @@
--- What the rules say of a script that is written as a text, for antt to compute.
+-- What the rules say of a script, for antt to compute.
 use mathlib.Core.Bool.{Bool}
 use mathlib.Core.Option.{Option, none}
 use mathlib.Core.List.{List, [], _∷_, flatten}
@@ -14,6 +14,7 @@ use Rattle.rules.specs.Rules as Rules
 use Rattle.rules.specs.Parse as Parse
 use Rattle.rules.specs.Shape as Shape
 use Rattle.rules.specs.Strike as Strike
+use Rattle.lex.specs.Lex.{Cut}
 use Rattle.rules.specs.Tree.{Notes}
 use Rattle.rules.specs.Rules.{stageOne}
 use Rattle.rules.specs.Parse.{Reading, read, ended, parse, parseCollect}
@@ -21,6 +22,7 @@ use Rattle.rules.specs.Shape.{Word, Shapes, shapeOf}
 use Rattle.rules.specs.Strike.{strike, noDocBeforeImport, notesOf}
 
 pub record Computed : Type 0 where
+  pub cut : Cut
   pub strict : Reading
   pub collecting : Reading
   -- the shape, where strict mode accepts
@@ -30,18 +32,13 @@ pub record Computed : Type 0 where
   pub notes : Notes
   pub docs : Bool
 
--- ASCII
-unfoldable pub bytes : String → List ℕ
-bytes []ˢ = []
-bytes (c ∷ˢ s) = code c ∷ bytes s
-
 unfoldable pub shapeIn : List ℕ → Reading → Option Shapes
 shapeIn script (read t es) = shapeOf script t
 shapeIn script (ended e) = none
 
-unfoldable pub computed : String → Computed
+unfoldable pub computedFrom : List ℕ → Computed
 unfolding
-    bytes shapeIn flatten
+    shapeIn flatten
     Bytes.or Bytes.between Bytes.isWs Bytes.isDigit Bytes.isIdentStart Bytes.isIdentCont Bytes.isNumCont Bytes.countWhile Bytes.differsFrom Bytes.before Bytes.findByte
     Kind.sameBytes Kind.keywords Kind.nameKind Kind.punctuators Kind.punctuatorKinds Kind.punctuatorKind
     Utf8.leastSecond Utf8.greatestSecond Utf8.afterLead Utf8.afterContinuation Utf8.nextState Utf8.stateAfter Utf8.utf8
@@ -51,13 +48,22 @@ unfolding
     Parse.begin Parse.synchronizeRoot Parse.merged Parse.parseRoots Parse.parse Parse.recover Parse.parseRootsCollect Parse.parseCollect
     Shape.spellingStart Shape.wordOf Shape.wellFormed Shape.word Shape.map₁ Shape.map₂ Shape.map₃ Shape.map₄ Shape.map₅ Shape.andThen Shape.decoded Shape.chain Shape.number Shape.token Shape.run Shape.resolve Shape.both Shape.items Shape.from Shape.listAt Shape.w Shape.wordIn Shape.paramIn Shape.fieldIn Shape.words Shape.params Shape.shapes Shape.fields Shape.caseIn Shape.cases Shape.fnIn Shape.fns Shape.typeShape Shape.nodeShape Shape.lookup Shape.tabulate Shape.typeIn Shape.typeAt Shape.nodeIn Shape.nodeAt Shape.shapesOf Shape.shapeOf
     Strike.keep Strike.noDocBeforeImport Strike.notesOf Strike.strike
-computed text =
-    let script = bytes text in
-    record {
-      strict = parse stageOne script;
-      collecting = parseCollect stageOne script;
-      shape = shapeIn script (parse stageOne script);
-      words = strike stageOne script;
-      notes = notesOf stageOne script;
-      docs = noDocBeforeImport (Lex.tokensOf (Lex.cut script));
-    }
+computedFrom script = record {
+  cut = Lex.cut script;
+  strict = parse stageOne script;
+  collecting = parseCollect stageOne script;
+  shape = shapeIn script (parse stageOne script);
+  words = strike stageOne script;
+  notes = notesOf stageOne script;
+  docs = noDocBeforeImport (Lex.tokensOf (Lex.cut script));
+}
+
+-- a text of ASCII characters
+unfoldable pub bytes : String → List ℕ
+bytes []ˢ = []
+bytes (c ∷ˢ s) = code c ∷ bytes s
+
+-- the same of a script that is written as a text
+unfoldable pub computed : String → Computed
+unfolding bytes computedFrom
+computed text = computedFrom (bytes text)

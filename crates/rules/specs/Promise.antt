@@ -9,6 +9,7 @@ use Rattle.lex.specs.declared.diagnostic.Diagnostic.{Diagnostic}
 use Rattle.rules.specs.Tree.{Tree}
 use Rattle.rules.specs.Parse.{Reading, read, ended}
 use Rattle.rules.specs.Layout.{nodeWidth, typeWidth, zeros, padded, nodeCells, typeCells, diagnosticCells}
+use Rattle.rules.specs.declared.Counts.{Counts}
 use Rattle.rules.specs.declared.Parsed.{Parsed}
 use Rattle.rules.specs.declared.Parsed.the-variants as P
 
@@ -66,3 +67,23 @@ promised how script l =
       | true ↦ record { answer = P.Refused 1; arrays = l }
       | false ↦ elim (tooShort script l) [ true ↦ record { answer = P.Refused 2; arrays = l } | false ↦ outcome (how script) l ]
     ]
+
+-- ---- document 01's number and values for each case of an answer
+
+pub record Numbers : Type 0 where
+  -- 0 for a tree, else the refusal or the error
+  pub number : ℕ
+  pub error : Diagnostic
+  pub counts : Counts
+
+abbrev pub noError : Diagnostic
+noError = record { number = 0; start = 0; len = 0; wanted = 0; seen = 0 }
+
+abbrev pub noCounts : Counts
+noCounts = record { nodes = 0; types = 0; cells = 0; roots = 0; values = 0; diagnostics = 0 }
+
+-- without a tree all counts are 0; with 1 and 2 only the number is returned
+unfoldable pub numbersOf : Parsed → Numbers
+numbersOf (P.Tree c) = record { number = 0; error = noError; counts = c }
+numbersOf (P.Error e) = record { number = e .number; error = e; counts = noCounts }
+numbersOf (P.Refused n) = record { number = n; error = noError; counts = noCounts }
