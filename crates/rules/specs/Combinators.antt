@@ -151,8 +151,14 @@ unfoldable pub withDocs : List Token → State → State
 withDocs ds s = record { left = s .left; docs = ds; arena = s .arena; notes = s .notes }
 
 -- docs wait for what they document
+abbrev pub keepDoc : ℕ → Token → Rule (ControlFlow ℕ)
+keepDoc n d = λ s. ok (continue n) (withDocs (s .docs ++ (d ∷ [])) s)
+
+abbrev pub docStep : ℕ → Rule (ControlFlow ℕ)
+docStep n = ifKind kDoc (advance >>= keepDoc n) (pure (break n))
+
 unfoldable pub collectDocs : Rule ℕ
-collectDocs = loop (λ n. ifKind kDoc (advance >>= (λ d s. ok (continue n) (withDocs (s .docs ++ (d ∷ [])) s))) (pure (break n))) 0
+collectDocs = loop docStep 0
 
 unfoldable pub takeDocs : Rule Run
 takeDocs = λ s. allocSlice (map tokenCells (s .docs)) (withDocs [] s)

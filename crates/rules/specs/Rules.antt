@@ -84,10 +84,16 @@ strikeSingle x = λ s. elim (x s) [
   | err e t ↦ err e t
 ]
 
+abbrev pub onePath : Rule (List (List ℕ))
+onePath = advance >>= (λ p. pure (tokenCells p ∷ []))
+
+abbrev pub importPaths : Rule (List (List ℕ))
+importPaths = ifKind kS onePath (strikeSingle bracketedPaths)
+
 unfoldable pub parseImport : Rule NodeId
 parseImport = do
   src ← advance
-  paths ← ifKind kS (advance >>= (λ p. pure (tokenCells p ∷ []))) (strikeSingle bracketedPaths)
+  paths ← importPaths
   pkgs ← allocSlice paths
   pushNode (λ id. N.Import id src pkgs)
 
@@ -131,16 +137,16 @@ fieldAccess target = do
 unfoldable pub breaksOff : List ℕ → Token → Bool
 breaksOff script t = choose ((kPlus, isPrefixSign script (t .start)) ∷ (kMinus, isPrefixSign script (t .start)) ∷ []) false (t .kind)
 
+abbrev pub lastOf : Token → List Token → Token
+lastOf d [] = d
+lastOf d (e ∷ es) = lastOf e es
+
 -- docs wait for a let, a fn or an extern
 unfoldable pub requireNoDocs : {A : Type 0} → Rule A → Rule A
 requireNoDocs x = λ s. elim (s .docs) [
   | [] ↦ x s
   | d ∷ ds ↦ ifKind kEof (λ t. err (atToken 13 0 (lastOf d ds)) t) (λ t. err (atToken 14 0 d) t) s
 ]
-  where
-    lastOf : Token → List Token → Token
-    lastOf d [] = d
-    lastOf d (e ∷ es) = lastOf e es
 
 -- the cases of a match so far, and its default
 pub record Cases : Type 0 where
@@ -225,15 +231,21 @@ module _ (deeper : Readers) where
     rhs ← deeper .prefix
     pushNode (λ id. N.Let id docs name rhs)
 
+  abbrev pub fnReturn : Rule TypeExprId
+  fnReturn = ifKind kCurlyLeft suppliedVoid returnType
+
   unfoldable pub parseFn : Rule NodeId
   parseFn = do
     docs ← takeDocs
     advance
     name ← expectIdent
     args ← parseArgs
-    return-type ← ifKind kCurlyLeft suppliedVoid returnType
+    return-type ← fnReturn
     body ← parseBody
     pushNodeAnd (args .len) (λ id. N.Fn id docs name args return-type body)
+
+  abbrev pub externReturn : Rule TypeExprId
+  externReturn = ifKind kCurlyRight suppliedVoid (ifKind kFn suppliedVoid returnType)
 
   unfoldable pub externFn : Rule (List ℕ)
   externFn = do
@@ -243,7 +255,7 @@ module _ (deeper : Readers) where
     expect kFn
     name ← expectIdent
     args ← parseArgs
-    return-type ← ifKind kCurlyRight suppliedVoid (ifKind kFn suppliedVoid returnType)
+    return-type ← externReturn
     pure (runCells docs ++ tokenCells name ++ runCells args ++ (return-type .0 ∷ []))
 
   unfoldable pub parseExtern : Rule NodeId
@@ -288,12 +300,19 @@ module _ (deeper : Readers) where
       | some d ↦ pushNode (λ id. N.Match id cases (d .0) (d .1))
     ]
 
+  -- an item that no docs go to
+  abbrev pub plainItem : Rule NodeId
+  plainItem = ifKind kMatch parseMatch (deeper .expr 0)
+
+  abbrev pub itemByKind : ℕ → Rule NodeId
+  itemByKind = choose
+      ((kImport, parseImport) ∷ (kLet, parseLet) ∷ (kFn, parseFn) ∷ (kExtern, parseExtern) ∷ [])
+      (requireNoDocs plainItem)
+
   unfoldable pub parsePrefix : Rule NodeId
   parsePrefix = do
     collectDocs
-    byKind (choose
-        ((kImport, parseImport) ∷ (kLet, parseLet) ∷ (kFn, parseFn) ∷ (kExtern, parseExtern) ∷ [])
-        (requireNoDocs (ifKind kMatch parseMatch (deeper .expr 0))))
+    byKind itemByKind
 
   -- ---- expressions
 
@@ -329,12 +348,15 @@ module _ (deeper : Readers) where
     rhs ← deeper .expr prefixPower
     pushNode (λ id. N.Unary id op rhs)
 
-  unfoldable pub operand : Rule NodeId
-  operand = byKind (choose
+  abbrev pub operandByKind : ℕ → Rule NodeId
+  operandByKind = choose
       ((kCurlyLeft, recordLiteral) ∷ (kBraketLeft, arrayLiteral) ∷
       (kS, atom) ∷ (kI, atom) ∷ (kD, atom) ∷ (kTrue, atom) ∷ (kFalse, atom) ∷ (kIdent, ident) ∷
       (kBraceLeft, group) ∷ (kPlus, unary) ∷ (kMinus, unary) ∷ [])
-      (fail 19))
+      (fail 19)
+
+  unfoldable pub operand : Rule NodeId
+  operand = byKind operandByKind
 
   unfoldable pub call : NodeId → Rule (ControlFlow NodeId)
   call target = do
@@ -343,8 +365,14 @@ module _ (deeper : Readers) where
     n ← pushNode (λ id. N.Call id target args)
     pure (continue n)
 
+  abbrev pub callStep : NodeId → Bool → Rule (ControlFlow NodeId)
+  callStep lhs c = elim c [ true ↦ call lhs | false ↦ pure (break lhs) ]
+
+  abbrev pub postfixStep : NodeId → Rule (ControlFlow NodeId)
+  postfixStep lhs = ifKind kDot (fieldAccess lhs) (ifKind kBraceLeft (callable lhs >>= callStep lhs) (pure (break lhs)))
+
   unfoldable pub postfix : NodeId → Rule NodeId
-  postfix = loop (λ lhs. ifKind kDot (fieldAccess lhs) (ifKind kBraceLeft (callable lhs >>= (λ c. elim c [ true ↦ call lhs | false ↦ pure (break lhs) ])) (pure (break lhs))))
+  postfix = loop postfixStep
 
   unfoldable pub cast : NodeId → Rule (ControlFlow NodeId)
   cast lhs = do
@@ -361,15 +389,21 @@ module _ (deeper : Readers) where
     pure (continue n)
 
   -- `power` has the infix signs
-  unfoldable pub infixes : (ℕ → Option Powers) → List ℕ → ℕ → NodeId → Rule NodeId
-  infixes power script least = loop (λ lhs. ifKind kAs (cast lhs) (cur >>= (λ t.
+  abbrev pub signStep : (ℕ → Option Powers) → List ℕ → ℕ → NodeId → Token → Rule (ControlFlow NodeId)
+  signStep power script least lhs t =
       elim (power (t .kind)) [
         | none ↦ pure (break lhs)
         | some p ↦ elim (breaksOff script t) [
           | true ↦ pure (break lhs)
           | false ↦ elim (ltb (p .left) least) [ true ↦ pure (break lhs) | false ↦ binary lhs p ]
         ]
-      ])))
+      ]
+
+  abbrev pub infixStep : (ℕ → Option Powers) → List ℕ → ℕ → NodeId → Rule (ControlFlow NodeId)
+  infixStep power script least lhs = ifKind kAs (cast lhs) (cur >>= signStep power script least lhs)
+
+  unfoldable pub infixes : (ℕ → Option Powers) → List ℕ → ℕ → NodeId → Rule NodeId
+  infixes power script least = loop (infixStep power script least)
 
   unfoldable pub parseExpr : (ℕ → Option Powers) → List ℕ → ℕ → Rule NodeId
   parseExpr power script least = do
