@@ -168,3 +168,7 @@ pub leading-le : (line : List ℕ) → leadingSpace line ≤ length line
 unfolding leadingSpace
 leading-le [] = zero-le
 leading-le (b ∷ bs) = cases (λ (n : ℕ). n ≤ suc (length bs)) (eqb b 32) (λ e. suc-le-suc zero-le) (λ e. zero-le)
+
+pub leading-le-one : (line : List ℕ) → leadingSpace line ≤ 1
+unfolding leadingSpace
+leading-le-one line = cases (λ (n : ℕ). n ≤ 1) (eqb (getD line 0 0) 32) (λ e. suc-le-suc zero-le) (λ e. zero-le)

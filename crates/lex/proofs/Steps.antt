@@ -85,13 +85,19 @@ module _ (script : List ℕ) where
       same-step (cutFrom (length script) script) (cutAt script) pos (stepAt script pos) (step-forward script pos)
       (λ n p q. enough (length script) (suc (length script)) n (omega arith) (omega arith))
 
-  -- what holds of the cut from every position on, if it holds of the cut that each step begins where it holds of what follows
+  -- what holds of the cut from every position on, if it holds of the cut that each step begins where it holds of what follows;
+  -- of the step itself `Q` is known
+  pub cut-by : (Q : ℕ → Step → Type 0) → ((pos : ℕ) → Q pos (stepAt script pos)) → (P : ℕ → Cut → Type 0)
+      → ((pos : ℕ) (s : Step) → Q pos s → ((n : ℕ) → pos < n → n ≤ length script → P n (cutAt script n)) → P pos (extendCut (cutAt script) s))
+      → (f pos : ℕ) → length script - pos < f → P pos (cutAt script pos)
+  cut-by Q known P step zero pos h = absurd (omega arith)
+  cut-by Q known P step (suc f) pos h = rw (cut-step pos) (step pos (stepAt script pos) (known pos) (λ n p q. cut-by Q known P step f n (omega arith)))
+
+  -- the same, of steps that move forward
   pub cut-ind : (P : ℕ → Cut → Type 0)
       → ((pos : ℕ) (s : Step) → Forward script pos s → ((n : ℕ) → pos < n → n ≤ length script → P n (cutAt script n)) → P pos (extendCut (cutAt script) s))
       → (f pos : ℕ) → length script - pos < f → P pos (cutAt script pos)
-  cut-ind P step zero pos h = absurd (omega arith)
-  cut-ind P step (suc f) pos h =
-      rw (cut-step pos) (step pos (stepAt script pos) (step-forward script pos) (λ n p q. cut-ind P step f n (omega arith)))
+  cut-ind = cut-by (Forward script) (step-forward script)
 
 -- ---- the first token, and the tokens after it
 

@@ -5,7 +5,7 @@ mod diagnostic;
 mod tok;
 mod utf8;
 
-use byte_search::Found;
+pub use byte_search::Found;
 use byte_search::find_byte;
 use byte_search::line_end;
 use byte_search::peek;
@@ -21,7 +21,8 @@ use tok::Piece;
 pub use tok::Step;
 pub use tok::Token;
 pub use tok::Type;
-pub use tok::same;
+pub use tok::same_bytes;
+pub use tok::spelling;
 use utf8::is_utf8;
 ghost use mathlib.Core.Path.{_≡_};
 ghost use mathlib.Core.Bool.{false};

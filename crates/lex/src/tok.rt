@@ -1,9 +1,11 @@
-// Tokens: their kinds, the keyword table and the fixed spellings.
+// Tokens: their kinds, the keyword table and their spellings.
 use crate::byte_search::Found;
 use crate::byte_search::find_byte;
+use crate::leading_space;
 ghost use mathlib.Core.Path.{_≡_};
 ghost use lib.ListN.{length};
 ghost use Rattle.lex.specs.Kind.{sameBytes, keywords, nameKind, punctuatorKind, fixedSpelling};
+ghost use Rattle.lex.specs.Spelling.{spellingOffset, spelling as spellingOf};
 
 // A token: its kind, where it starts and how long its spelling is.
 pub struct Token {
@@ -149,7 +151,7 @@ impl Type {
         while k < 17 {
             let from = SPELLING_ENDS[k];
             let to = SPELLING_ENDS[k + 1];
-            if same(&SPELLINGS[from..to], name) {
+            if same_bytes(&SPELLINGS[from..to], name) {
                 return KEYWORD_KINDS[k];
             }
             k += 1;
@@ -319,7 +321,7 @@ const SPELLING_LENS: [usize; 44] = [
 ];
 
 // The two spellings are the same bytes.
-pub fn same(a: &[u8], b: &[u8]) -> bool
+pub fn same_bytes(a: &[u8], b: &[u8]) -> bool
     ensures { λ r. ⌜ r ≡ sameBytes (now (a .entry)) (now (b .entry)) ⌝ }
 {
     if a.len() != b.len() {
@@ -333,4 +335,46 @@ pub fn same(a: &[u8], b: &[u8]) -> bool
         i += 1;
     }
     true
+}
+
+// How many bytes of a token stand before its spelling, `rest` being what begins with it.
+fn spelling_offset(kind: u32, rest: &[u8]) -> usize
+    ensures { λ r. ⌜ r ≡ spellingOffset kind (now (rest .entry)) ⌝ }
+{
+    if kind == Type::S {
+        return 1;
+    }
+    if kind != Type::DOC {
+        return 0;
+    }
+    if rest.len() < 2 {
+        return 2;
+    }
+    leading_space(&rest[2..]) + 2
+}
+
+// Where the spelling of any token begins, if its kind has one and it lies within the script.
+pub fn spelling(script: &[u8], t: Token) -> Found
+    ensures { λ r. ⌜ r ≡ spellingOf (now (script .entry)) t ⌝ }
+{
+    let kind = t.kind;
+    let start = t.start;
+    if kind < Type::S {
+        return Found::Nothing;
+    }
+    if Type::DOC < kind {
+        return Found::Nothing;
+    }
+    if script.len() < start {
+        return Found::Nothing;
+    }
+    let offset = spelling_offset(kind, &script[start..]);
+    let left = script.len() - start;
+    if left < offset {
+        return Found::Nothing;
+    }
+    if left - offset < t.len {
+        return Found::Nothing;
+    }
+    Found::At(start + offset)
 }

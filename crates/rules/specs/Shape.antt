@@ -3,10 +3,10 @@ use mathlib.Core.Bool.{Bool, true, false}
 use mathlib.Core.Option.{Option, none, some}
 use mathlib.Core.List.{List, [], _∷_, _++_}
 use Prim.Native.Nat.{ℕ, zero, suc, _+_}
-use lib.Dec.{eqb, leb}
-use lib.ListN.{length, getD, take, drop}
-use Rattle.lex.specs.Kind.{kS, kDoc}
+use lib.Dec.{leb}
+use lib.ListN.{length, take, drop}
 use Rattle.lex.specs.Bytes.{between}
+use Rattle.lex.specs.Spelling.{hasSpelling, spellingStart}
 use Rattle.rules.specs.Tree.{Arena, Tree}
 use Rattle.lex.specs.declared.tok.Token.{Token}
 use Rattle.rules.specs.declared.Run.{Run}
@@ -21,23 +21,6 @@ use Rattle.rules.specs.declared.TypeExpr.the-variants as T
 pub record Word : Type 0 where
   pub kind : ℕ
   pub spelling : List ℕ
-
--- the kinds whose spelling comes from the script: S, D, I, Ident and Doc, which stand in this order
-abbrev pub hasSpelling : ℕ → Bool
-hasSpelling k = elim (leb kS k) [ true ↦ leb k kDoc | false ↦ false ]
-
--- where a token's spelling begins: behind a quote; behind `#!` and one blank
-unfoldable pub spellingStart : List ℕ → Token → ℕ
-spellingStart script t =
-    elim (eqb (t .kind) kS) [
-      | true ↦ t .start + 1
-      | false ↦
-          elim (eqb (t .kind) kDoc) [
-            | true ↦ elim (eqb (getD script (t .start + 2) 0) 32) [ true ↦ t .start + 3 | false ↦ t .start + 2 ]
-            | false ↦
-                t .start
-          ]
-    ]
 
 -- what a token says
 unfoldable pub wordOf : List ℕ → Token → Word

@@ -10,10 +10,10 @@ use native.Mathlib.Omega.{arith}
 use Rattle.lex.specs.Kind.{kEof, kImport, kDoc, kIdent, kVoid}
 use Rattle.lex.specs.Lex.{cut, tokensOf}
 use Rattle.lex.specs.declared.diagnostic.Diagnostic.{Diagnostic}
+use Rattle.lex.specs.Spelling.{hasSpelling, spellingStart}
 use Rattle.rules.specs.Tree.{Arena, Notes, State, Result, ok, err}
 use Rattle.rules.specs.Combinators.{Rule, _>>=_, _>>_, pure, current, rest, cur, advance, struck, byKind, ifKind, choose, failExpecting, fail, rejectKind, expect, expectIdent, withArena, pushNodeAnd, pushType, allocSlice, ControlFlow, continue, break, iterate, loop, members, listUntil}
-use Rattle.rules.specs.Shape as S
-use Rattle.rules.specs.Shape.{Word, wordOf, word, wellFormed, hasSpelling, TypeShape, Shape, map₁, andThen, Decoder, decoded, chain, items, listAt, typeAt, nodeAt, typeShape, nodeShape}
+use Rattle.rules.specs.Shape.{Word, wordOf, word, wellFormed, TypeShape, Shape, map₁, andThen, Decoder, decoded, chain, items, listAt, typeAt, nodeAt, typeShape, nodeShape}
 use Rattle.rules.specs.Strike.{keep, noDocBeforeImport}
 use Rattle.rules.proofs.Unique.Print.{fixed, printT, printReturn, print}
 use Rattle.rules.proofs.Unique.Grow.{Le, env, envOf, Grows, extend, grows-refl, grows-trans, arena-type, arena-node, from-end}
@@ -306,7 +306,7 @@ module _ (script : List ℕ) where
 
   pub word-fixed : (k : ℕ) (t : Token) → t .kind ≡ k → hasSpelling k ≡ false → wordOf script t ≡ fixed k
   unfolding wordOf fixed
-  word-fixed k t e n = λ i. record { kind = e i; spelling = go (hasSpelling (t .kind)) (lib.ListN.take (t .len) (lib.ListN.drop (S.spellingStart script t) script)) (ap hasSpelling e ∙ n) i }
+  word-fixed k t e n = λ i. record { kind = e i; spelling = go (hasSpelling (t .kind)) (lib.ListN.take (t .len) (lib.ListN.drop (spellingStart script t) script)) (ap hasSpelling e ∙ n) i }
     where
       go : (b : Bool) (ws : List ℕ) → b ≡ false → _≡_ {A = List ℕ} (elim b as (λ b′. List ℕ) [ true ↦ ws | false ↦ [] ]) []
       go true ws q = absurd (subst T q tt)

@@ -6,12 +6,13 @@ use mathlib.Core.List.{List, [], _∷_, _++_}
 use Prim.Native.Nat.{ℕ}
 use lib.Dec.{eqb}
 use Rattle.lex.specs.Kind.{kEof, kColon, kLessThan, kGreaterThan, kStr, kInt, kDouble, kBool, kVoid, kOption, kArray, kForeign, kRecord}
+use Rattle.lex.specs.Spelling.{hasSpelling}
 use Rattle.rules.specs.Tree.{Arena, State}
 use Rattle.rules.specs.Combinators as R
 use Rattle.rules.specs.Combinators.{current, Readers, tokenCells}
 use Rattle.rules.specs.Rules as Q
 use Rattle.rules.specs.Shape as S
-use Rattle.rules.specs.Shape.{Word, wordOf, hasSpelling, TypeShape, atomT, foreignT, optionT, arrayT, recordT, noParam, param, map₁, map₂, andThen, Decoder, decoded, chain, number, token, resolve, both, typeShape}
+use Rattle.rules.specs.Shape.{Word, wordOf, TypeShape, atomT, foreignT, optionT, arrayT, recordT, noParam, param, map₁, map₂, andThen, Decoder, decoded, chain, number, token, resolve, both, typeShape}
 use Rattle.rules.proofs.Unique.Print.{fixed, printT, printParams, printReturn}
 use Rattle.rules.proofs.Unique.Grow.{envOf, Grows, Le, paramIn-grows}
 use Rattle.rules.proofs.Unique.Step.{Holds, table-ok, entry-ok, other-ok, bind-ok, then-ok, pure-ok, fail-ok, rejectKind-ok, Invariant, Consumed, _▷_, advance-ok, expectIdent-ok, sign-ok, sign-took, NodeDone, TypeDone, type-end, fold, fold-print, printAll, ItemDone, listUntil-ok}
