@@ -18,7 +18,7 @@ use Rattle.lex.specs.declared.tok.Next.{Next}
 use Rattle.lex.specs.Bytes.{isWs}
 use Rattle.lex.specs.Kind.{kEof}
 use Rattle.lex.specs.Lex.{beginsComment, skipped, piece, placed, standsAt, stepAt}
-use Rattle.lex.specs.Lex.{Cut, eof, cutToken, cutFault, extendCut, cutFrom, cutAt, eofToken, tokensOf, nextOf, tokensFrom, nextAt, Occurrence, faultsOf}
+use Rattle.lex.specs.Lex.{Cut, eof, cutToken, cutFault, extendCut, cutFrom, cutAt, cut, eofToken, tokensOf, nextOf, tokensFrom, nextAt, Occurrence, faultsOf}
 use Rattle.lex.proofs.Laws.{cases}
 use Rattle.lex.proofs.Pieces.{Within, piece-within}
 
@@ -163,3 +163,7 @@ pieces-are k (cutFault e c) = omega (arith, pieces-are k c)
 pub tokens-le : (script : List ℕ) (pos k : ℕ) → length (tokensFrom script pos) + length (faultsOf k (cutAt script pos)) ≤ suc (length script - pos)
 unfolding tokensFrom
 tokens-le script pos k = omega (arith, pieces-are k (cutAt script pos), pieces-le script pos)
+
+pub cut-le : (script : List ℕ) → length (tokensOf (cut script)) + length (faultsOf 0 (cut script)) ≤ length script + 1
+unfolding cut tokensFrom
+cut-le script = omega (arith, tokens-le script 0 0)
