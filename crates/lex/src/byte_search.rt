@@ -12,7 +12,7 @@ pub enum Found {
 }
 
 // The first place of `needle`.
-pub fn find_byte(needle: u8, haystack: &[u8]) -> Found
+pub(crate) fn find_byte(needle: u8, haystack: &[u8]) -> Found
     ensures { λ r. ⌜ r ≡ findByte needle (now (haystack .entry)) ⌝ }
 {
     let mut i = 0;
@@ -26,7 +26,7 @@ pub fn find_byte(needle: u8, haystack: &[u8]) -> Found
 }
 
 // How many bytes in front can continue a name.
-pub fn skip_ident_cont(haystack: &[u8]) -> usize
+pub(crate) fn skip_ident_cont(haystack: &[u8]) -> usize
     ensures { λ r. ⌜ r ≡ countWhile isIdentCont (now (haystack .entry)) ⌝ }
 {
     let mut i = 0;
@@ -40,7 +40,7 @@ pub fn skip_ident_cont(haystack: &[u8]) -> usize
 }
 
 // How many bytes in front can continue a number.
-pub fn skip_num_cont(haystack: &[u8]) -> usize
+pub(crate) fn skip_num_cont(haystack: &[u8]) -> usize
     ensures { λ r. ⌜ r ≡ countWhile isNumCont (now (haystack .entry)) ⌝ }
 {
     let mut i = 0;
@@ -54,7 +54,7 @@ pub fn skip_num_cont(haystack: &[u8]) -> usize
 }
 
 // How many bytes stand before the end of the first line.
-pub fn line_end(haystack: &[u8]) -> usize
+pub(crate) fn line_end(haystack: &[u8]) -> usize
     ensures { λ r. ⌜ r ≡ before 10 (now (haystack .entry)) ⌝ }
 {
     match find_byte(b'\n', haystack) {
@@ -64,7 +64,7 @@ pub fn line_end(haystack: &[u8]) -> usize
 }
 
 // The byte at a position; 0 past the end.
-pub fn peek(script: &[u8], at: usize) -> u8
+pub(crate) fn peek(script: &[u8], at: usize) -> u8
     ensures { λ r. ⌜ r ≡ getD (now (script .entry)) at 0 ⌝ }
 {
     if at < script.len() { script[at] } else { 0 }

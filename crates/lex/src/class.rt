@@ -3,18 +3,18 @@ ghost use mathlib.Core.Path.{_≡_};
 ghost use Rattle.lex.specs.Bytes.{isWs, isDigit, isIdentStart, isIdentCont, isNumCont, classOf};
 
 // The bits of a class: what the byte can be or begin.
-pub struct Class(pub u8);
+pub(crate) struct Class(pub u8);
 
 impl Class {
-    pub const IDENT_CONT: u8 = 1;
+    pub(crate) const IDENT_CONT: u8 = 1;
 
-    pub const IDENT_START: u8 = 2;
+    pub(crate) const IDENT_START: u8 = 2;
 
-    pub const DIGIT: u8 = 4;
+    pub(crate) const DIGIT: u8 = 4;
 
-    pub const NUM_CONT: u8 = 8;
+    pub(crate) const NUM_CONT: u8 = 8;
 
-    pub const WS: u8 = 16;
+    pub(crate) const WS: u8 = 16;
 }
 
 // The class of each byte.
@@ -278,42 +278,42 @@ const CLASS: [u8; 256] = [
 ];
 
 // The class of a byte.
-pub fn class_of(b: u8) -> u8
+pub(crate) fn class_of(b: u8) -> u8
     ensures { λ r. ⌜ r ≡ classOf b ⌝ }
 {
     CLASS[b as usize]
 }
 
 // Whether the byte can continue a name.
-pub fn is_ident_cont(b: u8) -> bool
+pub(crate) fn is_ident_cont(b: u8) -> bool
     ensures { λ r. ⌜ r ≡ isIdentCont b ⌝ }
 {
     class_of(b) & Class::IDENT_CONT != 0
 }
 
 // Whether the byte can begin a name.
-pub fn is_ident_start(b: u8) -> bool
+pub(crate) fn is_ident_start(b: u8) -> bool
     ensures { λ r. ⌜ r ≡ isIdentStart b ⌝ }
 {
     class_of(b) & Class::IDENT_START != 0
 }
 
 // Whether the byte is a digit.
-pub fn is_digit(b: u8) -> bool
+pub(crate) fn is_digit(b: u8) -> bool
     ensures { λ r. ⌜ r ≡ isDigit b ⌝ }
 {
     class_of(b) & Class::DIGIT != 0
 }
 
 // Whether the byte can continue a number.
-pub fn is_num_cont(b: u8) -> bool
+pub(crate) fn is_num_cont(b: u8) -> bool
     ensures { λ r. ⌜ r ≡ isNumCont b ⌝ }
 {
     class_of(b) & Class::NUM_CONT != 0
 }
 
 // Whether the byte separates: space, tab, CR or LF.
-pub fn is_ws(b: u8) -> bool
+pub(crate) fn is_ws(b: u8) -> bool
     ensures { λ r. ⌜ r ≡ isWs b ⌝ }
 {
     class_of(b) & Class::WS != 0

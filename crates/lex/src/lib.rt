@@ -23,7 +23,7 @@ pub use tok::Token;
 pub use tok::Type;
 pub use tok::same_bytes;
 pub use tok::spelling;
-use utf8::is_utf8;
+pub use utf8::is_utf8;
 ghost use mathlib.Core.Path.{_≡_};
 ghost use mathlib.Core.Bool.{false};
 ghost use Prim.Native.Nat.{_+_, _<_, _≤_};

@@ -160,7 +160,7 @@ impl Type {
     }
 
     // The kind of a sign of one byte; 0 where the byte is none.
-    pub fn from_punctuator(b: u8) -> u32
+    pub(crate) fn from_punctuator(b: u8) -> u32
         ensures { λ r. ⌜ r ≡ punctuatorKind b ⌝ }
     {
         match find_byte(b, &PUNCTUATORS) {
