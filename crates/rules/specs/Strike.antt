@@ -6,8 +6,7 @@ use mathlib.Core.List.{List, [], _∷_, map}
 use Prim.Native.Nat.{ℕ}
 use lib.Dec.{eqb}
 use Rattle.rules.specs.Rules.{Powers}
-use Rattle.lex.specs.Kind.{kEof, kImport, kDoc}
-use Rattle.lex.specs.Bytes.{or}
+use Rattle.lex.specs.Kind.{kImport, kDoc}
 use Rattle.lex.specs.Lex.{cut, tokensOf}
 use Rattle.rules.specs.Tree.{Notes, ok, err, Tree}
 use Rattle.rules.specs.Parse.{read, begin, parse, parseRoots}
@@ -20,12 +19,12 @@ keep [] ws = ws
 keep (b ∷ bs) [] = []
 keep (b ∷ bs) (w ∷ ws) = elim b [ true ↦ w ∷ keep bs ws | false ↦ keep bs ws ]
 
--- no Doc stands right before an Import or Eof
+-- no Doc stands right before an Import (right before Eof none is accepted)
 unfoldable pub noDocBeforeImport : List Token → Bool
 noDocBeforeImport [] = true
 noDocBeforeImport (t ∷ []) = true
 noDocBeforeImport (t ∷ (u ∷ ts)) = elim (eqb (t .kind) kDoc) [
-  | true ↦ elim (or (eqb (u .kind) kImport) (eqb (u .kind) kEof)) [ true ↦ false | false ↦ noDocBeforeImport (u ∷ ts) ]
+  | true ↦ elim (eqb (u .kind) kImport) [ true ↦ false | false ↦ noDocBeforeImport (u ∷ ts) ]
   | false ↦ noDocBeforeImport (u ∷ ts)
 ]
 
@@ -39,7 +38,7 @@ module _ (power : ℕ → Option Powers) where
   unfoldable pub strike : List ℕ → List Word
   strike script = keep (notesOf script .marks) (map (wordOf script) (tokensOf (cut script)))
 
-  -- strict mode accepts the script with this tree, no Doc stands right before an Import or Eof, and each match has one default, written last
+  -- strict mode accepts the script with this tree, no Doc stands right before an Import, and each match has one default, written last
   pub record Plain (script : List ℕ) (tree : Tree) : Type 0 where
     pub accepted : parse power script ≡ read tree []
     pub docs : noDocBeforeImport (tokensOf (cut script)) ≡ true

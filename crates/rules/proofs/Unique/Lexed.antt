@@ -6,8 +6,8 @@ use mathlib.Core.List.{List, [], _∷_}
 use Prim.Native.Nat.{ℕ}
 use lib.Dec.{eqb, eqb-refl, T}
 use borrow.Author.Tests.{le-leb}
-use Rattle.lex.specs.Bytes.{or, between}
-use Rattle.lex.specs.Kind.{kEof, kImport, kDoc}
+use Rattle.lex.specs.Bytes.{between}
+use Rattle.lex.specs.Kind.{kImport, kDoc}
 use Rattle.lex.specs.Spelling.{hasSpelling, spellingStart}
 use Rattle.lex.specs.declared.tok.Token.{Token}
 use Rattle.lex.proofs.Spellings.{Spelled, spelling-found, Ended}
@@ -36,19 +36,15 @@ module _ (script : List ℕ) (t : Token) (spelled : Spelled script t) where
   unfolding word
   well-formed = rw (passes, word)
 
-second : (c : Bool) (x : Bool) → elim c as (λ y. Bool) [ true ↦ false | false ↦ x ] ≡ true → x ≡ true
-second true x z = absurd (subst T (sym z) tt)
-second false x z = z
-
-pub tokens-tokensOk : (script : List ℕ) (D : Type 0) (l : List Token) → Ended script l → (D → noDocBeforeImport l ≡ true) → TokensOk script D l
-unfolding noDocBeforeImport or
-tokens-tokensOk script D [] e h = e
-tokens-tokensOk script D (t ∷ []) e h = (e .0, well-formed script t (e .1))
-tokens-tokensOk script D (t ∷ (u ∷ ts)) e h = (e .0, (λ x. both (eqb (t .kind) kDoc) refl (eqb (u .kind) kImport) refl (h x) .0), tokens-tokensOk script D (u ∷ ts) (e .1) (λ x. both (eqb (t .kind) kDoc) refl (eqb (u .kind) kImport) refl (h x) .1), well-formed script t (e .2))
+pub tokens-ok : (script : List ℕ) (D : Type 0) (l : List Token) → Ended script l → (D → noDocBeforeImport l ≡ true) → TokensOk script D l
+unfolding noDocBeforeImport
+tokens-ok script D [] e h = e
+tokens-ok script D (t ∷ []) e h = (e .0, well-formed script t (e .1))
+tokens-ok script D (t ∷ (u ∷ ts)) e h = (e .0, (λ x. both (eqb (t .kind) kDoc) refl (eqb (u .kind) kImport) refl (h x) .0), tokens-ok script D (u ∷ ts) (e .1) (λ x. both (eqb (t .kind) kDoc) refl (eqb (u .kind) kImport) refl (h x) .1), well-formed script t (e .2))
   where
     both : (a : Bool) → eqb (t .kind) kDoc ≡ a → (b : Bool) → eqb (u .kind) kImport ≡ b
-        → elim a as (λ a′. Bool) [ true ↦ elim (or b (eqb (u .kind) kEof)) as (λ x. Bool) [ true ↦ false | false ↦ noDocBeforeImport (u ∷ ts) ] | false ↦ noDocBeforeImport (u ∷ ts) ] ≡ true
+        → elim a as (λ a′. Bool) [ true ↦ elim b as (λ x. Bool) [ true ↦ false | false ↦ noDocBeforeImport (u ∷ ts) ] | false ↦ noDocBeforeImport (u ∷ ts) ] ≡ true
         → (t .kind ≡ kDoc → ¬ (u .kind ≡ kImport)) × (noDocBeforeImport (u ∷ ts) ≡ true)
     both true p true q z = absurd (subst T (sym z) tt)
-    both true p false q z = (λ k. not-kind _ _ q, second (eqb (u .kind) kEof) _ z)
+    both true p false q z = (λ k. not-kind _ _ q, z)
     both false p b q z = (λ k. absurd (not-kind _ _ p k), z)

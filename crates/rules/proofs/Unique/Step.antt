@@ -142,7 +142,7 @@ tokensOk-current script D [] g = absurd g
 tokensOk-current script D (t ∷ []) g = g .1
 tokensOk-current script D (t ∷ (u ∷ ts)) g = g .3
 
--- no Doc of the script stands right before an Import or Eof
+-- no Doc of the script stands right before an Import
 abbrev pub NoDocBeforeImport : List ℕ → Type 0
 NoDocBeforeImport script = noDocBeforeImport (tokensOf (cut script)) ≡ true
 

@@ -25,7 +25,7 @@ use Rattle.rules.proofs.Unique.Step.{Holds, holds, fails, weaken, ifKin
 use Rattle.rules.proofs.Unique.Types.{ReadersOk, parseType-ok}
 use Rattle.rules.proofs.Unique.Exprs.{shapes-fold, parseExpr-ok}
 use Rattle.rules.proofs.Unique.Items.{parsePrefix-ok}
-use Rattle.rules.proofs.Unique.Lexed.{tokens-tokensOk}
+use Rattle.rules.proofs.Unique.Lexed.{tokens-ok}
 use Rattle.lex.specs.declared.tok.Token.{Token}
 use Rattle.rules.specs.declared.NodeId.{NodeId}
 
@@ -174,7 +174,7 @@ module _ (script : List ℕ) where
 
   begin-calm : Invariant script (begin script)
   unfolding begin
-  begin-calm = record { docs = λ D. refl; tokensOk = tokens-tokensOk script (NoDocBeforeImport script) (tokensOf (cut script)) (cut-ended script) (λ D. D); docsWellFormed = tt }
+  begin-calm = record { docs = λ D. refl; tokensOk = tokens-ok script (NoDocBeforeImport script) (tokensOf (cut script)) (cut-ended script) (λ D. D); docsWellFormed = tt }
 
   parseRoots-ok : (power : ℕ → Option Powers) → power kEof ≡ none → Holds Read (parseRoots power script (begin script))
   unfolding parseRoots R.loop fold print
