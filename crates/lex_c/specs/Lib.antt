@@ -1,0 +1,2 @@
+-- What the exported functions write.
+pub mod Cells
