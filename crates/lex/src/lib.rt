@@ -148,7 +148,7 @@ fn doc(rest: &[u8]) -> Piece
             number: 32,
             len: n + 1,
             seen: 0,
-            taken: n + 1,
+            taken: n + 1, // at the line's last byte
         }
     }
 }
@@ -177,7 +177,7 @@ fn string(rest: &[u8]) -> Piece
             number: 32,
             len: n + 1,
             seen: 0,
-            taken: n + 2,
+            taken: n + 2, // after the quote
         }
     }
 }
