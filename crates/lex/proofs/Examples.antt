@@ -3,12 +3,14 @@
 use mathlib.Core.Path.{_≡_, refl}
 use mathlib.Core.List.{List, [], _∷_}
 use Prim.Native.Nat.{ℕ}
+use Rattle.lex.specs.declared.byte_search.Found.the-variants.{At, Nothing}
 use Rattle.lex.specs.declared.tok.Token.{Token}
 use Rattle.lex.specs.declared.tok.Fault.{Fault}
 use Rattle.lex.specs.Bytes.{or, between, isWs, isDigit, isIdentStart, isIdentCont, isNumCont, countWhile, differsFrom, before, findByte}
 use Rattle.lex.specs.Kind.{kBraceLeft, kNotEqual, kDot, kS, kD, kIdent, kDoc, kImport, sameBytes, keywords, nameKind, punctuators, punctuatorKinds, punctuatorKind}
 use Rattle.lex.specs.Utf8.{leastSecond, greatestSecond, afterLead, afterContinuation, nextState, stateAfter, utf8}
 use Rattle.lex.specs.Lex.{beginsComment, skipped, punctuator, punctuation, leadingSpace, docIn, doc, string, doubleIn, numberIn, number, name, symbol, piece, standsAt, stepAt, Cut, eof, cutToken, cutFault, cutFrom, cutAt, cut}
+use Rattle.lex.specs.Spelling.{spellingOffset, spellingStart, spelling}
 
 -- a token, or a fault, and what follows it
 abbrev tok : ℕ → ℕ → ℕ → ℕ → Cut → Cut
@@ -41,3 +43,15 @@ unfolding
     number numberIn doubleIn isNumCont findByte before differsFrom string utf8 stateAfter nextState afterLead leastSecond greatestSecond afterContinuation
     symbol doc docIn leadingSpace punctuation punctuator punctuatorKind punctuators punctuatorKinds
 examples = (refl, refl, refl, refl, refl, refl, refl, refl, refl)
+
+pub spellings :
+    -- `"a"`: behind the quote
+    (spelling (34 ∷ 97 ∷ 34 ∷ []) (record { kind = kS; start = 0; len = 1 }) ≡ At 1)
+    -- `#! d`, and `#!d`: behind `#!` and one blank
+    × (spelling (35 ∷ 33 ∷ 32 ∷ 100 ∷ []) (record { kind = kDoc; start = 0; len = 1 }) ≡ At 3)
+    × (spelling (35 ∷ 33 ∷ 100 ∷ []) (record { kind = kDoc; start = 0; len = 1 }) ≡ At 2)
+    -- a name that would end behind the script has none, nor has a sign
+    × (spelling (97 ∷ []) (record { kind = kIdent; start = 0; len = 2 }) ≡ Nothing)
+    × (spelling (40 ∷ []) (record { kind = kBraceLeft; start = 0; len = 1 }) ≡ Nothing)
+unfolding spelling spellingStart spellingOffset leadingSpace
+spellings = (refl, refl, refl, refl, refl)

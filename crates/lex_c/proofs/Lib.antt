@@ -1,1 +1,2 @@
+-- What the proofs of the exported functions share.
 pub mod Stores
