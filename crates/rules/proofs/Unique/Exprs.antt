@@ -15,7 +15,8 @@ use Rattle.rules.specs.Shape as S
 use Rattle.rules.specs.Shape.{Word, wordOf, Shape, noShape, shape, noField, fieldS, map₁, map₂, map₃, andThen, Decoder, decoded, chain, number, token, resolve, both, nodeAt, nodeShape}
 use Rattle.rules.proofs.Unique.Print.{fixed, print, prints, printFields, inRound}
 use Rattle.rules.proofs.Unique.Grow.{none≢some, envOf, Grows, Le, node-grows, fieldIn-grows}
-use Rattle.rules.proofs.Unique.Step.{Holds, holds, ifKind-ok, table-ok, entry-ok, other-ok, bind-ok, then-ok, pure-ok, cur-ok, fail-ok, flowValue, loop-ok, Invariant, _▷_, consumed-end, advance-ok, expectIdent-ok, sign-ok, sign-took, struck-advance-ok, struck-expect-ok, NodeDone, node-end, fold, fold-print, printAll, ItemDone, listUntil-ok}
+use Rattle.rules.proofs.Results.{holds, ifKind-ok, table-ok, entry-ok, other-ok, bind-ok, then-ok, pure-ok, cur-ok, fail-ok, flowValue, loop-ok}
+use Rattle.rules.proofs.Unique.Step.{Holds, Invariant, _▷_, consumed-end, advance-ok, expectIdent-ok, sign-ok, sign-took, struck-advance-ok, struck-expect-ok, NodeDone, node-end, fold, fold-print, printAll, ItemDone, listUntil-ok}
 use Rattle.rules.proofs.Unique.Types.{ReadersOk}
 use Rattle.lex.specs.declared.tok.Token.{Token}
 use Rattle.rules.specs.declared.NodeId.{NodeId}
@@ -117,7 +118,7 @@ module _ (script : List ℕ) (d : Readers) (deep : ReadersOk script d) where
       (entry-ok _ _ _ _ s (group-ok s c)
       (entry-ok _ _ _ _ s (unary-ok kPlus refl s c)
       (entry-ok _ _ _ _ s (unary-ok kMinus refl s c)
-      (other-ok _ _ s (fail-ok 19 s)))))))))))))
+      (other-ok _ _ s (fail-ok 19 0 s tt)))))))))))))
 
   -- ---- what goes on with the left side read so far, which began at `s₀`
 

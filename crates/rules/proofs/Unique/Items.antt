@@ -18,7 +18,8 @@ use Rattle.rules.specs.Shape as S
 use Rattle.rules.specs.Shape.{Word, wordOf, word, wellFormed, TypeShape, Params, noParam, param, FnShape, Shape, Shapes, noShape, shape, CaseShapes, noCase, caseS, map₁, map₂, map₃, map₄, map₅, andThen, Decoder, decoded, chain, number, token, run, resolve, both, typeAt, typeShape, nodeShape}
 use Rattle.rules.proofs.Unique.Print.{fixed, print, prints, printCases, printT, printParams, printReturn, printFn, printFns, printPaths, inRound, inCurly}
 use Rattle.rules.proofs.Unique.Grow.{envOf, Grows, grows-refl, grows-trans, Le, wordIn-grows, caseIn-grows, fnIn-grows, words-grows, params-grows, shapes-grows}
-use Rattle.rules.proofs.Unique.Step.{Holds, holds, fails, weaken, ifKind-ok, ifKind-else, table-ok, entry-ok, other-ok, rejectKind-ok, bind-ok, then-ok, pure-ok, cur-ok, fail-ok, flowValue, loop-ok, WellFormed, AllWellFormed, wellFormed-snoc, TokensOk, tokensOk-current, NoDocBeforeImport, Invariant, Consumed, _▷_, consumed-as, consumed-end, consumed-refl, consumed-none, TookToken, after, took, advance-ok, expect-ok, expectIdent-ok, sign-ok, sign-took, word-fixed, struck-ok, struck-consumed, NodeDone, type-ok, node-end, All, all[], all∷, all-snoc, fold, fold-print, printAll, printAll-snoc, ItemDone, allocSlice-ok, listUntil-ok, still}
+use Rattle.rules.proofs.Results.{holds, fails, weaken, ifKind-ok, ifKind-else, table-ok, entry-ok, other-ok, rejectKind-ok, requireNoDocs-ok, bind-ok, then-ok, pure-ok, cur-ok, fail-ok, flowValue, loop-ok}
+use Rattle.rules.proofs.Unique.Step.{Holds, WellFormed, AllWellFormed, wellFormed-snoc, TokensOk, tokensOk-current, NoDocBeforeImport, Invariant, Consumed, _▷_, consumed-as, consumed-end, consumed-refl, consumed-none, TookToken, took, advance-ok, expect-ok, expectIdent-ok, sign-ok, sign-took, word-fixed, struck-ok, struck-consumed, NodeDone, type-ok, node-end, All, all[], all∷, all-snoc, fold, fold-print, printAll, printAll-snoc, ItemDone, allocSlice-ok, listUntil-ok, still}
 use Rattle.rules.proofs.Unique.Types.{ReadersOk, printParam, paramRd, paramRd-mono, typedName-ok, params-fold}
 use Rattle.rules.proofs.Unique.Exprs.{shapes-fold, nodeRd, nodeRd-mono, nodeMember-ok}
 use Rattle.lex.specs.declared.tok.Token.{Token}
@@ -199,7 +200,7 @@ module _ (script : List ℕ) where
     unfolding Q.externFn printFn S.fnIn S.wordIn S.w tokenCells runCells both resolve chain decoded number token run andThen map₁
     externFn-ok s c =
         then-ok _ _ s (collectDocs-ok s c) (λ n s₁ dd.
-        then-ok {P = λ z s₂. s₂ ≡ s₁} _ _ s₁ (rejectKind-ok kExtern 17 s₁ refl) (λ z s₁′ same.
+        then-ok {P = λ z s₂. s₂ ≡ s₁} _ _ s₁ (rejectKind-ok kExtern 17 s₁ refl tt) (λ z s₁′ same.
         rw same (bind-ok _ _ s₁ (takeDocs-ok s s₁ (dd .waits)) (λ docs s₂ a.
         then-ok _ _ s₂ (sign-ok script kFn s₂ (a .1 .invariant) refl refl) (λ x s₃ d₃.
         bind-ok _ _ s₃ (expectIdent-ok script s₃ (d₃ .invariant)) (λ name s₄ d₄.
@@ -221,7 +222,7 @@ module _ (script : List ℕ) where
     parseExtern-ok s₀ s dd =
         bind-ok _ _ s (takeDocs-ok s₀ s dd) (λ docs s₁ a.
         bind-ok _ _ s₁ (expect-ok script kExtern s₁ (a .1 .invariant) refl) (λ src s₂ d₂.
-        bind-ok _ _ s₂ (ifKind-ok _ _ _ s₂ (λ e. advance-ok script kS s₂ (d₂ .consumed .invariant) e refl) (fail-ok 16 s₂)) (λ name s₃ d₃.
+        bind-ok _ _ s₂ (ifKind-ok _ _ _ s₂ (λ e. advance-ok script kS s₂ (d₂ .consumed .invariant) e refl) (fail-ok 16 0 s₂ tt)) (λ name s₃ d₃.
         then-ok _ _ s₃ (sign-ok script kCurlyLeft s₃ (d₃ .consumed .invariant) refl refl) (λ x s₄ d₄.
         bind-ok _ _ s₄ (listUntil-ok script fnRd (λ f. printFn (fnOf f)) fnRd-mono [] (λ f. _∷_ (fnOf f)) kCurlyRight _ refl refl externFn-ok s₄ (d₂ .consumed ▷ d₃ .consumed ▷ d₄)) (λ fns s₅ q.
         node-end script s₅ 0 _ (S.externS (w src) (map w (s .docs)) (w name) (fold [] (λ f. _∷_ (fnOf f)) (q .values))) (a .1 ▷ q .consumed)
@@ -237,7 +238,7 @@ module _ (script : List ℕ) where
 
     importPath-ok : (s : State) → Invariant script s → Holds (PathDone s) (Q.importPath s)
     unfolding Q.importPath
-    importPath-ok s c = ifKind-ok _ _ _ s (λ e. bind-ok _ _ s (advance-ok script kS s c e refl) (λ t s₁ q. pure-ok _ s₁ (record { path = t; cells = refl; took = q }))) (fail-ok 15 s)
+    importPath-ok s c = ifKind-ok _ _ _ s (λ e. bind-ok _ _ s (advance-ok script kS s c e refl) (λ t s₁ q. pure-ok _ s₁ (record { path = t; cells = refl; took = q }))) (fail-ok 15 0 s tt)
 
     -- paths, and the tokens that they are, each taken and kept
     record PathsDone (s : State) (ps : List (List ℕ)) (s′ : State) : Type 0 where
@@ -333,7 +334,7 @@ module _ (script : List ℕ) where
       where
         go : (r : Result (List (List ℕ))) → Holds (BracketsDone s) r → Holds (PathsLeft s) (elim r as (λ r′. Result (List (List ℕ))) [ ok ps t ↦ elim (eqb (length ps) 1) as (λ x. Result (List (List ℕ))) [ true ↦ ok ps (oneStruck s t) | false ↦ ok ps t ] | err e t ↦ err e t ])
         go r (holds {a = ps} {s = t} b) = about-ok s t ps (b .tokens) (b .lb) (b .rb) (b .ws) (b .consumed) (b .cells) (b .words) (b .exact) (b .docsWellFormed)
-        go r fails = fails
+        go r (fails q) = fails q
 
     pub parseImport-ok : (s : State) → Invariant script s → current (s .left) .kind ≡ kImport → Holds (NodeDone script s) (Q.parseImport s)
     unfolding Q.parseImport nodeShape S.w print map₁ map₂ printPaths
@@ -458,7 +459,7 @@ module _ (script : List ℕ) where
     unfolding nodeShape S.w S.cases print inCurly map₁ map₂ map₃
     match-rest s s₂ u t cs none s₃ q =
         then-ok _ _ s₃ (sign-ok script kCurlyRight s₃ (q .default .invariant) refl refl) (λ x s₄ d₄.
-        bind-ok _ _ s₄ (allocSlice-ok script caseRd printCase caseRd-mono noCase (λ c. caseS (c .0 .1) (c .1)) s₄ cs (q .values) (q .default ▷ d₄) (stillCases (d₄ .grows) (q .are))) (λ r s₅ z. fails))
+        bind-ok _ _ s₄ (allocSlice-ok script caseRd printCase caseRd-mono noCase (λ c. caseS (c .0 .1) (c .1)) s₄ cs (q .values) (q .default ▷ d₄) (stillCases (d₄ .grows) (q .are))) (λ r s₅ z. fails tt))
     match-rest s s₂ u t cs (some x) s₃ q =
         then-ok _ _ s₃ (sign-ok script kCurlyRight s₃ (q .default .2 .invariant) refl refl) (λ y s₄ d₄.
         bind-ok _ _ s₄ (allocSlice-ok script caseRd printCase caseRd-mono noCase (λ c. caseS (c .0 .1) (c .1)) s₄ cs (q .values) (consumed-refl script s₄ (d₄ .invariant)) (stillCases (d₄ .grows) (q .are))) (λ r s₅ z.
@@ -476,14 +477,6 @@ module _ (script : List ℕ) where
 
     -- ---- any item
 
-    by-docs : {A : Type 0} {P : A → State → Type 0} (r : Result A) (f : Token → List Token → Result A) (l : List Token) → (l ≡ [] → Holds P r) → ((t : Token) (ts : List Token) → Holds P (f t ts)) → Holds P (elim l as (λ l′. Result A) [ [] ↦ r | t ∷ ts ↦ f t ts ])
-    by-docs r f [] h k = h refl
-    by-docs r f (t ∷ ts) h k = k t ts
-
-    requireNoDocs-ok : {A : Type 0} {P : A → State → Type 0} (x : Rule A) (s : State) → (s .docs ≡ [] → Holds P (x s)) → Holds P (Q.requireNoDocs x s)
-    unfolding Q.requireNoDocs
-    requireNoDocs-ok x s h = by-docs _ _ (s .docs) h (λ t ts. ifKind-ok _ _ _ s (λ e. fails) fails)
-
     pub parsePrefix-ok : (s : State) → Invariant script s → Holds (NodeDone script s) (Q.parsePrefix d s)
     unfolding Q.parsePrefix withDocs
     parsePrefix-ok s k =
@@ -493,7 +486,7 @@ module _ (script : List ℕ) where
         (entry-ok _ _ _ _ s₁ (λ e. parseLet-ok s s₁ (q .waits))
         (entry-ok _ _ _ _ s₁ (λ e. parseFn-ok s s₁ (q .waits) e)
         (entry-ok _ _ _ _ s₁ (λ e. parseExtern-ok s s₁ (q .waits))
-        (other-ok _ _ s₁ (rejectKind-ok′ s₁ q)))))))
+        (other-ok _ _ s₁ (requireNoDocs-ok _ s₁ (λ e. free s₁ (idle s₁ (q .waits) e)) (λ e. tt))))))))
       where
         -- no docs wait: nothing is done yet
         idle : (s₁ : State) → Waits s s₁ → s₁ .docs ≡ [] → Consumed script s s₁ []
@@ -521,6 +514,3 @@ module _ (script : List ℕ) where
 
         free : (s₁ : State) → Consumed script s s₁ [] → Holds (NodeDone script s) (R.ifKind kMatch (Q.parseMatch d) (d .expr 0) s₁)
         free s₁ a = ifKind-ok _ _ _ s₁ (λ e. weaken (parseMatch-ok s₁ (a .invariant) e) (joined a)) (weaken (deep .expr 0 s₁ (a .invariant)) (joined a))
-
-        rejectKind-ok′ : (s₁ : State) {n : ℕ} → DocsDone s n s₁ → Holds (NodeDone script s) (Q.requireNoDocs (R.ifKind kMatch (Q.parseMatch d) (d .expr 0)) s₁)
-        rejectKind-ok′ s₁ q = requireNoDocs-ok _ s₁ (λ e. free s₁ (idle s₁ (q .waits) e))

@@ -1,10 +1,9 @@
 -- A script's tokens are as unique reading needs them: Eof last and nowhere else, each well formed, no Doc before an import.
-use mathlib.Core.Path.{_≡_, refl, sym, ap, _∙_, subst}
+use mathlib.Core.Path.{_≡_, refl, sym, subst}
 use mathlib.Core.Bool.{Bool, true, false}
-use mathlib.Core.Option.{Option, none, some}
 use mathlib.Core.List.{List, [], _∷_}
 use Prim.Native.Nat.{ℕ}
-use lib.Dec.{eqb, eqb-refl, T}
+use lib.Dec.{eqb, T}
 use borrow.Author.Tests.{le-leb}
 use Rattle.lex.specs.Bytes.{between}
 use Rattle.lex.specs.Kind.{kImport, kDoc}
@@ -12,11 +11,9 @@ use Rattle.lex.specs.Spelling.{hasSpelling, spellingStart}
 use Rattle.lex.specs.declared.tok.Token.{Token}
 use Rattle.lex.proofs.Spellings.{Spelled, spelling-found, Ended}
 use Rattle.rules.specs.Strike.{noDocBeforeImport}
-use Rattle.rules.specs.Shape.{Word, wordOf, word, wellFormed}
+use Rattle.rules.specs.Shape.{word, wellFormed}
+use Rattle.rules.proofs.Results.{not-kind}
 use Rattle.rules.proofs.Unique.Step.{WellFormed, TokensOk}
-
-not-kind : (j k : ℕ) → eqb j k ≡ false → ¬ (j ≡ k)
-not-kind j k e p = subst T (sym (ap (λ (x : ℕ). eqb x k) p) ∙ e) (eqb-refl k)
 
 both-tests : (a b c : Bool) → a ≡ true → (b ≡ true → c ≡ true) → elim a as (λ a′. Bool) [ true ↦ elim b as (λ b′. Bool) [ true ↦ c | false ↦ true ] | false ↦ false ] ≡ true
 both-tests true true c h k = k refl

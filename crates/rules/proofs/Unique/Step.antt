@@ -4,17 +4,17 @@ use mathlib.Core.Bool.{Bool, true, false}
 use mathlib.Core.Option.{none, some}
 use mathlib.Core.List.{List, [], _∷_, _++_, map, flatten, append-assoc, append-nil, map-append}
 use Prim.Native.Nat.{ℕ, zero, suc, _+_, _-_}
-use lib.Dec.{eqb, eqb→eq, T}
+use lib.Dec.{eqb, T}
 use lib.ListN.{length, length-append, length-map, replicate, length-replicate}
 use native.Mathlib.Omega.{arith}
 use Rattle.lex.specs.Kind.{kEof, kImport, kDoc, kIdent, kVoid}
 use Rattle.lex.specs.Lex.{cut, tokensOf}
-use Rattle.lex.specs.declared.diagnostic.Diagnostic.{Diagnostic}
 use Rattle.lex.specs.Spelling.{hasSpelling, spellingStart}
 use Rattle.rules.specs.Tree.{Arena, Notes, State, Result, ok, err}
-use Rattle.rules.specs.Combinators.{Rule, _>>=_, _>>_, pure, current, rest, cur, advance, struck, byKind, ifKind, choose, failExpecting, fail, rejectKind, expect, expectIdent, withArena, pushNodeAnd, pushType, allocSlice, ControlFlow, continue, break, iterate, loop, members, listUntil}
-use Rattle.rules.specs.Shape.{Word, wordOf, word, wellFormed, TypeShape, Shape, map₁, andThen, Decoder, decoded, chain, items, listAt, typeAt, nodeAt, typeShape, nodeShape}
+use Rattle.rules.specs.Combinators.{Rule, current, rest, advance, struck, expect, expectIdent, withArena, pushNodeAnd, pushType, allocSlice, members, listUntil}
+use Rattle.rules.specs.Shape.{Word, wordOf, word, TypeShape, Shape, map₁, andThen, Decoder, decoded, chain, items, listAt, typeAt, nodeAt, typeShape, nodeShape}
 use Rattle.rules.specs.Strike.{keep, noDocBeforeImport}
+use Rattle.rules.proofs.Results.{Ends, holds, fails, weaken, ifKind-ok, bind-ok, then-ok, pure-ok, fail-ok, loop-ok}
 use Rattle.rules.proofs.Unique.Print.{fixed, printT, printReturn, print}
 use Rattle.rules.proofs.Unique.Grow.{Le, env, envOf, Grows, extend, grows-refl, grows-trans, arena-type, arena-node, from-end}
 use Rattle.lex.specs.declared.tok.Token.{Token}
@@ -26,95 +26,9 @@ use Rattle.rules.specs.declared.TypeExpr.{TypeExpr}
 
 -- ---- results
 
-pub data Holds {A : Type 0} (P : A → State → Type 0) : Result A → Type 0 where
-  holds : {a : A} {s : State} → P a s → Holds P (ok a s)
-  fails : {e : Diagnostic} {s : State} → Holds P (err e s)
-
-module _ {A : Type 0} where
-  pub weaken : {P Q : A → State → Type 0} {r : Result A} → Holds P r → ((a : A) (s : State) → P a s → Q a s) → Holds Q r
-  weaken (holds {a} {s} p) h = holds (h a s p)
-  weaken fails h = fails
-
-  pub ifKind-else : {P : A → State → Type 0} (k : ℕ) (x y : Rule A) (s : State) → (current (s .left) .kind ≡ k → Holds P (x s)) → (eqb (current (s .left) .kind) k ≡ false → Holds P (y s)) → Holds P (ifKind k x y s)
-  unfolding ifKind byKind
-  ifKind-else {P} k x y s f g = go (eqb (current (s .left) .kind) k) refl
-    where
-      go : (b : Bool) → eqb (current (s .left) .kind) k ≡ b → Holds P ((elim b as (λ b′. Rule A) [ true ↦ x | false ↦ y ]) s)
-      go true e = f (eqb→eq _ _ (rw e tt))
-      go false e = g e
-
-  pub ifKind-ok : {P : A → State → Type 0} (k : ℕ) (x y : Rule A) (s : State) → (current (s .left) .kind ≡ k → Holds P (x s)) → Holds P (y s) → Holds P (ifKind k x y s)
-  ifKind-ok k x y s f g = ifKind-else k x y s f (λ e. g)
-
-  -- a table by kinds, one entry after the other
-  pub table-ok : {P : A → State → Type 0} (xs : List (ℕ × Rule A)) (other : Rule A) (s : State) → Holds P (choose xs other (current (s .left) .kind) s) → Holds P (byKind (choose xs other) s)
-  unfolding byKind
-  table-ok xs other s h = h
-
-  pub entry-ok : {P : A → State → Type 0} (k : ℕ) (x : Rule A) (xs : List (ℕ × Rule A)) (other : Rule A) (s : State) → (current (s .left) .kind ≡ k → Holds P (x s)) → Holds P (choose xs other (current (s .left) .kind) s)
-      → Holds P (choose ((k, x) ∷ xs) other (current (s .left) .kind) s)
-  unfolding choose
-  entry-ok {P} k x xs other s f g = go (eqb (current (s .left) .kind) k) refl
-    where
-      go : (b : Bool) → eqb (current (s .left) .kind) k ≡ b → Holds P ((elim b as (λ b′. Rule A) [ true ↦ x | false ↦ choose xs other (current (s .left) .kind) ]) s)
-      go true e = f (eqb→eq _ _ (rw e tt))
-      go false e = g
-
-  pub other-ok : {P : A → State → Type 0} (other : Rule A) (k : ℕ) (s : State) → Holds P (other s) → Holds P (choose [] other k s)
-  unfolding choose
-  other-ok other k s h = h
-
-module _ {A B : Type 0} where
-  pub bind-ok : {P : A → State → Type 0} {Q : B → State → Type 0} (x : Rule A) (f : A → Rule B) (s : State) → Holds P (x s) → ((a : A) (s′ : State) → P a s′ → Holds Q (f a s′)) → Holds Q ((x >>= f) s)
-  unfolding _>>=_
-  bind-ok {P} {Q} x f s h k = go (x s) h
-    where
-      go : (r : Result A) → Holds P r → Holds Q (elim r as (λ r′. Result B) [ ok a s₁ ↦ f a s₁ | err e s₁ ↦ err e s₁ ])
-      go r (holds {a} {s = s₁} p) = k a s₁ p
-      go r fails = fails
-
-  pub then-ok : {P : A → State → Type 0} {Q : B → State → Type 0} (x : Rule A) (y : Rule B) (s : State) → Holds P (x s) → ((a : A) (s′ : State) → P a s′ → Holds Q (y s′)) → Holds Q ((x >> y) s)
-  unfolding _>>_
-  then-ok {P} {Q} x y s h k = go (x s) h
-    where
-      go : (r : Result A) → Holds P r → Holds Q (elim r as (λ r′. Result B) [ ok a s₁ ↦ y s₁ | err e s₁ ↦ err e s₁ ])
-      go r (holds {a} {s = s₁} p) = k a s₁ p
-      go r fails = fails
-
-pub pure-ok : {A : Type 0} {P : A → State → Type 0} (a : A) (s : State) → P a s → Holds P (pure a s)
-unfolding pure
-pure-ok a s p = holds p
-
-pub cur-ok : {B : Type 0} {Q : B → State → Type 0} (f : Token → Rule B) (s : State) → Holds Q (f (current (s .left)) s) → Holds Q ((cur >>= f) s)
-unfolding _>>=_ cur
-cur-ok f s h = h
-
-pub fail-ok : {A : Type 0} {P : A → State → Type 0} (n : ℕ) (s : State) → Holds P (fail {A = A} n s)
-unfolding failExpecting
-fail-ok n s = fails
-
-pub rejectKind-ok : {P : ℕ → State → Type 0} (k n : ℕ) (s : State) → P 0 s → Holds P (rejectKind k n s)
-unfolding rejectKind
-rejectKind-ok k n s h = ifKind-ok k _ _ s (λ e. fail-ok n s) (pure-ok 0 s h)
-
-module _ {A : Type 0} where
-  abbrev pub flowValue : ControlFlow A → A
-  flowValue (continue a) = a
-  flowValue (break a) = a
-
-  pub iterate-ok : (Inv : A → State → Type 0) (f : A → Rule (ControlFlow A)) → ((a : A) (s : State) → Inv a s → Holds (λ t s′. Inv (flowValue t) s′) (f a s)) → (n : ℕ) (a : A) (s : State) → Inv a s → Holds Inv (iterate n f a s)
-  unfolding iterate
-  iterate-ok Inv f h zero a s i = holds i
-  iterate-ok Inv f h (suc n) a s i = go (iterate-ok Inv f h n) (f a s) (h a s i)
-    where
-      go : ((b : A) (s₁ : State) → Inv b s₁ → Holds Inv (iterate n f b s₁)) → (r : Result (ControlFlow A)) → Holds (λ t s′. Inv (flowValue t) s′) r → Holds Inv (elim r as (λ r′. Result A) [ ok t s₁ ↦ elim t as (λ t′. Result A) [ continue b ↦ iterate n f b s₁ | break b ↦ ok b s₁ ] | err e s₁ ↦ err e s₁ ])
-      go ih r (holds {a = continue b} {s = s₁} p) = ih b s₁ p
-      go ih r (holds {a = break b} p) = holds p
-      go ih r fails = fails
-
-  pub loop-ok : (Inv : A → State → Type 0) (f : A → Rule (ControlFlow A)) → ((a : A) (s : State) → Inv a s → Holds (λ t s′. Inv (flowValue t) s′) (f a s)) → (a : A) (s : State) → Inv a s → Holds Inv (loop f a s)
-  unfolding loop
-  loop-ok Inv f h a s i = iterate-ok Inv f h (length (s .left)) a s i
+-- what unique reading asks of a result: nothing where a rule fails
+abbrev pub Holds : {A : Type 0} → (A → State → Type 0) → Result A → Type 0
+Holds P r = Ends P (λ s. Unit {0}) r
 
 -- ---- tokens
 
@@ -297,12 +211,12 @@ module _ (script : List ℕ) where
   advance-ok k s c e n = holds (took k s c e n (s .left) refl)
 
   pub expect-ok : (k : ℕ) (s : State) → Invariant script s → eqb k kEof ≡ false → Holds (TookToken k s) (expect k s)
-  unfolding expect failExpecting
-  expect-ok k s c n = ifKind-ok k _ _ s (λ e. advance-ok k s c e n) fails
+  unfolding expect
+  expect-ok k s c n = ifKind-ok k _ _ s (λ e. advance-ok k s c e n) (fail-ok 11 k s tt)
 
   pub expectIdent-ok : (s : State) → Invariant script s → Holds (TookToken kIdent s) (expectIdent s)
   unfolding expectIdent
-  expectIdent-ok s c = ifKind-ok kIdent _ _ s (λ e. advance-ok kIdent s c e refl) (fail-ok 12 s)
+  expectIdent-ok s c = ifKind-ok kIdent _ _ s (λ e. advance-ok kIdent s c e refl) (fail-ok 12 0 s tt)
 
   pub word-fixed : (k : ℕ) (t : Token) → t .kind ≡ k → hasSpelling k ≡ false → wordOf script t ≡ fixed k
   unfolding wordOf fixed
@@ -344,7 +258,7 @@ module _ (script : List ℕ) where
     where
       go : (r : Result A) → Holds P r → Holds Q (elim r as (λ r′. Result A) [ ok a t ↦ ok a (struckState s t) | err e t ↦ err e t ])
       go r (holds {a} {s = t} p) = holds (k a t p)
-      go r fails = fails
+      go r (fails q) = fails q
 
   pub struck-advance-ok : (k : ℕ) (s : State) → Invariant script s → current (s .left) .kind ≡ k → eqb k kEof ≡ false → Holds (λ t s′. Consumed script s s′ []) (struck advance s)
   struck-advance-ok k s c e n = struck-ok advance s (advance-ok k s c e n) (λ t s₁ q. struck-consumed (q .consumed))

@@ -15,7 +15,8 @@ use Rattle.rules.specs.Shape as S
 use Rattle.rules.specs.Shape.{Word, wordOf, TypeShape, atomT, foreignT, optionT, arrayT, recordT, noParam, param, map₁, map₂, andThen, Decoder, decoded, chain, number, token, resolve, both, typeShape}
 use Rattle.rules.proofs.Unique.Print.{fixed, printT, printParams, printReturn}
 use Rattle.rules.proofs.Unique.Grow.{envOf, Grows, Le, paramIn-grows}
-use Rattle.rules.proofs.Unique.Step.{Holds, table-ok, entry-ok, other-ok, bind-ok, then-ok, pure-ok, fail-ok, rejectKind-ok, Invariant, Consumed, _▷_, advance-ok, expectIdent-ok, sign-ok, sign-took, NodeDone, TypeDone, type-end, fold, fold-print, printAll, ItemDone, listUntil-ok}
+use Rattle.rules.proofs.Results.{table-ok, entry-ok, other-ok, bind-ok, then-ok, pure-ok, fail-ok, rejectKind-ok}
+use Rattle.rules.proofs.Unique.Step.{Holds, Invariant, Consumed, _▷_, advance-ok, expectIdent-ok, sign-ok, sign-took, NodeDone, TypeDone, type-end, fold, fold-print, printAll, ItemDone, listUntil-ok}
 use Rattle.lex.specs.declared.tok.Token.{Token}
 use Rattle.rules.specs.declared.TypeExprId.{TypeExprId}
 use Rattle.rules.specs.declared.TypeExpr.{TypeExpr}
@@ -49,7 +50,7 @@ module _ (script : List ℕ) where
   openAngle-ok k n ne ns s c e =
       then-ok _ _ s (sign-took script k s c e ne ns) (λ t s₁ d₁.
       then-ok _ _ s₁ (sign-ok script kLessThan s₁ (d₁ .invariant) refl refl) (λ t₂ s₂ d₂.
-      rejectKind-ok kGreaterThan n s₂ (d₁ ▷ d₂)))
+      rejectKind-ok kGreaterThan n s₂ (d₁ ▷ d₂) tt))
 
   atomType-ok : (k : ℕ) → eqb k kEof ≡ false → (s : State) → Invariant script s → current (s .left) .kind ≡ k → Holds (TypeDone script s) (Q.atomType s)
   unfolding Q.atomType typeShape S.w printT wordOf printReturn map₁
@@ -112,4 +113,4 @@ module _ (script : List ℕ) (d : Readers) (deep : ReadersOk script d) where
       (entry-ok _ _ _ _ s (within-ok kOption 21 T.Option optionT refl refl refl (λ x t. refl) (λ σ. refl) (λ σ. refl) s c)
       (entry-ok _ _ _ _ s (within-ok kArray 22 T.Array arrayT refl refl refl (λ x t. refl) (λ σ. refl) (λ σ. refl) s c)
       (entry-ok _ _ _ _ s (recordType-ok s c)
-      (other-ok _ _ s (fail-ok 23 s)))))))))))
+      (other-ok _ _ s (fail-ok 23 0 s tt)))))))))))

@@ -3,25 +3,25 @@ use mathlib.Core.Path.{_≡_, refl, sym, ap, ap₂, _∙_}
 use mathlib.Core.Bool.{Bool}
 use mathlib.Core.Option.{Option, none, some}
 use mathlib.Core.List.{List, [], _∷_, _++_, map, append-nil, map-append}
-use Prim.Native.Nat.{ℕ, zero, suc, _+_, _≤_, _<_}
+use Prim.Native.Nat.{ℕ, zero, suc, _+_}
 use lib.ListN.{length, length-append, length-map}
 use native.Mathlib.Omega.{arith}
 use Rattle.lex.specs.Kind.{kEof}
-use Rattle.lex.specs.declared.diagnostic.Diagnostic.{Diagnostic}
 use Rattle.lex.specs.Lex.{cut, tokensOf}
 use Rattle.lex.proofs.Spellings.{cut-ended}
 use Rattle.rules.specs.Tree.{Notes, State, Result, ok, err, Tree}
 use Rattle.rules.specs.Combinators as R
-use Rattle.rules.specs.Combinators.{Rule, current, ControlFlow, continue, break}
+use Rattle.rules.specs.Combinators.{current}
 use Rattle.rules.specs.Rules as Q
 use Rattle.rules.specs.Rules.{Powers, readers, stageOne}
 use Rattle.rules.specs.Parse.{Reading, read, ended, begin, parse, parseRoots}
-use Rattle.rules.specs.Shape as S
 use Rattle.rules.specs.Shape.{Word, wordOf, Shape, Shapes, noShape, shape, map₁, map₂, nodeAt, shapesOf, shapeOf}
 use Rattle.rules.specs.Strike.{keep, notesOf, strike, Plain, UniqueReading}
-use Rattle.rules.proofs.Unique.Print.{fixed, print, prints, inRound}
+use Rattle.rules.proofs.Unique.Print.{fixed, print, prints}
 use Rattle.rules.proofs.Unique.Grow.{_⊑_}
-use Rattle.rules.proofs.Unique.Step.{Holds, holds, fails, weaken, ifKind-ok, bind-ok, pure-ok, fail-ok, TokensOk, NoDocBeforeImport, Invariant, Consumed, _▷_, consumed-as, consumed-refl, keep-append, word-fixed, fold, printAll-snoc, NodeDone}
+use Rattle.rules.proofs.Results.{holds, fails, weaken-both, both, ifKind-ok, bind-ok, pure-ok, fail-ok, loop-ok}
+use Rattle.rules.proofs.Counting.Whole.{read-tree, ended≢read, parseRoots-ends}
+use Rattle.rules.proofs.Unique.Step.{Holds, TokensOk, NoDocBeforeImport, Invariant, Consumed, _▷_, consumed-as, consumed-refl, keep-append, word-fixed, fold, printAll-snoc, NodeDone}
 use Rattle.rules.proofs.Unique.Types.{ReadersOk, parseType-ok}
 use Rattle.rules.proofs.Unique.Exprs.{shapes-fold, parseExpr-ok}
 use Rattle.rules.proofs.Unique.Items.{parsePrefix-ok}
@@ -33,7 +33,7 @@ use Rattle.rules.specs.declared.NodeId.{NodeId}
 
 pub readers-ok : (power : ℕ → Option Powers) → power kEof ≡ none → (script : List ℕ) (l : ℕ) → ReadersOk script (readers power script l)
 unfolding readers
-readers-ok power eof script zero = record { prefix = λ s c. fail-ok 10 s; expr = λ least s c. fail-ok 10 s; type = λ s c. fail-ok 10 s }
+readers-ok power eof script zero = record { prefix = λ s c. fail-ok 10 0 s tt; expr = λ least s c. fail-ok 10 0 s tt; type = λ s c. fail-ok 10 0 s tt }
 readers-ok power eof script (suc l) =
     let deep : ReadersOk script (readers power script l) = readers-ok power eof script l in
     record { prefix = parsePrefix-ok script _ deep; expr = parseExpr-ok script _ deep power eof; type = parseType-ok script _ deep }
@@ -58,60 +58,11 @@ unfolding shapesOf fold map₁ map₂
 are-each are[] = refl
 are-each (are∷ p l) = rw (p, are-each l)
 
-cons≢nil : {P : Type 0} (w : Word) (ws : List Word) → w ∷ ws ≡ [] → P
-cons≢nil w ws e = let z : _≡_ {A = ℕ} 0 1 = cc in absurd (omega arith)
-
-mid≢nil : {P : Type 0} (u : List Word) (w : Word) (v : List Word) → u ++ (w ∷ v) ≡ [] → P
-mid≢nil [] w v e = cons≢nil w v e
-mid≢nil (x ∷ u) w v e = cons≢nil x (u ++ (w ∷ v)) e
-
--- every node has a word
-print≢nil : (σ : Shape) → print σ ≡ [] → ⊥
-unfolding print inRound
-print≢nil (S.atom w) e = cons≢nil _ _ e
-print≢nil (S.ident w) e = cons≢nil _ _ e
-print≢nil (S.bin op l r) e = mid≢nil (print l) _ _ e
-print≢nil (S.unary op r) e = cons≢nil _ _ e
-print≢nil (S.letS docs name r) e = mid≢nil docs _ _ e
-print≢nil (S.fnS docs name args ret body) e = mid≢nil docs _ _ e
-print≢nil (S.matchS cs t b) e = cons≢nil _ _ e
-print≢nil (S.call t args) e = mid≢nil (print t) _ _ e
-print≢nil (S.field t name) e = mid≢nil (print t) _ _ e
-print≢nil (S.cast src l t) e = mid≢nil (print l) _ _ e
-print≢nil (S.importS src pkgs) e = cons≢nil _ _ e
-print≢nil (S.externS src docs name fns) e = mid≢nil docs _ _ e
-print≢nil (S.recordS src fs) e = cons≢nil _ _ e
-print≢nil (S.array src ms) e = cons≢nil _ _ e
-
--- so a node takes a token
-shorter : (script : List ℕ) (s s′ : State) (n : NodeId) (q : NodeDone script s n s′) → s′ .notes .afterDefault ≡ 0 → NoDocBeforeImport script → length (s′ .left) < length (s .left)
-unfolding keep
-shorter script s s′ n q z D = go (q .consumed .taken) (q .consumed .given) (q .consumed .even) (q .consumed .left) (q .consumed .kept z D .1)
-  where
-    go : (ts : List Token) (bs : List Bool) → length bs ≡ length ts → s .left ≡ ts ++ s′ .left → keep bs (map (wordOf script) ts) ≡ print (q .shape) → length (s′ .left) < length (s .left)
-    go [] [] e l k = absurd (print≢nil (q .shape) (sym k))
-    go [] (b ∷ bs) e l k = absurd (omega arith)
-    go (t ∷ ts) bs e l k = omega (arith, ap length l, length-append ts (s′ .left))
-
 module _ (script : List ℕ) (s₀ : State) where
   record RootsDone (roots : List ℕ) (s : State) : Type 0 where
     pub values : List Shape
     pub are : Are (nodeAt script (s .arena)) roots values
     pub consumed : Consumed script s₀ s (prints (fold noShape shape values))
-
-  -- what the turns from `s` on do; where they are enough, they go to the end
-  record Tail (n : ℕ) (s s′ : State) : Type 0 where
-    pub ws : List Word
-    pub consumed : Consumed script s s′ ws
-    pub ends : s′ .notes .afterDefault ≡ 0 → NoDocBeforeImport script → length (s .left) ≤ n → current (s′ .left) .kind ≡ kEof
-
-  data StepDone (s : State) : ControlFlow (List ℕ) → State → Type 0 where
-    stepped : {b : List ℕ} {s₁ : State} (n : NodeId) → RootsDone b s₁ → NodeDone script s n s₁ → StepDone s (continue b) s₁
-    stopped : {b : List ℕ} → RootsDone b s → current (s .left) .kind ≡ kEof → StepDone s (break b) s
-
-  not-empty : (D : Type 0) (l : List Token) → TokensOk script D l → length l ≤ 0 → ⊥
-  not-empty D [] g h = g
-  not-empty D (t ∷ l) g h = omega arith
 
   roots-snoc : {roots : List ℕ} {s s′ : State} {n : NodeId} → RootsDone roots s → NodeDone script s n s′ → RootsDone (roots ++ (n .0 ∷ [])) s′
   roots-snoc r q = record {
@@ -119,35 +70,6 @@ module _ (script : List ℕ) (s₀ : State) where
     are = are-snoc _ _ (are-mono (q .consumed .grows .nodes) (r .are)) (q .is);
     consumed = consumed-as (ap (λ (x : List Word). x ++ print (q .shape)) (shapes-fold (r .values)) ∙ sym (printAll-snoc print (r .values) (q .shape)) ∙ sym (shapes-fold (r .values ++ (q .shape ∷ [])))) (r .consumed ▷ q .consumed);
   }
-
-  again-end : (n : ℕ) (s s₁ : State) (m : NodeId) → NodeDone script s m s₁ → (roots′ : List ℕ) (s′ : State) → RootsDone roots′ s′ × Tail n s₁ s′ → RootsDone roots′ s′ × Tail (suc n) s s′
-  again-end n s s₁ m q roots′ s′ z = (
-    z .0,
-    record {
-      ws = _;
-      consumed = q .consumed ▷ z .1 .consumed;
-      ends = λ l D h. z .1 .ends l D (let k : length (s₁ .left) < length (s .left) = shorter script s s₁ m q (z .1 .consumed .kept l D .0) D in omega arith);
-    },
-  )
-
-  module _ (power : ℕ → Option Powers) (eof : power kEof ≡ none) where
-    abbrev Step : List ℕ → Rule (ControlFlow (List ℕ))
-    Step roots = R.ifKind kEof (R.pure (break roots)) (R._>>=_ (readers power script Q.maxLevels .prefix) (λ n. R.pure (continue (roots ++ (n .0 ∷ [])))))
-
-    step-ok : (roots : List ℕ) (s : State) → RootsDone roots s → Holds (StepDone s) (Step roots s)
-    step-ok roots s r = ifKind-ok _ _ _ s (λ e. pure-ok _ s (stopped r e))
-        (bind-ok _ _ s (readers-ok power eof script Q.maxLevels .prefix s (r .consumed .invariant)) (λ n s₁ q. pure-ok _ s₁ (stepped n (roots-snoc r q) q)))
-
-    iterate-end : (n : ℕ) (roots : List ℕ) (s : State) → RootsDone roots s → Holds (λ roots′ s′. RootsDone roots′ s′ × Tail n s s′) (R.iterate n Step roots s)
-    unfolding R.iterate
-    iterate-end zero roots s r = holds (r, record { ws = []; consumed = consumed-refl script s (r .consumed .invariant); ends = λ z D h. absurd (not-empty (NoDocBeforeImport script) (s .left) (r .consumed .invariant .tokensOk) h) })
-    iterate-end (suc n) roots s r = go (iterate-end n) (Step roots s) (step-ok roots s r)
-      where
-        go : ((b : List ℕ) (s₁ : State) → RootsDone b s₁ → Holds (λ roots′ s′. RootsDone roots′ s′ × Tail n s₁ s′) (R.iterate n Step b s₁)) → (x : Result (ControlFlow (List ℕ))) → Holds (StepDone s) x
-            → Holds (λ roots′ s′. RootsDone roots′ s′ × Tail (suc n) s s′) (elim x as (λ r′. Result (List ℕ)) [ ok t s₁ ↦ elim t as (λ t′. Result (List ℕ)) [ continue b ↦ R.iterate n Step b s₁ | break b ↦ ok b s₁ ] | err e s₁ ↦ err e s₁ ])
-        go ih x (holds {a = continue b} {s = s₁} (stepped m rd q)) = weaken (ih b s₁ rd) (again-end n s s₁ m q)
-        go ih x (holds {a = break b} (stopped rd e)) = holds (rd, record { ws = []; consumed = consumed-refl script s (rd .consumed .invariant); ends = λ z D h. e })
-        go ih x fails = fails
 
 -- ---- the whole
 
@@ -161,26 +83,25 @@ tokensOk-last script D [] g e = absurd g
 tokensOk-last script D (t ∷ []) g e = (t, refl, e)
 tokensOk-last script D (t ∷ (u ∷ ts)) g e = absurd (g .0 e)
 
-read-inj : (t u : Tree) → read t [] ≡ read u [] → t ≡ u
-read-inj t u e = cc
-
-ended≢read : {P : Type 0} (e : Diagnostic) (t : Tree) → ended e ≡ read t [] → P
-ended≢read e t p = let z : _≡_ {A = ℕ} 0 1 = cc in absurd (omega arith)
-
 module _ (script : List ℕ) where
   record Read (roots : List ℕ) (s : State) : Type 0 where
     pub roots-done : RootsDone script (begin script) roots s
-    pub ends : s .notes .afterDefault ≡ 0 → NoDocBeforeImport script → current (s .left) .kind ≡ kEof
+    pub ends : current (s .left) .kind ≡ kEof
 
   begin-calm : Invariant script (begin script)
   unfolding begin
   begin-calm = record { docs = λ D. refl; tokensOk = tokens-ok script (NoDocBeforeImport script) (tokensOf (cut script)) (cut-ended script) (λ D. D); docsWellFormed = tt }
 
-  parseRoots-ok : (power : ℕ → Option Powers) → power kEof ≡ none → Holds Read (parseRoots power script (begin script))
-  unfolding parseRoots R.loop fold print
-  parseRoots-ok power eof =
-      weaken (iterate-end script (begin script) power eof (length (begin script .left)) [] (begin script) (record { values = []; are = are[]; consumed = consumed-refl script (begin script) begin-calm }))
-      (λ roots s z. record { roots-done = z .0; ends = λ l D. z .1 .ends l D (omega arith) })
+  module _ (power : ℕ → Option Powers) (eof : power kEof ≡ none) where
+    roots-ok : Holds (RootsDone script (begin script)) (parseRoots power script (begin script))
+    unfolding parseRoots fold print
+    roots-ok = loop-ok (RootsDone script (begin script)) _
+        (λ roots s r. ifKind-ok _ _ _ s (λ e. pure-ok _ s r)
+        (bind-ok _ _ s (readers-ok power eof script Q.maxLevels .prefix s (r .consumed .invariant)) (λ n s₁ q. pure-ok _ s₁ (roots-snoc script (begin script) r q))))
+        [] (begin script) (record { values = []; are = are[]; consumed = consumed-refl script (begin script) begin-calm })
+
+    parseRoots-ok : Holds Read (parseRoots power script (begin script))
+    parseRoots-ok = weaken-both (both roots-ok (parseRoots-ends power eof script)) (λ roots s q. record { roots-done = q .0; ends = q .1 .atEof }) (λ s q. tt)
 
   -- the words that are left of the tokens taken, and Eof
   words-left : (marks given : List Bool) (ts taken left : List Token) (ws : List Word) (t : Token) → marks ≡ given → ts ≡ taken ++ left → left ≡ t ∷ [] → t .kind ≡ kEof → length given ≡ length taken → keep given (map (wordOf script) taken) ≡ ws
@@ -202,25 +123,25 @@ module _ (script : List ℕ) where
 
     shape-in : (r : Result (List ℕ)) → Holds Read r → readingOf r ≡ read tree [] → (σs : Shapes) × (shapeOf script tree ≡ some σs)
     unfolding shapeOf
-    shape-in r (holds {a = roots} {s} q) e = (fold noShape shape (q .roots-done .values), ap (shapeOf script) (sym (read-inj _ tree e)) ∙ are-each (q .roots-done .are))
-    shape-in r (fails {e = x}) e = ended≢read x tree e
+    shape-in r (holds {a = roots} {s} q) e = (fold noShape shape (q .roots-done .values), ap (shapeOf script) (sym (read-tree _ tree [] [] e)) ∙ are-each (q .roots-done .are))
+    shape-in r (fails {e = x} u) e = ended≢read x tree [] e
 
     words-in : (r : Result (List ℕ)) → Holds Read r → readingOf r ≡ read tree [] → notesIn r .afterDefault ≡ 0 → NoDocBeforeImport script → keep (notesIn r .marks) (map (wordOf script) (tokensOf (cut script))) ≡ printed (shapeOf script tree)
     unfolding printed shapeOf begin
     words-in r (holds {a = roots} {s} q) e l D =
         let d = q .roots-done .consumed in
-        let z = tokensOk-last script (NoDocBeforeImport script) (s .left) (d .invariant .tokensOk) (q .ends l D) in
+        let z = tokensOk-last script (NoDocBeforeImport script) (s .left) (d .invariant .tokensOk) (q .ends) in
         words-left (s .notes .marks) (d .given) _ (d .taken) (s .left) _ (z .0) (d .marks) (d .left) (z .1) (z .2) (d .even) (d .kept l D .1)
-        ∙ ap printed (sym (are-each (q .roots-done .are)) ∙ ap (shapeOf script) (read-inj _ tree e))
-    words-in r (fails {e = x}) e l D = ended≢read x tree e
+        ∙ ap printed (sym (are-each (q .roots-done .are)) ∙ ap (shapeOf script) (read-tree _ tree [] [] e))
+    words-in r (fails {e = x} u) e l D = ended≢read x tree [] e
 
-    marks-in : (r : Result (List ℕ)) → Holds Read r → readingOf r ≡ read tree [] → notesIn r .afterDefault ≡ 0 → NoDocBeforeImport script → length (notesIn r .marks) + 1 ≡ length (tokensOf (cut script))
+    marks-in : (r : Result (List ℕ)) → Holds Read r → readingOf r ≡ read tree [] → length (notesIn r .marks) + 1 ≡ length (tokensOf (cut script))
     unfolding begin
-    marks-in r (holds {a = roots} {s} q) e l D =
+    marks-in r (holds {a = roots} {s} q) e =
         let d = q .roots-done .consumed in
-        let z = tokensOk-last script (NoDocBeforeImport script) (s .left) (d .invariant .tokensOk) (q .ends l D) in
+        let z = tokensOk-last script (NoDocBeforeImport script) (s .left) (d .invariant .tokensOk) (q .ends) in
         omega (arith, ap length (d .marks), d .even, ap length (d .left), length-append (d .taken) (s .left), ap length (z .1))
-    marks-in r (fails {e = x}) e l D = ended≢read x tree e
+    marks-in r (fails {e = x} u) e = ended≢read x tree [] e
 
 module _ (power : ℕ → Option Powers) (eof : power kEof ≡ none) (script : List ℕ) (tree : Tree) where
   -- every tree that strict mode returns has a shape
@@ -234,9 +155,9 @@ module _ (power : ℕ → Option Powers) (eof : power kEof ≡ none) (script : L
   strike-print p = words-in script tree (parseRoots power script (begin script)) (parseRoots-ok script power eof) (p .accepted) (p .matches) (p .docs)
 
   -- each token but Eof has its mark
-  pub marked : Plain power script tree → length (notesOf power script .marks) + 1 ≡ length (tokensOf (cut script))
+  pub marked : parse power script ≡ read tree [] → length (notesOf power script .marks) + 1 ≡ length (tokensOf (cut script))
   unfolding notesOf parse
-  marked p = marks-in script tree (parseRoots power script (begin script)) (parseRoots-ok script power eof) (p .accepted) (p .matches) (p .docs)
+  marked e = marks-in script tree (parseRoots power script (begin script)) (parseRoots-ok script power eof) e
 
 -- demand 3, for every set of infix signs without Eof
 pub unique : (power : ℕ → Option Powers) → power kEof ≡ none → UniqueReading power
