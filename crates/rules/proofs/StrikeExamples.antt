@@ -124,8 +124,11 @@ pub tells :
     × (words "(a + b) * c" ≡ words "a + b * c")
     × (form "(a + b) * c" ≡ some (S.shape (S.bin (fixed kAsteriks) (S.bin (fixed kPlus) a′ b′) c′) S.noShape))
     × (form "a + b * c" ≡ some (S.shape (S.bin (fixed kPlus) a′ (S.bin (fixed kAsteriks) b′ c′)) S.noShape))
+    × (words "-a + b" ≡ words "-(a + b)")
+    × (form "-a + b" ≡ some (S.shape (S.bin (fixed kPlus) (S.unary (fixed kMinus) a′) b′) S.noShape))
+    × (form "-(a + b)" ≡ some (S.shape (S.unary (fixed kMinus) (S.bin (fixed kPlus) a′ b′)) S.noShape))
 unfolding computed fixed spelled
-tells = (refl, refl, refl, refl, refl, refl)
+tells = (refl, refl, refl, refl, refl, refl, refl, refl, refl)
 
 -- ---- why demand 3 has side conditions: accepted, of one shape, and striking leaves other words
 

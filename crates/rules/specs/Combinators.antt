@@ -130,7 +130,7 @@ unfoldable pub iterate : {A : Type 0} → ℕ → (A → Rule (ControlFlow A)) �
 iterate zero f a = λ s. ok a s
 iterate (suc n) f a = λ s. elim (f a s) [ ok t s₁ ↦ elim t [ continue b ↦ iterate n f b s₁ | break b ↦ ok b s₁ ] | err e s₁ ↦ err e s₁ ]
 
--- each turn but the last takes a token, so as many turns as tokens are left are enough
+-- each turn but the last takes a token, or drops docs that wait, so as many turns as tokens are left are enough (proofs/Counting)
 unfoldable pub loop : {A : Type 0} → (A → Rule (ControlFlow A)) → A → Rule A
 loop f a = λ s. iterate (length (s .left)) f a s
 

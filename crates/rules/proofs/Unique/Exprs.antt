@@ -100,7 +100,7 @@ module _ (script : List ℕ) (d : Readers) (deep : ReadersOk script d) where
   unfolding Q.unary nodeShape S.w print map₁ map₂
   unary-ok k ne s c e =
       bind-ok _ _ s (advance-ok script k s c e ne) (λ op s₁ d₁.
-      bind-ok _ _ s₁ (deep .expr 5 s₁ (d₁ .consumed .invariant)) (λ rhs s₂ d₂.
+      bind-ok _ _ s₁ (deep .expr Q.prefixPower s₁ (d₁ .consumed .invariant)) (λ rhs s₂ d₂.
       node-end script s₂ 0 _ (S.unary (w op) (d₂ .shape)) (d₁ .consumed ▷ d₂ .consumed) (λ id. ap₂ (map₂ S.unary) (d₁ .isWellFormed) (d₂ .is)) refl))
 
   pub operand-ok : (s : State) → Invariant script s → Holds (NodeDone script s) (Q.operand d s)

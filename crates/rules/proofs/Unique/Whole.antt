@@ -88,9 +88,9 @@ module _ (script : List ℕ) where
     pub roots-done : RootsDone script (begin script) roots s
     pub ends : current (s .left) .kind ≡ kEof
 
-  begin-calm : Invariant script (begin script)
+  begin-invariant : Invariant script (begin script)
   unfolding begin
-  begin-calm = record { docs = λ D. refl; tokensOk = tokens-ok script (NoDocBeforeImport script) (tokensOf (cut script)) (cut-ended script) (λ D. D); docsWellFormed = tt }
+  begin-invariant = record { docs = λ D. refl; tokensOk = tokens-ok script (NoDocBeforeImport script) (tokensOf (cut script)) (cut-ended script) (λ D. D); docsWellFormed = tt }
 
   module _ (power : ℕ → Option Powers) (eof : power kEof ≡ none) where
     roots-ok : Holds (RootsDone script (begin script)) (parseRoots power script (begin script))
@@ -98,7 +98,7 @@ module _ (script : List ℕ) where
     roots-ok = loop-ok (RootsDone script (begin script)) _
         (λ roots s r. ifKind-ok _ _ _ s (λ e. pure-ok _ s r)
         (bind-ok _ _ s (readers-ok power eof script Q.maxLevels .prefix s (r .consumed .invariant)) (λ n s₁ q. pure-ok _ s₁ (roots-snoc script (begin script) r q))))
-        [] (begin script) (record { values = []; are = are[]; consumed = consumed-refl script (begin script) begin-calm })
+        [] (begin script) (record { values = []; are = are[]; consumed = consumed-refl script (begin script) begin-invariant })
 
     parseRoots-ok : Holds Read (parseRoots power script (begin script))
     parseRoots-ok = weaken-both (both roots-ok (parseRoots-ends power eof script)) (λ roots s q. record { roots-done = q .0; ends = q .1 .atEof }) (λ s q. tt)
