@@ -363,7 +363,7 @@ module _ (d : Readers) (deep : ReadersTake d) where
   unfolding Q.unary
   unary-takes s q e =
       bind-ok _ _ s (advance-counts s q e) (λ op s₁ q₁. after-token q₁ (
-      bind-ok _ _ s₁ (expr-takes 5 s₁ (rebase q₁)) (λ rhs s₂ q₂.
+      bind-ok _ _ s₁ (expr-takes Q.prefixPower s₁ (rebase q₁)) (λ rhs s₂ q₂.
       pushNode-counts 0 _ s₂ q₂ (omega arith))))
 
   operand-takes : {b : Budget} {t c : ℕ} (s : State) → Accounted b t c s → TakesOrStays b t c s (Q.operand d s)
