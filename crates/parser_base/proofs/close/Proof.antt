@@ -1,0 +1,16 @@
+-- `parser_base::close` meets its contract.
+use borrow.Author.Needs.{needs}
+use Rattle.parser_base.proofs.close.Statement.{statement}
+use Rattle.parser_base.proofs.close.Tie as tie
+use Rattle.parser_base.proofs.Steps.{lists-then}
+use Rattle.parser_base.specs.Refines.{closed}
+
+returns : tie.Need-returns
+unfolding closed
+returns c =
+    let expect = c .before .before .before .before .expect in
+    let finish = c .before .before .finish in
+    ((λ nodes types. lists-then _ (expect .ensures nodes types _) (finish .ensures .0 _ nodes types)), finish .ensures .1)
+
+pub close-spec : {M : Type 1} → statement M
+close-spec = tie.close (tie.spec (λ c κs. search needs) (λ c κs. search needs) (λ c. search needs) returns)

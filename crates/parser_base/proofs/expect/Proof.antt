@@ -1,0 +1,17 @@
+-- `parser_base::expect` meets its contract.
+use borrow.Author.Needs.{needs}
+use Rattle.parser_base.proofs.expect.Statement.{statement}
+use Rattle.parser_base.proofs.expect.Tie as tie
+use Rattle.parser_base.proofs.Steps.{ifKind-yes, ifKind-no, refused}
+use Rattle.rules.specs.Combinators.{expect}
+
+returns : tie.Need-returns
+unfolding expect
+returns c = λ nodes types lists. ifKind-yes _ _ (c .before .if1 .taken) (c .advance .ensures nodes types lists)
+
+returns-2 : tie.Need-returns-2
+unfolding expect
+returns-2 c = λ nodes types lists. ifKind-no _ _ (c .before .if1 .left) (refused (c .fail-expecting .ensures _ nodes types lists))
+
+pub expect-spec : {M : Type 1} → statement M
+expect-spec = tie.close (tie.spec (λ c κs. search needs) (λ c κs. search needs) returns returns-2)
