@@ -135,6 +135,13 @@ taking script p x g k e nodes types lists = record {
 
 -- ---- failing
 
+pub token-same : {kind start start′ len len′ : ℕ} → start ≡ start′ → len ≡ len′ → _≡_ {A = Token} (record { kind = kind; start = start; len = len }) (record { kind = kind; start = start′; len = len′ })
+token-same {kind} e f = λ i. record { kind = kind; start = e i; len = f i }
+
+pub failed-same : {number start start′ len len′ wanted seen : ℕ} (p : Parser) → start ≡ start′ → len ≡ len′
+    → failed p (record { number = number; start = start; len = len; wanted = wanted; seen = seen }) ≡ failed p (record { number = number; start = start′; len = len′; wanted = wanted; seen = seen })
+failed-same {number} {wanted = wanted} {seen} p e f = λ i. failed p (record { number = number; start = e i; len = f i; wanted = wanted; seen = seen })
+
 -- from where the code stands to where it has failed
 pub failing-at : {script nodes types lists : List ℕ} {p : Parser} {R L : ℕ} {stack : List ℕ} {m : State} (e e′ : Diagnostic) → e ≡ e′ → Represents script (code nodes types lists p) R L stack m
     → FailedAt script (code nodes types lists (failed p e)) e′ R L stack m

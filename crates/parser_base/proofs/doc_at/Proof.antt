@@ -1,5 +1,6 @@
 -- `parser_base::doc_at` meets its contract.
 use borrow.Author.Needs.{needs}
+use Rattle.parser_base.proofs.Leaves.{token-same}
 use Rattle.parser_base.proofs.doc_at.Statement.{statement}
 use Rattle.parser_base.proofs.doc_at.Tie as tie
 
@@ -7,7 +8,7 @@ returns : tie.Need-returns
 returns c =
     let wide = c .before .before .wide in
     let wide2 = c .wide2 in
-    λ i. record { kind = _; start = wide .ensures i; len = wide2 .ensures i }
+    token-same (wide .ensures) (wide2 .ensures)
 
 pub doc-at-spec : {M : Type 1} → statement M
 doc-at-spec =

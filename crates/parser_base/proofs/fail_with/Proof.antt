@@ -1,9 +1,9 @@
 -- `parser_base::fail_with` meets its contract.
 use borrow.Author.Needs.{needs}
-use mathlib.Core.Path.{refl, sym, ap, _∙_}
+use mathlib.Core.Path.{refl, sym, _∙_}
 use borrow.Author.Tests.{not-true, not-false}
 use Rattle.rules.specs.Combinators.{atToken}
-use Rattle.parser_base.specs.Refines.{failed}
+use Rattle.parser_base.proofs.Leaves.{failed-same}
 use Rattle.parser_base.proofs.Steps.{true≢false}
 use Rattle.parser_base.proofs.fail_with.Statement.{statement}
 use Rattle.parser_base.proofs.fail_with.Tie as tie
@@ -14,11 +14,19 @@ returns c = ((λ e. absurd (true≢false e (sym (c .before .going .ensures) ∙ 
 returns-2 : tie.Need-returns-2
 unfolding atToken
 returns-2 c =
+    let args = c .before .before .before .before .before .before .args in
     let going = c .before .before .before .before .before .going in
     let if1 = c .before .before .before .before .if1 in
     let span-start = c .before .before .before .span-start in
     let low = c .before .before .low in
-    ((λ _. λ i. failed _ (record { number = _; start = span-start .ensures i; len = low .ensures i; wanted = _; seen = _ })), λ e. absurd (true≢false (sym (going .ensures) ∙ not-false _ (if1 .left)) e))
+    ((λ _. failed-same (args .p) (span-start .ensures) (low .ensures)), λ e. absurd (true≢false (sym (going .ensures) ∙ not-false _ (if1 .left)) e))
 
 pub fail-with-spec : {M : Type 1} → statement M
-fail-with-spec = tie.close (tie.spec (λ c κs. search needs) returns (λ c κs. search needs) (λ c κs. search needs) returns-2)
+fail-with-spec =
+    tie.close
+    (tie.spec
+    (λ c κs. search needs)
+    returns
+    (λ c κs. search needs)
+    (λ c κs. search needs)
+    returns-2)

@@ -3,10 +3,11 @@ use borrow.Author.Needs.{needs}
 use Rattle.parser_base.proofs.push_doc.Statement.{statement}
 use Rattle.parser_base.proofs.push_doc.Tie as tie
 use Rattle.parser_base.proofs.Leaves.{full, idle}
+use Rattle.parser_base.proofs.Cells.{two-cells}
 use Rattle.parser_base.proofs.Docs.{keeping}
 use Rattle.parser_base.proofs.Steps.{left-some}
 use mathlib.Core.Path.{sym, _∙_}
-use mathlib.Core.List.{[], _∷_}
+use mathlib.Core.List.{[]}
 use native.Mathlib.Omega.{arith}
 use borrow.Author.Tests.{not-true, not-false}
 
@@ -29,7 +30,7 @@ returns-4 c =
     let going = c .before .before .before .before .before .before .before .before .before .before .before .before .going in
     let if1 = c .before .before .before .before .before .before .before .before .before .before .before .if1 in
     let put = c .before .before .before .put in
-    λ script nodes lists n. keeping script nodes _ _ lists _ _ n _ (sym (going .ensures) ∙ not-false _ (if1 .left)) (λ i. low .ensures i ∷ low2 .ensures i ∷ _ ∷ []) (put .ensures)
+    λ script nodes lists n. keeping script nodes _ _ lists _ _ n _ (sym (going .ensures) ∙ not-false _ (if1 .left)) (two-cells [] _ (low .ensures) (low2 .ensures)) (put .ensures)
 
 pub push-doc-spec : {M : Type 1} → statement M
 push-doc-spec =
@@ -46,6 +47,8 @@ push-doc-spec =
     (λ c. search needs)
     (λ c. search needs)
     (λ c. search needs)
+    (λ c κs. search needs)
+    (λ c κs. search needs)
     (λ c. search needs)
     (λ c κs. search needs)
     (λ c. search needs)
