@@ -62,8 +62,16 @@ module _ {A : Type 0} (cells : A → List ℕ) (xs : List A) (x : A) (array arra
       let new : array′ ≡ (front ++ cells x) ++ (zeros (z - length (cells x)) ++ back) =
       e ∙ ap (λ (l : List ℕ). paste array n l (length l)) v ∙ ap (λ (l : List ℕ). paste l n (cells x) (length (cells x))) a ∙ laid-over front (cells x) back z n f k in
       record {
-        same = omega (arith, ap length new ∙ length-append (front ++ cells x) (zeros (z - length (cells x)) ++ back), length-append front (cells x), length-append (zeros (z - length (cells x))) back, zeros-length (z - length (cells x)),
-        ap length a ∙ length-append front (zeros z ++ back), length-append (zeros z) back, zeros-length z);
+        same = omega (
+          arith,
+          ap length new ∙ length-append (front ++ cells x) (zeros (z - length (cells x)) ++ back),
+          length-append front (cells x),
+          length-append (zeros (z - length (cells x))) back,
+          zeros-length (z - length (cells x)),
+          ap length a ∙ length-append front (zeros z ++ back),
+          length-append (zeros z) back,
+          zeros-length z,
+        );
         new = new ∙ ap (λ (l : List ℕ). l ++ (zeros (z - length (cells x)) ++ back)) (sym more);
       }
 

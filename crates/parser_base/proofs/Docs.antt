@@ -312,11 +312,11 @@ docs-bad script nodes types lists p number at g waits atEof elsewhere = record {
         let h₀ : Represents script (code nodes types lists p) R L stack m = represents-less _ _ (omega arith) (omega arith) h in
         either (eqb (p .cur .kind) kEof)
         (λ f. subst (Ends {A = ℕ} script (λ n. n ≡ 0) kept (code nodes types lists (failed p (atToken number 0 (lowToken (tokenAt types at))))) R L 0 0 stack) (sym (ifKind-is-yes kEof (λ t. err (atToken 13 0 (lastOf d ds)) t) (λ t. err (atToken 14 0 d) t) m (rw (current-represents (h .related)) f)))
-            (let w : tokenAt types at ≡ lastOf d ds = ap (tokenAt types) (atEof f .1 ∙ ap (λ (j : ℕ). length types - 3 * j) n) ∙ last-doc types front d ds e in
-            failing-at _ _ ((λ i. atToken (atEof f .0 i) 0 (lowToken (w i))) ∙ ap (atToken 13 0) (last-low d ds low)) h₀))
+        (let w : tokenAt types at ≡ lastOf d ds = ap (tokenAt types) (atEof f .1 ∙ ap (λ (j : ℕ). length types - 3 * j) n) ∙ last-doc types front d ds e in
+        failing-at _ _ ((λ i. atToken (atEof f .0 i) 0 (lowToken (w i))) ∙ ap (atToken 13 0) (last-low d ds low)) h₀))
         (λ f. subst (Ends {A = ℕ} script (λ n. n ≡ 0) kept (code nodes types lists (failed p (atToken number 0 (lowToken (tokenAt types at))))) R L 0 0 stack) (sym (ifKind-is-no kEof (λ t. err (atToken 13 0 (lastOf d ds)) t) (λ t. err (atToken 14 0 d) t) m (rw (current-represents (h .related)) f)))
-            (let w : tokenAt types at ≡ d = ap (tokenAt types) (elsewhere f .1) ∙ first-doc types front d ds e in
-            failing-at _ _ ((λ i. atToken (elsewhere f .0 i) 0 (lowToken (w i))) ∙ ap (atToken 14 0) (low .0)) h₀))
+        (let w : tokenAt types at ≡ d = ap (tokenAt types) (elsewhere f .1) ∙ first-doc types front d ds e in
+        failing-at _ _ ((λ i. atToken (elsewhere f .0 i) 0 (lowToken (w i))) ∙ ap (atToken 14 0) (low .0)) h₀))
 
 pub docs-fail : (script nodes types lists : List ℕ) (p r : Parser) (number at : ℕ) (d : Token) → d ≡ tokenAt types at → r ≡ failed p (atToken number 0 (lowToken d)) → isGoing (p .status) ≡ true → (p .used .docs ≡ 0 → ⊥)
     → (eqb (p .cur .kind) kEof ≡ true → (number ≡ 13) × (at ≡ length types - 3 * p .used .docs)) → (eqb (p .cur .kind) kEof ≡ false → (number ≡ 14) × (at ≡ length types - 3))

@@ -162,7 +162,7 @@ module _ (script nodes types lists : List ℕ) (p q : Parser) (number wanted : �
         simulates = λ R L stack m h. failing-at _ _ (ap (atToken number wanted) (low-near script (p .cur) (h .related .inRange) (h .related .lent .small) ∙ sym (current-represents (h .related)))) h;
       }))
       (λ e. subst (λ (r : Parser). Refuses script number wanted (code nodes types lists p) (code nodes types lists r)) (sym (g e))
-          (record { sticky = λ z. refl; monotone = omega arith; fails = e; simulates = λ R L stack m h. absurd (true≢false (represents-going h) e) }))
+      (record { sticky = λ z. refl; monotone = omega arith; fails = e; simulates = λ R L stack m h. absurd (true≢false (represents-going h) e) }))
 
 module _ {A : Type 0} {Q : A → Type 0} {d r′ l′ : ℕ} (script nodes types lists : List ℕ) (p q : Parser) (number : ℕ) (t : Token) where
   pub failing-before : (isGoing (p .status) ≡ true → q ≡ failed p (atToken number 0 (lowToken t))) → (isGoing (p .status) ≡ false → q ≡ p)

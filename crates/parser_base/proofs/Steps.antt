@@ -15,7 +15,7 @@ use Rattle.rules.specs.Combinators.{Rule, _>>=_, _>>_, pure, current, cur, byKi
 use Rattle.lex.specs.declared.tok.Token.{Token}
 use Rattle.rules.specs.Promise.{maxBytes}
 use Rattle.parser_base.specs.Represents.{low, lowToken, InRange, Code, code, going, isGoing, from, ahead, Related, Represents, FailedAt}
-use Rattle.parser_base.specs.Refines.{Ends, kept, Refines, Refuses, Pushes, Lists}
+use Rattle.parser_base.specs.Refines.{Ends, kept, allGrown, Collected, Refines, Refuses, Pushes, Lists}
 
 -- ---- room that is left over
 
@@ -277,14 +277,6 @@ module _ {A : Type 0} {script : List ℕ} {Q : A → Type 0} {grow : A → List 
   ifKind-both p q = either (eqb (s .parser .cur .kind) k) (λ e. ifKind-yes x y (eqb-true _ _ e) p) (λ e. ifKind-no x y (eqb-false _ _ e) q)
 
 -- ---- lists of members
-
--- all cells of the members are under construction
-abbrev pub allGrown : List (List ℕ) → List ℕ → List ℕ
-allGrown xs stack = stack ++ flatten xs
-
--- `n` members, each of which took a token
-abbrev pub Collected : List ℕ → ℕ → Code → List (List ℕ) → Type 0
-Collected script n s xs = (length xs ≡ n) × (length xs + length (ahead script s) ≤ length script + 1)
 
 -- members, and then their list
 module _ {A : Type 0} {script : List ℕ} {x : Rule (List (List ℕ))} {run : A} {r l d r₁ l₁ d₂ r₂ l₂ mark n : ℕ} {s s₁ s₂ : Code} (y : List (List ℕ) → Rule A) where

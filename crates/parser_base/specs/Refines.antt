@@ -36,6 +36,14 @@ kept a stack = stack
 abbrev pub grown : List ℕ → List ℕ → List ℕ
 grown cells stack = stack ++ cells
 
+-- all cells of the members are under construction
+abbrev pub allGrown : List (List ℕ) → List ℕ → List ℕ
+allGrown xs stack = stack ++ flatten xs
+
+-- `n` members, each of which took a token
+abbrev pub Collected : List ℕ → ℕ → Code → List (List ℕ) → Type 0
+Collected script n s xs = (length xs ≡ n) × (length xs + length (ahead script s) ≤ length script + 1)
+
 -- From `r` records' and `l` list cells' room to `r′` and `l′`, taking `d` tokens or more where it does not fail.
 pub record Refines {A : Type 0} (script : List ℕ) (r l : ℕ) (x : Rule A) (Q : A → Type 0) (grow : A → List ℕ → List ℕ) (d r′ l′ : ℕ) (s s′ : Code) : Type 0 where
   -- once failed, the code changes nothing

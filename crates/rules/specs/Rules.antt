@@ -97,6 +97,9 @@ parseImport = do
   pkgs ← allocSlice paths
   pushNode (λ id. N.Import id src pkgs)
 
+abbrev pub externName : Rule Token
+externName = ifKind kS advance (fail 16)
+
 unfoldable pub atom : Rule NodeId
 atom = do
   t ← advance
@@ -262,7 +265,7 @@ module _ (deeper : Readers) where
   parseExtern = do
     docs ← takeDocs
     src ← expect kExtern
-    name ← ifKind kS advance (fail 16)
+    name ← externName
     expect kCurlyLeft
     fns ← listUntil kCurlyRight externFn
     pushNode (λ id. N.Extern id src docs name fns)

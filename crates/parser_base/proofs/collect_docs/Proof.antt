@@ -38,9 +38,11 @@ loop-again c =
     let if1 = c .before .before .before .before .before .before .if1 in
     let advance = c .before .before .before .before .advance in
     let push-doc = c .before .before .push-doc in
-    let yes : _ ≡ true = sym (stands .ensures) ∙ if1 .taken in
-    (omega arith, λ nodes lists. round-again (loop .inv .1 nodes lists) (stands-going _ _ yes)
-    (again-of _ (ifKind-yes _ _ (stands-kind _ _ yes) (read (keepDoc 0) (advance .ensures nodes _ lists) (push-doc .ensures _ nodes lists 0)))))
+    let yes : _ ≡ true = sym (stands .ensures) ∙ if1 .taken in (
+      omega arith,
+      λ nodes lists. round-again (loop .inv .1 nodes lists) (stands-going _ _ yes)
+          (again-of _ (ifKind-yes _ _ (stands-kind _ _ yes) (read (keepDoc 0) (advance .ensures nodes _ lists) (push-doc .ensures _ nodes lists 0)))),
+    )
 
 returns : tie.Need-returns Inv-loop μ-loop
 unfolding collectDocs pure

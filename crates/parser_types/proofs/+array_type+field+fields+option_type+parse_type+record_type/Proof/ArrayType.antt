@@ -1,0 +1,35 @@
+-- `array-type` meets its contract.
+use borrow.Author.Needs.{needs}
+use native.Mathlib.Omega.{arith}
+use Prim.Native.Nat.{ℕ}
+use Rattle.parser_types.proofs.array_type.Reads as array-type
+use Rattle.parser_types.proofs.+array_type+field+fields+option_type+parse_type+record_type.Lts-array_type as lts
+use Rattle.parser_types.proofs.open_angle.Reads as open-angle-reads
+use Rattle.parser_types.proofs.parse_type.Reads as parse-type
+use Rattle.parser_base.proofs.expect.Reads as expect-reads
+use Rattle.parser_base.proofs.push_type.Reads as push-type-reads
+use Rattle.parser_types.proofs.+array_type+field+fields+option_type+parse_type+record_type.Proof.Measures.{array-type-at, parse-type-below}
+use Rattle.parser_base.proofs.Steps.{seq, then, enough}
+use Rattle.rules.specs.Rules.{arrayType}
+
+abbrev claims : ℕ → lts.Claims
+claims t = (open-angle-reads.Asked, open-angle-reads.Learnt, parse-type-below t, parse-type.Post, expect-reads.Asked, expect-reads.Learnt, push-type-reads.Asked, push-type-reads.Learnt)
+
+returns : (t : ℕ) → lts.Need-returns (claims t) (array-type-at t) array-type.Post
+unfolding arrayType
+returns t c =
+    let open-angle = c .before .before .before .before .before .before .before .before .before .before .before .before .before .before .open-angle in
+    let parse-type = c .before .before .before .before .before .before .before .before .before .before .before .parse-type in
+    let expect = c .before .before .before .before .before .expect in
+    let push-type = c .before .before .push-type in
+    λ nodes. enough (then (open-angle .ensures nodes _ _) (seq _ (parse-type .ensures nodes) (then (expect .ensures nodes _ _) (push-type .ensures _ nodes _)))) tt
+
+pub array-type-meets : {M : Type 1} (t : ℕ) → lts.Closed (claims t) (array-type-at t) array-type.Post M
+array-type-meets t = lts.spec (claims t) (array-type-at t) array-type.Post
+    (λ c κs. search needs)  -- open-angle-requires
+    (λ c κs. (omega arith, search needs))  -- parse-type-requires
+    (λ c κs. search needs)  -- expect-requires
+    (λ c κs. search needs)  -- push-type-requires
+    (λ c. search needs)  -- same-length
+    (λ c. search needs)  -- same-length-2
+    (returns t)

@@ -1,0 +1,79 @@
+-- Which rule reads a type, by the levels that are left and the kind of the token being read.
+use mathlib.Core.Path.{_≡_, refl, sym, ap, subst, _∙_}
+use mathlib.Core.Bool.{Bool, true, false}
+use mathlib.Core.List.{List, [], _∷_}
+use mathlib.Core.Logic.{_⊎_, ⊎-elim}
+use Prim.Native.Nat.{ℕ, suc, _-_, _≤_, _<_}
+use native.Mathlib.Omega.{arith}
+use lib.Dec.{eqb}
+use borrow.Author.Tests.{eqb-true, eqb-false, ne-eqb}
+use Rattle.lex.specs.Kind.{kStr, kInt, kDouble, kBool, kVoid, kOption, kArray, kForeign, kRecord}
+use Rattle.rules.specs.Combinators.{choose, failExpecting, Readers}
+use Rattle.rules.specs.Rules.{readers, parseType, typeByKind, atomType}
+use Rattle.rules.specs.declared.TypeExprId.{TypeExprId}
+use Rattle.parser_base.specs.Represents.{Code}
+use Rattle.parser_base.specs.Refines.{Refines, Refuses, kept, deeper}
+use Rattle.parser_base.proofs.Steps.{either, at-kind, refused}
+
+deeper-zero : (script : List ℕ) (levels : ℕ) → levels ≡ 0 → deeper script levels .type ≡ failExpecting 10 0
+unfolding readers
+deeper-zero script levels e = subst (λ (n : ℕ). deeper script n .type ≡ failExpecting 10 0) (sym e) refl
+
+deeper-suc : (script : List ℕ) (levels : ℕ) → (levels ≡ 0 → ⊥) → deeper script levels .type ≡ parseType (deeper script (levels - 1))
+unfolding readers
+deeper-suc script levels f =
+    let e : suc (levels - 1) ≡ levels = omega arith in
+    subst (λ (n : ℕ). deeper script n .type ≡ parseType (deeper script (levels - 1))) e refl
+
+-- a table has the kind further on
+past : {A : Type 0} {k n : ℕ} (x other : A) (xs : List (ℕ × A)) → (k ≡ n → ⊥) → choose ((n, x) ∷ xs) other k ≡ choose xs other k
+unfolding choose
+past {A} {k} {n} x other xs f = ap (λ (b : Bool). elim b as (λ _. A) [ true ↦ x | false ↦ choose xs other k ]) (ne-eqb k n f)
+
+table-end : {A : Type 0} (k : ℕ) (other : A) → choose [] other k ≡ other
+unfolding choose
+table-end k other = refl
+
+module _ (below : Readers) (k : ℕ) where
+  -- Str, Int, Double, Bool and Void are numbered one after the other
+  of-atom : kStr ≤ k → k < kOption → typeByKind below k ≡ atomType
+  unfolding typeByKind choose
+  of-atom a b =
+      either (eqb k kStr) (λ e. at kStr e refl) (λ e₁.
+      either (eqb k kInt) (λ e. at kInt e refl) (λ e₂.
+      either (eqb k kDouble) (λ e. at kDouble e refl) (λ e₃.
+      either (eqb k kBool) (λ e. at kBool e refl) (λ e₄.
+      either (eqb k kVoid) (λ e. at kVoid e refl) (λ e₅.
+      absurd (omega (arith, eqb-false k kStr e₁, eqb-false k kInt e₂, eqb-false k kDouble e₃, eqb-false k kBool e₄, eqb-false k kVoid e₅)))))))
+    where
+      at : (n : ℕ) → eqb k n ≡ true → typeByKind below n ≡ atomType → typeByKind below k ≡ atomType
+      at n e h = subst (λ (j : ℕ). typeByKind below j ≡ atomType) (sym (eqb-true k n e)) h
+
+  -- a kind that no type begins with
+  of-none : (k < kStr) ⊎ (kVoid < k) → (k ≡ kOption → ⊥) → (k ≡ kArray → ⊥) → (k ≡ kForeign → ⊥) → (k ≡ kRecord → ⊥) → typeByKind below k ≡ failExpecting 23 0
+  unfolding typeByKind
+  of-none h a b c d =
+      past _ _ _ (break kStr (omega arith) (omega arith)) ∙ past _ _ _ (break kInt (omega arith) (omega arith)) ∙ past _ _ _ (break kBool (omega arith) (omega arith)) ∙ past _ _ _ (break kVoid (omega arith) (omega arith)) ∙ past _ _ _ (break kDouble (omega arith) (omega arith))
+      ∙ past _ _ _ c ∙ past _ _ _ a ∙ past _ _ _ b ∙ past _ _ _ d ∙ table-end _ _
+    where
+      break : (n : ℕ) → kStr ≤ n → n ≤ kVoid → k ≡ n → ⊥
+      break n p q e = ⊎-elim (λ w. omega arith) (λ w. omega arith) h
+
+module _ {script : List ℕ} {Q : TypeExprId → Type 0} {d r′ l′ : ℕ} {s s′ : Code} (levels : ℕ) where
+  pub too-deep : levels ≡ 0 → Refuses script 10 0 s s′ → Refines script 0 0 (deeper script levels .type) Q kept d r′ l′ s s′
+  too-deep e p = rw (deeper-zero script levels e) (refused p)
+
+module _ {script : List ℕ} {Q : TypeExprId → Type 0} {r l d r′ l′ : ℕ} {s s′ : Code} (levels : ℕ) where
+  pub type-at : (kind : ℕ) → (levels ≡ 0 → ⊥) → s .parser .cur .kind ≡ kind → Refines script r l (typeByKind (deeper script (levels - 1)) kind) Q kept d r′ l′ s s′
+      → Refines script r l (deeper script levels .type) Q kept d r′ l′ s s′
+  unfolding parseType
+  type-at kind f e p = rw (deeper-suc script levels f) (at-kind _ kind e p)
+
+  pub type-atom : (levels ≡ 0 → ⊥) → kStr ≤ s .parser .cur .kind → s .parser .cur .kind < kOption → Refines script r l atomType Q kept d r′ l′ s s′ → Refines script r l (deeper script levels .type) Q kept d r′ l′ s s′
+  type-atom f a b p = type-at (s .parser .cur .kind) f refl (rw (of-atom (deeper script (levels - 1)) (s .parser .cur .kind) a b) p)
+
+module _ {script : List ℕ} {Q : TypeExprId → Type 0} {d r′ l′ : ℕ} {s s′ : Code} (levels : ℕ) where
+  pub type-none : (levels ≡ 0 → ⊥) → (s .parser .cur .kind < kStr) ⊎ (kVoid < s .parser .cur .kind)
+      → (s .parser .cur .kind ≡ kOption → ⊥) → (s .parser .cur .kind ≡ kArray → ⊥) → (s .parser .cur .kind ≡ kForeign → ⊥) → (s .parser .cur .kind ≡ kRecord → ⊥)
+      → Refuses script 23 0 s s′ → Refines script 0 0 (deeper script levels .type) Q kept d r′ l′ s s′
+  type-none f h a b c e p = type-at levels (s .parser .cur .kind) f refl (rw (of-none (deeper script (levels - 1)) (s .parser .cur .kind) h a b c e) (refused p))

@@ -1,0 +1,16 @@
+-- `parser_types::atom_type` meets its contract.
+use borrow.Author.Needs.{needs}
+use Rattle.parser_types.proofs.atom_type.Statement.{statement}
+use Rattle.parser_types.proofs.atom_type.Tie as tie
+use Rattle.parser_base.proofs.Steps.{read, enough}
+use Rattle.rules.specs.Rules.{atomType}
+
+returns : tie.Need-returns
+unfolding atomType
+returns c =
+    let advance = c .before .before .before .before .advance in
+    let push-type = c .before .before .push-type in
+    λ nodes lists. enough (read _ (advance .ensures nodes _ lists) (push-type .ensures _ nodes lists)) tt
+
+pub atom-type-spec : {M : Type 1} → statement M
+atom-type-spec = tie.close (tie.spec (λ c κs. search needs) (λ c κs. search needs) (λ c. search needs) returns)

@@ -1,0 +1,23 @@
+-- `parser_types::parse_args` meets its contract.
+use borrow.Author.Needs.{needs}
+use Rattle.parser_base.proofs.Steps.{then, enough}
+use Rattle.rules.specs.Rules.{parseArgs}
+use Rattle.parser_types.proofs.parse_args.Statement.{statement}
+use Rattle.parser_types.proofs.parse_args.Tie as tie
+
+returns : tie.Need-returns
+unfolding parseArgs
+returns c =
+    let expect = c .before .before .before .before .before .before .before .expect in
+    let fields = c .before .before .before .before .fields in
+    ((λ nodes. enough (then (expect .ensures nodes _ _) (fields .ensures .0 nodes)) tt), fields .ensures .1)
+
+pub parse-args-spec : {M : Type 1} → statement M
+parse-args-spec =
+    tie.close
+    (tie.spec
+    (λ c κs. search needs)
+    (λ c κs. search needs)
+    (λ c. search needs)
+    (λ c. search needs)
+    returns)

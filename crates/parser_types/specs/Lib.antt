@@ -1,0 +1,2 @@
+-- What the contracts about import paths are written in.
+pub mod Paths
