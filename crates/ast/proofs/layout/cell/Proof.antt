@@ -1,0 +1,41 @@
+-- `ast::layout::cell` meets its contract.
+use Prim.Native.Nat.{_+_, _≤_}
+use lib.ListN.{length}
+use mathlib.Core.Path.{sym}
+use native.Mathlib.Omega.{arith}
+use lib.ListN.{List·getD-eq-default}
+use borrow.Author.Needs.{needs}
+use Rattle.ast.proofs.layout.cell.Statement.{statement}
+use Rattle.ast.proofs.layout.cell.Tie as tie
+
+sub-if2 : tie.Need-sub-if2
+sub-if2 c = search needs
+
+add-result : tie.Need-add-result
+add-result c = search needs
+
+mul-result : tie.Need-mul-result
+mul-result c = search needs
+
+shared-slice-read-result : tie.Need-shared-slice-read-result
+shared-slice-read-result c = search needs
+
+returns : tie.Need-returns
+returns c = search needs
+
+returns-2 : tie.Need-returns-2
+returns-2 c =
+    let a = c .before .before .args in
+    let h : length (a .a .now) ≤ a .at + a .k = omega arith in
+    sym (List·getD-eq-default (a .a .now) 0 h)
+
+returns-3 : tie.Need-returns-3
+returns-3 c =
+    let a = c .before .args in
+    let h : length (a .a .now) ≤ a .at + a .k = omega arith in
+    sym (List·getD-eq-default (a .a .now) 0 h)
+
+pub cell-spec : {M : Type 1} → statement M
+cell-spec =
+    tie.close
+    (tie.spec sub-if2 add-result mul-result shared-slice-read-result returns returns-2 returns-3)

@@ -1,0 +1,126 @@
+-- Reading the records that `rules` lays out, and writing one: `node-trip` and `type-trip` have that what is read is what was laid out.
+use mathlib.Core.Bool.{Bool, true, false}
+use mathlib.Core.Option.{Option, none, some}
+use mathlib.Core.List.{List, [], _∷_}
+use Prim.Native.Nat.{ℕ, _+_, _*_, _%_}
+use lib.Dec.{leb}
+use lib.ListN.{length, getD, take, drop}
+use lib.Seq.{sets}
+use Rattle.rules.specs.Layout.{nodeWidth, typeWidth}
+use Rattle.lex.specs.declared.tok.Token.{Token}
+use Rattle.rules.specs.declared.Run.{Run}
+use Rattle.rules.specs.declared.Node.{Node}
+use Rattle.rules.specs.declared.Node.the-variants as N
+use Rattle.rules.specs.declared.TypeExpr.{TypeExpr}
+use Rattle.rules.specs.declared.TypeExpr.the-variants as T
+use Rattle.ast.specs.declared.layout.NodeRead.{NodeRead}
+use Rattle.ast.specs.declared.layout.NodeRead.the-variants as NR
+use Rattle.ast.specs.declared.layout.TokenCells.{TokenCells}
+use Rattle.ast.specs.declared.layout.TypeRead.{TypeRead}
+use Rattle.ast.specs.declared.layout.TypeRead.the-variants as TR
+
+-- ---- what cells say
+
+abbrev pub tokenAt : List ℕ → ℕ → Token
+tokenAt cs j = record { kind = getD cs j 0; start = getD cs (j + 1) 0; len = getD cs (j + 2) 0 }
+
+abbrev pub runAt : List ℕ → ℕ → Run
+runAt cs j = record { start = getD cs j 0; len = getD cs (j + 1) 0 }
+
+-- the record that cells hold, at each tag from 1 on
+unfoldable pub nodesByTag : List ℕ → List (Option Node)
+nodesByTag cs =
+    some (N.Atom (getD cs 1 0) (tokenAt cs 2)) ∷
+    some (N.Ident (getD cs 1 0) (tokenAt cs 2)) ∷
+    some (N.Bin (getD cs 1 0) (tokenAt cs 2) (record { 0 = getD cs 5 0 }) (record { 0 = getD cs 6 0 })) ∷
+    some (N.Unary (getD cs 1 0) (tokenAt cs 2) (record { 0 = getD cs 5 0 })) ∷
+    some (N.Let (getD cs 1 0) (runAt cs 2) (tokenAt cs 4) (record { 0 = getD cs 7 0 })) ∷
+    some (N.Fn (getD cs 1 0) (runAt cs 2) (tokenAt cs 4) (runAt cs 7) (record { 0 = getD cs 9 0 }) (runAt cs 10)) ∷
+    some (N.Match (getD cs 1 0) (runAt cs 2) (tokenAt cs 4) (runAt cs 7)) ∷
+    some (N.Call (getD cs 1 0) (record { 0 = getD cs 2 0 }) (runAt cs 3)) ∷
+    some (N.Field (getD cs 1 0) (record { 0 = getD cs 2 0 }) (tokenAt cs 3)) ∷
+    some (N.Cast (getD cs 1 0) (tokenAt cs 2) (record { 0 = getD cs 5 0 }) (record { 0 = getD cs 6 0 })) ∷
+    some (N.Import (getD cs 1 0) (tokenAt cs 2) (runAt cs 5)) ∷
+    some (N.Extern (getD cs 1 0) (tokenAt cs 2) (runAt cs 5) (tokenAt cs 7) (runAt cs 10)) ∷
+    some (N.Record (getD cs 1 0) (tokenAt cs 2) (runAt cs 5)) ∷
+    some (N.Array (getD cs 1 0) (tokenAt cs 2) (runAt cs 5)) ∷
+    []
+
+unfoldable pub typesByTag : List ℕ → List (Option TypeExpr)
+typesByTag cs =
+    some (T.Atom (tokenAt cs 1)) ∷
+    some (T.Foreign (tokenAt cs 1)) ∷
+    some (T.Option (record { 0 = getD cs 1 0 })) ∷
+    some (T.Array (record { 0 = getD cs 1 0 })) ∷
+    some (T.Record (tokenAt cs 1) (runAt cs 4)) ∷
+    []
+
+-- the record that cells hold, by the tag in the first; none where the tag is unknown
+unfoldable pub nodeOf : List ℕ → Option Node
+nodeOf cs = getD (none ∷ nodesByTag cs) (getD cs 0 0) none
+
+unfoldable pub typeOf : List ℕ → Option TypeExpr
+typeOf cs = getD (none ∷ typesByTag cs) (getD cs 0 0) none
+
+abbrev pub if : {A : Type 0} → Bool → A → A → A
+if true a b = a
+if false a b = b
+
+-- record `i` lies before the end of the array's last whole record, `size` cells a record
+abbrev pub fits : ℕ → List ℕ → ℕ → Bool
+fits size xs i = leb (size * i + size) (length xs)
+
+-- record `i`; none where it lies outside or its tag is unknown
+unfoldable pub nodeAt : List ℕ → ℕ → Option Node
+nodeAt nodes i = if (fits nodeWidth nodes i) (nodeOf (take nodeWidth (drop (nodeWidth * i) nodes))) none
+
+unfoldable pub typeAt : List ℕ → ℕ → Option TypeExpr
+typeAt types i = if (fits typeWidth types i) (typeOf (take typeWidth (drop (typeWidth * i) types))) none
+
+-- an array with record `i` written; unchanged where it has no room for it
+unfoldable pub putAt : ℕ → List ℕ → ℕ → List ℕ → List ℕ
+putAt size xs i cells = if (fits size xs i) (sets xs (size * i) cells) xs
+
+-- ---- 32 bits: what an array holds of a record's tokens
+
+abbrev pub low : ℕ → ℕ
+low n = n % 4294967296
+
+abbrev pub lowToken : Token → Token
+lowToken t = record { kind = t .kind; start = low (t .start); len = low (t .len) }
+
+abbrev pub lowCells : Token → TokenCells
+lowCells t = record { kind = t .kind; start = low (t .start); len = low (t .len) }
+
+unfoldable pub lowNode : Node → Node
+lowNode (N.Atom id raw) = N.Atom id (lowToken raw)
+lowNode (N.Ident id name) = N.Ident id (lowToken name)
+lowNode (N.Bin id op lhs rhs) = N.Bin id (lowToken op) lhs rhs
+lowNode (N.Unary id op rhs) = N.Unary id (lowToken op) rhs
+lowNode (N.Let id docs name rhs) = N.Let id docs (lowToken name) rhs
+lowNode (N.Fn id docs name args ret body) = N.Fn id docs (lowToken name) args ret body
+lowNode (N.Match id cases t body) = N.Match id cases (lowToken t) body
+lowNode (N.Call id target args) = N.Call id target args
+lowNode (N.Field id target name) = N.Field id target (lowToken name)
+lowNode (N.Cast id src lhs rhs) = N.Cast id (lowToken src) lhs rhs
+lowNode (N.Import id src pkgs) = N.Import id (lowToken src) pkgs
+lowNode (N.Extern id src docs name fns) = N.Extern id (lowToken src) docs (lowToken name) fns
+lowNode (N.Record id src fields) = N.Record id (lowToken src) fields
+lowNode (N.Array id src members) = N.Array id (lowToken src) members
+
+unfoldable pub lowType : TypeExpr → TypeExpr
+lowType (T.Atom t) = T.Atom (lowToken t)
+lowType (T.Foreign t) = T.Foreign (lowToken t)
+lowType (T.Option i) = T.Option i
+lowType (T.Array i) = T.Array i
+lowType (T.Record src fields) = T.Record (lowToken src) fields
+
+-- ---- what an answer of the code says
+
+unfoldable pub nodeRead : NodeRead → Option Node
+nodeRead (NR.Known n) = some n
+nodeRead NR.Unknown = none
+
+unfoldable pub typeRead : TypeRead → Option TypeExpr
+typeRead (TR.Known t) = some t
+typeRead TR.Unknown = none

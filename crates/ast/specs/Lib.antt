@@ -1,0 +1,8 @@
+-- The tree in lent arrays: reading its records, the lookups, spans, line and column.
+pub mod Decode
+pub mod Tabulate
+pub mod Answer
+pub mod Lookup
+pub mod Descent
+pub mod Span
+pub mod Position

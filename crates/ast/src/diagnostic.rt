@@ -1,0 +1,116 @@
+// Spans of tokens; the line and column of a position.
+use crate::lookup::MAX_BYTES;
+use crate::lookup::well_formed;
+use lex::Token;
+use lex::Type;
+ghost use mathlib.Core.Path.{_≡_};
+ghost use mathlib.Core.Bool.{true};
+ghost use Prim.Native.Nat.{_≤_};
+ghost use lib.ListN.{length};
+ghost use Rattle.rules.specs.Shape.{wellFormed};
+ghost use Rattle.ast.specs.Span.{spanOf, tokenSpan, spanAnswer};
+ghost use Rattle.ast.specs.Position.{placeOf, placeAt, positionAnswer};
+
+pub struct Span {
+    pub start: usize,
+    pub len: usize,
+}
+
+pub enum SpanRead {
+    Found(Span),
+    Refused(u32),
+}
+
+impl Span {
+    // The span of a token. A string's starts one byte later.
+    pub fn from_token(script: &[u8], t: Token) -> SpanRead
+        ensures { λ r. ⌜ spanAnswer r ≡ tokenSpan (now (script .entry)) t ⌝ }
+    {
+        if MAX_BYTES < script.len() {
+            return SpanRead::Refused(1);
+        }
+        if well_formed(script, t) {
+            SpanRead::Found(span_of(script, t))
+        } else {
+            SpanRead::Refused(4)
+        }
+    }
+}
+
+fn span_of(script: &[u8], t: Token) -> Span
+    requires { ⌜ wellFormed (now script) t ≡ true ⌝ }
+    ensures { λ r. ⌜ r ≡ spanOf t ⌝ }
+{
+    let kind = t.kind;
+    if kind == Type::S {
+        return Span {
+            start: t.start + 1,
+            len: t.len,
+        };
+    }
+    if kind < Type::S {
+        return Span {
+            start: t.start,
+            len: Type::spelling_len(kind),
+        };
+    }
+    if Type::DOC < kind {
+        return Span {
+            start: t.start,
+            len: Type::spelling_len(kind),
+        };
+    }
+    Span {
+        start: t.start,
+        len: t.len,
+    }
+}
+
+pub struct Place {
+    pub line: u32,
+    pub column: u32,
+}
+
+pub enum Position {
+    At(Place),
+    Refused(u32),
+}
+
+const LINE_FEED: u8 = 10;
+
+// The place after some bytes.
+fn place_after(before: &[u8]) -> Place
+    requires { ⌜ length (now before) ≤ 65536 ⌝ }
+    ensures { λ r. ⌜ r ≡ placeOf (now (before .entry)) ⌝ }
+{
+    let mut feeds: u32 = 0;
+    let mut since: u32 = 0;
+    let mut i = 0;
+    while i < before.len() {
+        if before[i] == LINE_FEED {
+            feeds += 1;
+            since = 0;
+        } else {
+            since += 1;
+        }
+        i += 1;
+    }
+    Place {
+        line: 1 + feeds,
+        column: 1 + since,
+    }
+}
+
+// The line and column of the position `at`, both from 1 on.
+pub fn line_column(script: &[u8], at: u32) -> Position
+    ensures { λ r. ⌜ positionAnswer r ≡ placeAt (now (script .entry)) at ⌝ }
+{
+    if MAX_BYTES < script.len() {
+        return Position::Refused(1);
+    }
+    let n = at as usize;
+    if script.len() < n {
+        return Position::Refused(3);
+    }
+    Position::At(place_after(&script[..n]))
+}

@@ -1,0 +1,397 @@
+// Where a node starts, and the token of a type.
+use crate::layout::NodeRead;
+use crate::layout::TypeRead;
+use crate::layout::token_at;
+use lex::Token;
+use lex::Type;
+use rules::Counts;
+use rules::Node;
+use rules::NodeId;
+use rules::Run;
+use rules::TypeExpr;
+use rules::TypeExprId;
+ghost use mathlib.Core.Path.{_≡_};
+ghost use Prim.Native.Nat.{_+_, _<_, _≤_};
+ghost use lib.ListN.{length, take};
+ghost use Rattle.rules.specs.Shape.{wellFormed, spellingStart};
+ghost use Rattle.ast.specs.Decode.{nodeAt, typeAt};
+ghost use Rattle.ast.specs.Answer.{lent, refusal as refusalOf};
+ghost use Rattle.ast.specs.Lookup.{tokenStart, matchStart, wellFormedToken, startAt, typeTokenAt, nodeStart, typeToken, startAnswer, typeTokenAnswer};
+ghost use Rattle.ast.specs.Descent.{startOr, asStart, decodeStart, asTypeToken, Innermost, arrayStep, stepOf, innerOf};
+
+pub enum Start {
+    At(u32),
+    Nothing,
+    Refused(u32),
+}
+
+pub enum TypeToken {
+    Found(Token),
+    Refused(u32),
+}
+
+// A record of the start lookup: its answer, or the child to go on with, and what is answered where that has none.
+enum Step {
+    Done(Start),
+    Descend(u32, Start),
+}
+
+// One more than any start.
+const NOTHING: u64 = 4294967296;
+
+// A script has at most so many bytes.
+pub const MAX_BYTES: usize = 65536;
+
+const BLANK: u8 = 32;
+
+// How far behind its start a token's spelling begins.
+pub fn spelling_offset(script: &[u8], t: Token) -> usize
+    ensures { λ r. ⌜ (t .start + r ≡ spellingStart (now (script .entry)) t) × (r ≤ 3) ⌝ }
+{
+    if t.kind == Type::S {
+        return 1;
+    }
+    if t.kind == Type::DOC {
+        let start = t.start;
+        if start < script.len() {
+            if 2 < script.len() - start {
+                if script[start + 2] == BLANK {
+                    return 3;
+                }
+            }
+        }
+        return 2;
+    }
+    0
+}
+
+// The kind is known, and a spelling from the script lies in it.
+pub fn well_formed(script: &[u8], t: Token) -> bool
+    ensures { λ r. ⌜ r ≡ wellFormed (now (script .entry)) t ⌝ }
+{
+    let kind = t.kind;
+    if kind < Type::EOF {
+        return false;
+    }
+    if Type::RECORD < kind {
+        return false;
+    }
+    if kind < Type::S {
+        return true;
+    }
+    if Type::DOC < kind {
+        return true;
+    }
+    let start = t.start;
+    if script.len() < start {
+        return false;
+    }
+    let left = script.len() - start;
+    let offset = spelling_offset(script, t);
+    if left < offset {
+        return false;
+    }
+    t.len <= left - offset
+}
+
+// 1 or 2 where the call is refused for what is lent, else 0.
+pub fn refusal(
+    script: &[u8],
+    nodes: &[u32],
+    types: &[u32],
+    lists: &[u32],
+    roots: &[u32],
+    counts: Counts,
+) -> u32
+    ensures { λ r. ⌜ r ≡ refusalOf (lent (now (script .entry)) (now (nodes .entry)) (now (types .entry)) (now (lists .entry)) (now (roots .entry)) counts) ⌝ }
+{
+    let n = script.len();
+    if MAX_BYTES < n {
+        return 1;
+    }
+    if nodes.len() < 16 * n {
+        return 2;
+    }
+    if types.len() < 8 * n {
+        return 2;
+    }
+    if lists.len() < 8 * n {
+        return 2;
+    }
+    if roots.len() < n {
+        return 2;
+    }
+    0
+}
+
+// The first `count` cells, or all where there are fewer.
+pub fn used(lists: &[u32], count: u32) -> &[u32]
+    ensures { λ r. ⌜ now r ≡ take count (now (lists .entry)) ⌝ }
+{
+    let n = count as usize;
+    if n <= lists.len() { &lists[..n] } else { lists }
+}
+
+fn token_start(script: &[u8], t: Token) -> Start
+    ensures { λ r. ⌜ r ≡ asStart (tokenStart (now (script .entry)) t) ⌝ }
+{
+    if well_formed(script, t) {
+        Start::At((t.start % 4294967296) as u32)
+    } else {
+        Start::Refused(4)
+    }
+}
+
+fn match_start(script: &[u8], cells: &[u32], cases: Run, t: Token) -> Start
+    ensures { λ r. ⌜ r ≡ asStart (matchStart (now (script .entry)) (now (cells .entry)) cases t) ⌝ }
+{
+    let at = cases.start as usize;
+    let len = cases.len as usize;
+    if cells.len() < at + len * 6 {
+        return Start::Refused(4);
+    }
+    if len == 0 {
+        return token_start(script, t);
+    }
+    token_start(script, token_at(cells, at))
+}
+
+fn array_step(cells: &[u32], members: Run, other: Start) -> Step
+    ensures { λ r. ⌜ r ≡ arrayStep (now (cells .entry)) members other ⌝ }
+{
+    let at = members.start as usize;
+    let len = members.len as usize;
+    if cells.len() < at + len {
+        return Step::Done(Start::Refused(4));
+    }
+    if len == 0 {
+        return Step::Done(other);
+    }
+    Step::Descend(cells[at], other)
+}
+
+fn start_step(script: &[u8], nodes: &[u32], cells: &[u32], i: u32, other: Start) -> Step
+    ensures { λ r. ⌜ r ≡ stepOf (now (script .entry)) (now (cells .entry)) other (nodeAt (now (nodes .entry)) i) ⌝ }
+{
+    let read = crate::layout::node(nodes, NodeId(i));
+    match read {
+        NodeRead::Unknown => Step::Done(Start::Refused(4)),
+        NodeRead::Known(n) => match n {
+            Node::Atom { id: _, raw } => Step::Done(token_start(script, raw)),
+            Node::Ident { id: _, name } => Step::Done(token_start(script, name)),
+            Node::Bin {
+                id: _,
+                op,
+                lhs,
+                rhs: _,
+            } => Step::Descend(lhs.0, token_start(script, op)),
+            Node::Unary { id: _, op, rhs: _ } => Step::Done(token_start(script, op)),
+            Node::Let {
+                id: _,
+                docs: _,
+                name,
+                rhs: _,
+            } => Step::Done(token_start(script, name)),
+            Node::Fn {
+                id: _,
+                docs: _,
+                name,
+                args: _,
+                return_type: _,
+                body: _,
+            } => Step::Done(token_start(script, name)),
+            Node::Match {
+                id: _,
+                cases,
+                default_token,
+                default_body: _,
+            } => Step::Done(match_start(script, cells, cases, default_token)),
+            Node::Call {
+                id: _,
+                target,
+                args: _,
+            } => Step::Descend(target.0, other),
+            Node::Field {
+                id: _,
+                target,
+                name: _,
+            } => Step::Descend(target.0, other),
+            Node::Cast {
+                id: _,
+                src,
+                lhs: _,
+                rhs: _,
+            } => Step::Done(token_start(script, src)),
+            Node::Import {
+                id: _,
+                src,
+                pkgs: _,
+            } => Step::Done(token_start(script, src)),
+            Node::Extern {
+                id: _,
+                src,
+                docs: _,
+                name: _,
+                fns: _,
+            } => Step::Done(token_start(script, src)),
+            Node::Record {
+                id: _,
+                src,
+                fields: _,
+            } => Step::Done(token_start(script, src)),
+            Node::Array {
+                id: _,
+                src: _,
+                members,
+            } => array_step(cells, members, other),
+        },
+    }
+}
+
+// A start as one number: a start itself, then none, then the refusals.
+fn encode_start(s: Start) -> u64
+    ensures { λ r. ⌜ decodeStart r ≡ s ⌝ }
+{
+    match s {
+        Start::At(p) => p as u64,
+        Start::Nothing => NOTHING,
+        Start::Refused(n) => NOTHING + 1 + (n as u64),
+    }
+}
+
+fn decode_start(code: u64) -> Start
+    ensures { λ r. ⌜ r ≡ decodeStart code ⌝ }
+{
+    if code < NOTHING {
+        return Start::At(code as u32);
+    }
+    if code == NOTHING {
+        return Start::Nothing;
+    }
+    Start::Refused(((code - NOTHING - 1) % NOTHING) as u32)
+}
+
+// Where node `i` starts, and `other` where it has no start. The call is the last thing done, and passes nothing that lies in
+// this function's frame, so that a long chain takes no stack.
+fn start_from(script: &&[u8], nodes: &&[u32], cells: &&[u32], i: u32, other: Start) -> u64
+    ensures { λ r. ⌜ decodeStart r ≡ startOr other (asStart (startAt (now (now (script .entry))) (now (now (cells .entry))) (now (now (nodes .entry))) i)) ⌝ }
+{
+    let step = start_step(*script, *nodes, *cells, i, other);
+    match step {
+        Step::Done(s) => encode_start(s),
+        Step::Descend(j, o) => {
+            if j < i {
+                start_from(script, nodes, cells, j, o)
+            } else {
+                NOTHING + 5
+            }
+        }
+    }
+}
+
+// Where a node starts.
+pub fn node_start(
+    script: &[u8],
+    nodes: &[u32],
+    types: &[u32],
+    lists: &[u32],
+    roots: &[u32],
+    counts: Counts,
+    id: NodeId,
+) -> Start
+    ensures { λ r. ⌜ startAnswer r ≡ nodeStart (lent (now (script .entry)) (now (nodes .entry)) (now (types .entry)) (now (lists .entry)) (now (roots .entry)) counts) (id .0) ⌝ }
+{
+    let refused = refusal(script, nodes, types, lists, roots, counts);
+    if refused != 0 {
+        return Start::Refused(refused);
+    }
+    let i = id.0;
+    if counts.nodes <= i {
+        return Start::Refused(3);
+    }
+    if nodes.len() < 16 * i as usize + 16 {
+        return Start::Refused(3);
+    }
+    let cells = used(lists, counts.cells);
+    decode_start(start_from(&script, &nodes, &cells, i, Start::Nothing))
+}
+
+fn check_token(script: &[u8], t: Token) -> TypeToken
+    ensures { λ r. ⌜ r ≡ asTypeToken (wellFormedToken (now (script .entry)) t) ⌝ }
+{
+    if well_formed(script, t) {
+        TypeToken::Found(t)
+    } else {
+        TypeToken::Refused(4)
+    }
+}
+
+// What an Option or an Array holds; `i` itself of any other type.
+fn inner_of(types: &[u32], i: u32) -> u32
+    ensures { λ r. ⌜ r ≡ innerOf (typeAt (now (types .entry)) i) i ⌝ }
+{
+    let read = crate::layout::type_expr(types, TypeExprId(i));
+    match read {
+        TypeRead::Unknown => i,
+        TypeRead::Known(t) => match t {
+            TypeExpr::Atom(_) => i,
+            TypeExpr::Foreign(_) => i,
+            TypeExpr::Option(inner) => inner.0,
+            TypeExpr::Array(inner) => inner.0,
+            TypeExpr::Record { src: _, fields: _ } => i,
+        },
+    }
+}
+
+// The type whose token type `i` has: the first on the way down that holds none below its own number. The call is the last thing
+// done, and passes nothing that lies in this function's frame, so that a long chain takes no stack.
+fn innermost(types: &&[u32], i: u32) -> u32
+    ensures { λ r. ⌜ Innermost (now (now (types .entry))) i r ⌝ }
+{
+    let j = inner_of(*types, i);
+    if j < i { innermost(types, j) } else { i }
+}
+
+// The token of a type that holds none below its own number.
+fn token_here(script: &[u8], types: &[u32], i: u32) -> TypeToken
+    requires { ⌜ i ≤ innerOf (typeAt (now types) i) i ⌝ }
+    ensures { λ r. ⌜ r ≡ asTypeToken (typeTokenAt (now (script .entry)) (now (types .entry)) i) ⌝ }
+{
+    let read = crate::layout::type_expr(types, TypeExprId(i));
+    match read {
+        TypeRead::Unknown => TypeToken::Refused(4),
+        TypeRead::Known(t) => match t {
+            TypeExpr::Atom(src) => check_token(script, src),
+            TypeExpr::Foreign(src) => check_token(script, src),
+            TypeExpr::Option(_) => TypeToken::Refused(4),
+            TypeExpr::Array(_) => TypeToken::Refused(4),
+            TypeExpr::Record { src, fields: _ } => check_token(script, src),
+        },
+    }
+}
+
+// The token of a type.
+pub fn type_token(
+    script: &[u8],
+    nodes: &[u32],
+    types: &[u32],
+    lists: &[u32],
+    roots: &[u32],
+    counts: Counts,
+    id: TypeExprId,
+) -> TypeToken
+    ensures { λ r. ⌜ typeTokenAnswer r ≡ typeToken (lent (now (script .entry)) (now (nodes .entry)) (now (types .entry)) (now (lists .entry)) (now (roots .entry)) counts) (id .0) ⌝ }
+{
+    let refused = refusal(script, nodes, types, lists, roots, counts);
+    if refused != 0 {
+        return TypeToken::Refused(refused);
+    }
+    let i = id.0;
+    if counts.types <= i {
+        return TypeToken::Refused(3);
+    }
+    if types.len() < 8 * i as usize + 8 {
+        return TypeToken::Refused(3);
+    }
+    token_here(script, types, innermost(&types, i))
+}
