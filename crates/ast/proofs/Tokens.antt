@@ -5,7 +5,8 @@ use mathlib.Core.List.{List}
 use Prim.Native.Nat.{ℕ, _+_, _<_, _≤_}
 use native.Mathlib.Omega.{arith}
 use lib.Dec.{eqb, leb}
-use lib.ListN.{length, getD, List·getD-eq-default}
+use lib.ListN.{length, getD, drop, List·getD-eq-default}
+use lib.Seq.{getD-drop}
 use borrow.Author.Tests.{le-leb, lt-leb, eq-eqb, ne-eqb, lt-ltb, le-ltb, leb-true, leb-false}
 use Rattle.ast.specs.Decode.{if}
 use Rattle.ast.specs.Answer.{refused, answer}
@@ -14,20 +15,25 @@ use Rattle.rules.specs.Promise.{maxBytes}
 use Rattle.ast.specs.declared.diagnostic.Span.{Span}
 use Rattle.lex.specs.Bytes.{between}
 use Rattle.lex.specs.Kind.{fixedSpelling}
-use Rattle.rules.specs.Shape.{spellingStart, wellFormed, hasSpelling}
+use Rattle.lex.specs.Lex.{leadingSpace}
+use Rattle.lex.specs.Spelling.{spellingOffset, spellingStart, hasSpelling}
+use Rattle.rules.specs.Shape.{wellFormed}
 use Rattle.lex.specs.declared.tok.Token.{Token}
 
-split : (x y z w : ℕ) (a b c : Bool)
-    → elim a [ true ↦ x | false ↦ elim b [ true ↦ elim c [ true ↦ y | false ↦ z ] | false ↦ w ] ] ≡ if a x (if b (if c y z) w)
-split x y z w true b c = refl
-split x y z w false true true = refl
-split x y z w false true false = refl
-split x y z w false false c = refl
+split : (n : ℕ) (a b c : Bool)
+    → n + elim a [ true ↦ 1 | false ↦ elim b [ true ↦ elim c [ true ↦ 1 | false ↦ 0 ] + 2 | false ↦ 0 ] ] ≡ if a (n + 1) (if b (if c (n + 3) (n + 2)) n)
+split n true b c = refl
+split n false true true = refl
+split n false true false = refl
+split n false false c = omega arith
 
 module _ (s : List ℕ) (t : Token) where
   spelling-if : spellingStart s t ≡ if (eqb (t .kind) 22) (t .start + 1) (if (eqb (t .kind) 26) (if (eqb (getD s (t .start + 2) 0) 32) (t .start + 3) (t .start + 2)) (t .start))
-  unfolding spellingStart
-  spelling-if = split (t .start + 1) (t .start + 3) (t .start + 2) (t .start) (eqb (t .kind) 22) (eqb (t .kind) 26) (eqb (getD s (t .start + 2) 0) 32)
+  unfolding spellingStart spellingOffset leadingSpace
+  spelling-if =
+      let e : getD (drop 2 (drop (t .start) s)) 0 0 ≡ getD s (t .start + 2) 0 = getD-drop 2 (drop (t .start) s) 0 0 ∙ getD-drop (t .start) s 2 0 in
+      ap (λ (x : ℕ). t .start + elim (eqb (t .kind) 22) [ true ↦ 1 | false ↦ elim (eqb (t .kind) 26) [ true ↦ elim (eqb x 32) [ true ↦ 1 | false ↦ 0 ] + 2 | false ↦ 0 ] ]) e
+      ∙ split (t .start) (eqb (t .kind) 22) (eqb (t .kind) 26) (eqb (getD s (t .start + 2) 0) 32)
 
   pub spelling-string : t .kind ≡ 22 → t .start + 1 ≡ spellingStart s t
   spelling-string h = rw (spelling-if, h)

@@ -7,7 +7,8 @@ use lib.ListN.{length}
 use Rattle.lex.specs.Kind.{kS, fixedSpelling}
 use Rattle.lex.specs.declared.tok.Token.{Token}
 use Rattle.rules.specs.Promise.{maxBytes}
-use Rattle.rules.specs.Shape.{wellFormed, hasSpelling}
+use Rattle.lex.specs.Spelling.{hasSpelling}
+use Rattle.rules.specs.Shape.{wellFormed}
 use Rattle.ast.specs.Decode.{if}
 use Rattle.ast.specs.Answer.{Answer, refused, answer}
 use Rattle.ast.specs.declared.diagnostic.Span.{Span}
