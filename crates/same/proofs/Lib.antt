@@ -1,0 +1,11 @@
+-- The laws that the functions' proofs cite.
+mod Agree
+mod Lists
+mod Words
+mod Walk
+mod Listing
+mod Tags
+mod Types
+mod Nodes
+mod Roots
+pub mod Compare

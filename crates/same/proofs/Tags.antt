@@ -1,0 +1,40 @@
+-- The tags of records, and which tags agree.
+use mathlib.Core.Path.{_≡_, refl, sym, _∙_, ap}
+use mathlib.Core.Bool.{Bool, true, false}
+use mathlib.Core.List.{List}
+use Prim.Native.Nat.{ℕ, _+_, _<_, _≤_}
+use native.Mathlib.Nat.{add-zero}
+use lib.Dec.{leb}
+use native.Mathlib.Nat.{add-assoc}
+use native.Mathlib.Omega.{arith}
+use lib.ListN.{getD, take, drop}
+use lib.Seq.{getD-take, getD-drop}
+use borrow.Author.Tests.{le-leb, lt-leb}
+use Rattle.ast.specs.Decode.{if, tokenAt, runAt}
+
+-- a tag that is read, and is known or not
+module _ (known : ℕ) (xs : List ℕ) (p : ℕ) {x : ℕ} (e : x ≡ getD xs (p + 0) 0) where
+  pub tag-known : x ≤ known → x ≡ if (leb (getD xs p 0) known) (getD xs p 0) 0
+  tag-known h = let r : x ≡ getD xs p 0 = rw add-zero at e in rw (← r, le-leb x known h)
+
+  pub tag-unknown : known < x → 0 ≡ if (leb (getD xs p 0) known) (getD xs p 0) 0
+  tag-unknown h = let r : x ≡ getD xs p 0 = rw add-zero at e in rw (← r, lt-leb x known h)
+
+-- ---- what cells of a record are in the array
+
+module _ (width : ℕ) (xs : List ℕ) (p : ℕ) where
+  abbrev pub recordCells : List ℕ
+  recordCells = take width (drop p xs)
+
+  cell-in : (k : ℕ) → k < width → getD recordCells k 0 ≡ getD xs (p + k) 0
+  cell-in k h = getD-take width (drop p xs) k 0 h ∙ getD-drop p xs k 0
+
+  -- one, two and three cells from `o` on
+  pub number-in : (o : ℕ) → o + 1 ≤ width → getD recordCells o 0 ≡ getD xs (p + o) 0
+  number-in o h = cell-in o (omega arith)
+
+  pub run-in : (o : ℕ) → o + 2 ≤ width → runAt recordCells o ≡ runAt xs (p + o)
+  run-in o h = rw (cell-in o (omega arith), cell-in (o + 1) (omega arith), add-assoc)
+
+  pub token-in : (o : ℕ) → o + 3 ≤ width → tokenAt recordCells o ≡ tokenAt xs (p + o)
+  token-in o h = rw (cell-in o (omega arith), cell-in (o + 1) (omega arith), cell-in (o + 2) (omega arith), add-assoc p o 1, add-assoc p o 2)

@@ -1,0 +1,141 @@
+-- `agree-fields` meets its contract.
+use borrow.Author.Tests.{not-true, not-false}
+use Prim.Native.Nat.{_*_, _+_, _<_}
+use lib.ListN.{getD}
+use mathlib.Core.Path.{refl, ap}
+use Rattle.same.specs.Agree.{Agree, Decides}
+use Rattle.same.specs.Shapes.{view, envBelow, nodesBelow}
+use Rattle.rules.specs.Shape.{w, shapes}
+use Rattle.ast.specs.Decode.{tokenAt, runAt}
+use Rattle.same.proofs.Agree.{decides-not}
+use Rattle.same.proofs.Walk.{pair-agree, pair-parts}
+use Rattle.same.proofs.Listing.{fieldLists, Walking, begin, other-length, outside-left, outside-right, step, stop, done}
+use borrow.Author.Needs.{needs}
+use native.Mathlib.Omega.{arith}
+use Prim.Native.Nat.{ℕ}
+use Rattle.same.proofs.node.agree_fields.Reads as agree-fields
+use Rattle.same.proofs.node.+agree_cases+agree_fields+agree_node+agree_nodes+agree_part+agree_parts.Lts-agree_fields as lts
+use Rattle.ast.proofs.layout.token_at.Reads as token-at-reads
+use Rattle.same.proofs.word.agree_token.Reads as agree-token-reads
+use Rattle.ast.proofs.layout.cell.Reads as cell-reads
+use Rattle.same.proofs.node.agree_node.Reads as agree-node
+use Rattle.same.proofs.node.+agree_cases+agree_fields+agree_node+agree_nodes+agree_part+agree_parts.Proof.Measures.{agree-fields-at, agree-node-below}
+
+abbrev claims : ℕ → lts.Claims
+claims t = (token-at-reads.Asked, token-at-reads.Learnt, agree-token-reads.Asked, agree-token-reads.Learnt, cell-reads.Asked, cell-reads.Learnt, agree-node-below t, agree-node.Post)
+
+abbrev Inv-loop : lts.InvT-loop
+Inv-loop s nodes types cells k i s2 nodes2 types2 cells2 k2 j at₀ at2₀ left₀ at at2 left = Walking fieldLists (envBelow (view (s .now) (nodes .now) (types .now) (cells .now) k) i) (envBelow (view (s2 .now) (nodes2 .now) (types2 .now) (cells2 .now) k2) j) at₀ at2₀ left₀ at at2 left
+
+abbrev μ-loop : lts.MeasureT-loop
+μ-loop s nodes types cells k i s2 nodes2 types2 cells2 k2 j at₀ at2₀ left₀ at at2 left = left
+
+returns : (t : ℕ) → lts.Need-returns (claims t) (agree-fields-at t) agree-fields.Post Inv-loop μ-loop
+returns t c =
+    let a = c .before .before .before .args in
+    let v = view (a .s .now .now) (a .nodes .now .now) (a .types .now .now) (a .cells .now .now) (a .k) in
+    let v2 = view (a .s2 .now .now) (a .nodes2 .now .now) (a .types2 .now .now) (a .cells2 .now .now) (a .k2) in
+    let e = envBelow v (a .i) in
+    let e2 = envBelow v2 (a .j) in
+    other-length fieldLists e e2 (a .r) (a .r2) (c .if1 .taken)
+
+returns-2 : (t : ℕ) → lts.Need-returns-2 (claims t) (agree-fields-at t) agree-fields.Post Inv-loop μ-loop
+returns-2 t c =
+    let a = c .before .before .before .before .before .before .before .args in
+    let v = view (a .s .now .now) (a .nodes .now .now) (a .types .now .now) (a .cells .now .now) (a .k) in
+    let v2 = view (a .s2 .now .now) (a .nodes2 .now .now) (a .types2 .now .now) (a .cells2 .now .now) (a .k2) in
+    let e = envBelow v (a .i) in
+    let e2 = envBelow v2 (a .j) in
+    outside-left fieldLists e e2 (a .r) (a .r2) (c .if2 .taken)
+
+returns-3 : (t : ℕ) → lts.Need-returns-3 (claims t) (agree-fields-at t) agree-fields.Post Inv-loop μ-loop
+returns-3 t c =
+    let a = c .before .before .before .before .before .before .before .before .args in
+    let v = view (a .s .now .now) (a .nodes .now .now) (a .types .now .now) (a .cells .now .now) (a .k) in
+    let v2 = view (a .s2 .now .now) (a .nodes2 .now .now) (a .types2 .now .now) (a .cells2 .now .now) (a .k2) in
+    let e = envBelow v (a .i) in
+    let e2 = envBelow v2 (a .j) in
+    outside-right fieldLists e e2 (a .r) (a .r2) (c .before .before .before .before .before .if1 .left) (c .if3 .taken)
+
+loop-holds : (t : ℕ) → lts.Need-loop-holds (claims t) (agree-fields-at t) agree-fields.Post Inv-loop μ-loop
+loop-holds t c =
+    let a = c .before .before .before .before .before .before .before .before .args in
+    let v = view (a .s .now .now) (a .nodes .now .now) (a .types .now .now) (a .cells .now .now) (a .k) in
+    let v2 = view (a .s2 .now .now) (a .nodes2 .now .now) (a .types2 .now .now) (a .cells2 .now .now) (a .k2) in
+    let e = envBelow v (a .i) in
+    let e2 = envBelow v2 (a .j) in
+    begin fieldLists e e2 _ _ _ (c .before .if2 .left) (c .if3 .left) (omega arith) (omega arith)
+
+returns-4 : (t : ℕ) → lts.Need-returns-4 (claims t) (agree-fields-at t) agree-fields.Post Inv-loop μ-loop
+unfolding w
+returns-4 t c =
+    let a = c .before .before .before .before .before .before .before .before .before .before .before .before .before .before .before .before .before .before .args in
+    let v = view (a .s .now .now) (a .nodes .now .now) (a .types .now .now) (a .cells .now .now) (a .k) in
+    let v2 = view (a .s2 .now .now) (a .nodes2 .now .now) (a .types2 .now .now) (a .cells2 .now .now) (a .k2) in
+    let e = envBelow v (a .i) in
+    let e2 = envBelow v2 (a .j) in
+    let d : Decides (c .before .agree-token .result) (Agree (w e (tokenAt (e .cells) (c .before .before .before .before .before .before .before .before .before .loop .at))) (w e2 (tokenAt (e2 .cells) (c .before .before .before .before .before .before .before .before .before .loop .at2)))) = (rw (c .before .before .before .before .before .token-at .ensures, c .before .before .token-at2 .ensures) at (c .before .agree-token .ensures)) in
+    stop fieldLists e e2 (a .r) (a .r2) (c .before .before .before .before .before .before .before .before .before .before .before .before .before .before .before .if1 .left) (c .before .before .before .before .before .before .before .before .before .loop .inv) (c .before .before .before .before .before .before .before .before .loop-test .taken) (λ b. decides-not _ (not-true _ (c .if4 .taken)) d (pair-parts _ _ _ _ b .0))
+
+returns-5 : (t : ℕ) → lts.Need-returns-5 (claims t) (agree-fields-at t) agree-fields.Post Inv-loop μ-loop
+unfolding w
+returns-5 t c =
+    let a = c .before .before .before .before .before .before .before .before .before .before .before .before .before .before .before .before .before .before .before .before .before .before .before .before .args in
+    let v = view (a .s .now .now) (a .nodes .now .now) (a .types .now .now) (a .cells .now .now) (a .k) in
+    let v2 = view (a .s2 .now .now) (a .nodes2 .now .now) (a .types2 .now .now) (a .cells2 .now .now) (a .k2) in
+    let e = envBelow v (a .i) in
+    let e2 = envBelow v2 (a .j) in
+    let q : Decides (c .before .agree-node .result) (Agree (e .node (getD (e .cells) (c .before .before .before .before .before .before .before .before .before .before .before .before .before .before .before .loop .at + 3) 0)) (e2 .node (getD (e2 .cells) (c .before .before .before .before .before .before .before .before .before .before .before .before .before .before .before .loop .at2 + 3) 0))) = (rw (c .before .before .before .before .cell .ensures, c .before .before .cell2 .ensures) at (c .before .agree-node .ensures)) in
+    stop fieldLists e e2 (a .r) (a .r2) (c .before .before .before .before .before .before .before .before .before .before .before .before .before .before .before .before .before .before .before .before .before .if1 .left) (c .before .before .before .before .before .before .before .before .before .before .before .before .before .before .before .loop .inv) (c .before .before .before .before .before .before .before .before .before .before .before .before .before .before .loop-test .taken) (λ b. decides-not _ (not-true _ (c .if5 .taken)) q (pair-parts _ _ _ _ b .1))
+
+loop-less : (t : ℕ) → lts.Need-loop-less (claims t) (agree-fields-at t) agree-fields.Post Inv-loop μ-loop
+loop-less t c = omega (arith, c .before .before .before .before .before .before .before .before .before .before .before .before .before .before .loop-test .taken)
+
+loop-again : (t : ℕ) → lts.Need-loop-again (claims t) (agree-fields-at t) agree-fields.Post Inv-loop μ-loop
+unfolding w
+loop-again t c =
+    let a = c .before .before .before .before .before .before .before .before .before .before .before .before .before .before .before .before .before .before .before .before .before .before .before .before .args in
+    let v = view (a .s .now .now) (a .nodes .now .now) (a .types .now .now) (a .cells .now .now) (a .k) in
+    let v2 = view (a .s2 .now .now) (a .nodes2 .now .now) (a .types2 .now .now) (a .cells2 .now .now) (a .k2) in
+    let e = envBelow v (a .i) in
+    let e2 = envBelow v2 (a .j) in
+    let d : Decides (c .before .before .before .before .before .before .before .agree-token .result) (Agree (w e (tokenAt (e .cells) (c .before .before .before .before .before .before .before .before .before .before .before .before .before .before .before .loop .at))) (w e2 (tokenAt (e2 .cells) (c .before .before .before .before .before .before .before .before .before .before .before .before .before .before .before .loop .at2)))) = (rw (c .before .before .before .before .before .before .before .before .before .before .before .token-at .ensures, c .before .before .before .before .before .before .before .before .token-at2 .ensures) at (c .before .before .before .before .before .before .before .agree-token .ensures)) in
+    let q : Decides (c .before .agree-node .result) (Agree (e .node (getD (e .cells) (c .before .before .before .before .before .before .before .before .before .before .before .before .before .before .before .loop .at + 3) 0)) (e2 .node (getD (e2 .cells) (c .before .before .before .before .before .before .before .before .before .before .before .before .before .before .before .loop .at2 + 3) 0))) = (rw (c .before .before .before .before .cell .ensures, c .before .before .cell2 .ensures) at (c .before .agree-node .ensures)) in
+    step fieldLists e e2 (a .r) (a .r2) (c .before .before .before .before .before .before .before .before .before .before .before .before .before .before .before .before .before .before .before .before .before .if1 .left) (c .before .before .before .before .before .before .before .before .before .before .before .before .before .before .before .loop .inv) (c .before .before .before .before .before .before .before .before .before .before .before .before .before .before .loop-test .taken) (pair-agree (d .holds (not-false _ (c .before .before .before .before .before .before .if4 .left))) (q .holds (not-false _ (c .if5 .left))))
+
+returns-6 : (t : ℕ) → lts.Need-returns-6 (claims t) (agree-fields-at t) agree-fields.Post Inv-loop μ-loop
+returns-6 t c =
+    let a = c .before .before .before .before .before .before .before .before .before .before .args in
+    let v = view (a .s .now .now) (a .nodes .now .now) (a .types .now .now) (a .cells .now .now) (a .k) in
+    let v2 = view (a .s2 .now .now) (a .nodes2 .now .now) (a .types2 .now .now) (a .cells2 .now .now) (a .k2) in
+    let e = envBelow v (a .i) in
+    let e2 = envBelow v2 (a .j) in
+    done fieldLists e e2 (a .r) (a .r2) (c .before .before .before .before .before .before .before .if1 .left) (c .before .loop .inv) (omega (arith, c .loop-test .left))
+
+pub agree-fields-meets : {M : Type 1} (t : ℕ) → lts.Closed (claims t) (agree-fields-at t) agree-fields.Post M
+agree-fields-meets t = lts.spec (claims t) (agree-fields-at t) agree-fields.Post Inv-loop μ-loop
+    (returns t)
+    (λ c. omega arith)  -- cast-at
+    (λ c. omega arith)  -- cast-at2
+    (λ c. omega arith)  -- cast-left
+    (λ c. omega arith)  -- mul-if2
+    (λ c. omega arith)  -- add-if2
+    (returns-2 t)
+    (λ c. omega arith)  -- mul-if3
+    (λ c. omega arith)  -- add-if3
+    (returns-3 t)
+    (loop-holds t)
+    (λ c κs. search needs)  -- token-at-requires
+    (λ c κs. search needs)  -- token-at-requires-2
+    (λ c κs. search needs)  -- agree-token-requires
+    (returns-4 t)
+    (λ c κs. search needs)  -- cell-requires
+    (λ c κs. search needs)  -- cell-requires-2
+    (λ c κs. (omega (arith, c .before .before .before .before .before .before .before .before .before .before .before .before .before .before .before .before .before .before .before .before .before .before .pre .0), search needs))  -- agree-node-requires
+    (returns-5 t)
+    (λ c. omega (arith, c .before .before .before .before .before .before .before .before .before .before .before .before .before .before .before .loop .inv .small, c .before .before .before .before .before .before .before .before .before .before .before .before .before .before .loop-test .taken))  -- add-at
+    (λ c. omega (arith, c .before .before .before .before .before .before .before .before .before .before .before .before .before .before .before .loop .inv .small′, c .before .before .before .before .before .before .before .before .before .before .before .before .before .before .loop-test .taken))  -- add-at2
+    (λ c. omega (arith, c .before .before .before .before .before .before .before .before .before .before .before .before .before .before .loop-test .taken))  -- sub-left
+    (loop-less t)
+    (loop-again t)
+    (returns-6 t)

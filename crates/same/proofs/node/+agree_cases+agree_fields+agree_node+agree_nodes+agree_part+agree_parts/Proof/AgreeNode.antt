@@ -1,0 +1,103 @@
+-- `agree-node` meets its contract.
+use borrow.Author.Tests.{not-true, not-false}
+use Prim.Native.Nat.{_*_, _+_, _<_}
+use lib.ListN.{getD}
+use mathlib.Core.Path.{refl, ap}
+use Rattle.same.specs.Agree.{Agree, Decides}
+use Rattle.same.specs.Shapes.{view, envBelow, nodesBelow}
+use Rattle.same.specs.Parts.{partKinds, partCells}
+use Rattle.same.proofs.Agree.{decides-not}
+use Rattle.same.proofs.Nodes.{node-past-left, node-past-right, node-zero, other-node-tag, parts-differ, no-last, last-decides, node-tag-bound, cell-small}
+use borrow.Author.Needs.{needs}
+use native.Mathlib.Omega.{arith}
+use Prim.Native.Nat.{ℕ}
+use Rattle.same.proofs.node.agree_node.Reads as agree-node
+use Rattle.same.proofs.node.+agree_cases+agree_fields+agree_node+agree_nodes+agree_part+agree_parts.Lts-agree_node as lts
+use Rattle.same.proofs.node.node_tag.Reads as node-tag-reads
+use Rattle.same.proofs.node.agree_parts.Reads as agree-parts
+use Rattle.ast.proofs.layout.cell.Reads as cell-reads
+use Rattle.same.proofs.node.+agree_cases+agree_fields+agree_node+agree_nodes+agree_part+agree_parts.Proof.Measures.{agree-node-at, agree-node-below, agree-parts-below}
+
+abbrev claims : ℕ → lts.Claims
+claims t = (node-tag-reads.Asked, node-tag-reads.Learnt, agree-parts-below t, agree-parts.Post, cell-reads.Asked, cell-reads.Learnt, agree-node-below t, agree-node.Post)
+
+returns : (t : ℕ) → lts.Need-returns (claims t) (agree-node-at t) agree-node.Post
+returns t c =
+    let a = c .before .args in
+    let v = view (a .s .now .now) (a .nodes .now .now) (a .types .now .now) (a .cells .now .now) (a .k) in
+    let v2 = view (a .s2 .now .now) (a .nodes2 .now .now) (a .types2 .now .now) (a .cells2 .now .now) (a .k2) in
+    node-past-left v v2 (a .n) (a .i) (a .m) (a .j) (c .if1 .taken)
+
+returns-2 : (t : ℕ) → lts.Need-returns-2 (claims t) (agree-node-at t) agree-node.Post
+returns-2 t c =
+    let a = c .before .before .args in
+    let v = view (a .s .now .now) (a .nodes .now .now) (a .types .now .now) (a .cells .now .now) (a .k) in
+    let v2 = view (a .s2 .now .now) (a .nodes2 .now .now) (a .types2 .now .now) (a .cells2 .now .now) (a .k2) in
+    node-past-right v v2 (a .n) (a .i) (a .m) (a .j) (c .if2 .taken)
+
+returns-3 : (t : ℕ) → lts.Need-returns-3 (claims t) (agree-node-at t) agree-node.Post
+returns-3 t c =
+    let a = c .before .before .before .before .before .args in
+    let v = view (a .s .now .now) (a .nodes .now .now) (a .types .now .now) (a .cells .now .now) (a .k) in
+    let v2 = view (a .s2 .now .now) (a .nodes2 .now .now) (a .types2 .now .now) (a .cells2 .now .now) (a .k2) in
+    node-zero v v2 (a .n) (a .i) (a .m) (a .j) (c .before .before .before .before .if1 .left) (c .before .node-tag .ensures) (c .if3 .taken)
+
+returns-4 : (t : ℕ) → lts.Need-returns-4 (claims t) (agree-node-at t) agree-node.Post
+returns-4 t c =
+    let a = c .before .before .before .before .before .before .before .before .args in
+    let v = view (a .s .now .now) (a .nodes .now .now) (a .types .now .now) (a .cells .now .now) (a .k) in
+    let v2 = view (a .s2 .now .now) (a .nodes2 .now .now) (a .types2 .now .now) (a .cells2 .now .now) (a .k2) in
+    other-node-tag v v2 (a .n) (a .i) (a .m) (a .j) (c .before .before .before .before .before .before .before .if1 .left) (c .before .before .before .before .before .before .if2 .left) (c .before .before .before .before .node-tag .ensures) (c .before .node-tag2 .ensures) (c .if4 .taken)
+
+returns-5 : (t : ℕ) → lts.Need-returns-5 (claims t) (agree-node-at t) agree-node.Post
+returns-5 t c =
+    let a = c .before .before .before .before .before .before .before .before .before .before .args in
+    let v = view (a .s .now .now) (a .nodes .now .now) (a .types .now .now) (a .cells .now .now) (a .k) in
+    let v2 = view (a .s2 .now .now) (a .nodes2 .now .now) (a .types2 .now .now) (a .cells2 .now .now) (a .k2) in
+    parts-differ v v2 (a .n) (a .i) (a .m) (a .j) (c .before .before .before .before .before .before .before .before .before .if1 .left) (c .before .before .before .before .before .before .before .before .if2 .left) (c .before .before .before .before .before .before .node-tag .ensures) (c .before .before .before .node-tag2 .ensures) (c .before .before .if4 .left) (c .before .before .before .before .before .if3 .left) (decides-not _ (not-true _ (c .if5 .taken)) (c .before .agree-parts .ensures))
+
+returns-6 : (t : ℕ) → lts.Need-returns-6 (claims t) (agree-node-at t) agree-node.Post
+unfolding partKinds
+returns-6 t c =
+    let a = c .before .before .before .before .before .before .before .before .before .before .before .args in
+    let v = view (a .s .now .now) (a .nodes .now .now) (a .types .now .now) (a .cells .now .now) (a .k) in
+    let v2 = view (a .s2 .now .now) (a .nodes2 .now .now) (a .types2 .now .now) (a .cells2 .now .now) (a .k2) in
+    no-last v v2 (a .n) (a .i) (a .m) (a .j) (c .before .before .before .before .before .before .before .before .before .before .if1 .left) (c .before .before .before .before .before .before .before .before .before .if2 .left) (c .before .before .before .before .before .before .before .node-tag .ensures) (c .before .before .before .before .node-tag2 .ensures) (c .before .before .before .if4 .left) (c .before .before .before .before .before .before .if3 .left) (c .before .before .agree-parts .ensures .holds (not-false _ (c .before .if5 .left))) (c .if6 .taken)
+
+returns-7 : (t : ℕ) → lts.Need-returns-7 (claims t) (agree-node-at t) agree-node.Post
+unfolding partKinds partCells
+returns-7 t c =
+    let a = c .before .before .before .before .before .before .before .before .before .before .before .before .before .before .before .before .args in
+    let v = view (a .s .now .now) (a .nodes .now .now) (a .types .now .now) (a .cells .now .now) (a .k) in
+    let v2 = view (a .s2 .now .now) (a .nodes2 .now .now) (a .types2 .now .now) (a .cells2 .now .now) (a .k2) in
+    last-decides v v2 (a .n) (a .i) (a .m) (a .j) (c .before .before .before .before .before .before .before .before .before .before .before .before .before .before .before .if1 .left) (c .before .before .before .before .before .before .before .before .before .before .before .before .before .before .if2 .left) (c .before .before .before .before .before .before .before .before .before .before .before .before .node-tag .ensures) (c .before .before .before .before .before .before .before .before .before .node-tag2 .ensures) (c .before .before .before .before .before .before .before .before .if4 .left) (c .before .before .before .before .before .before .before .before .before .before .before .if3 .left) (c .before .before .before .before .before .before .before .agree-parts .ensures .holds (not-false _ (c .before .before .before .before .before .before .if5 .left))) (c .before .before .before .before .before .if6 .left) (rw (c .before .before .before .cell .ensures, c .before .cell2 .ensures) at (c .agree-node .ensures))
+
+cast-o : (t : ℕ) → lts.Need-cast-o (claims t) (agree-node-at t) agree-node.Post
+unfolding partCells
+cast-o t c = omega (arith, cell-small (6 * c .before .before .before .before .before .before .before .node-tag .result + 5))
+
+pub agree-node-meets : {M : Type 1} (t : ℕ) → lts.Closed (claims t) (agree-node-at t) agree-node.Post M
+agree-node-meets t = lts.spec (claims t) (agree-node-at t) agree-node.Post
+    (returns t)
+    (returns-2 t)
+    (λ c κs. search needs)  -- node-tag-requires
+    (returns-3 t)
+    (λ c κs. search needs)  -- node-tag-requires-2
+    (returns-4 t)
+    (λ c κs. (omega (arith, c .before .before .before .before .before .before .before .before .pre .0, c .before .before .before .before .before .before .before .if1 .left), node-tag-bound _ _ (c .before .before .before .before .node-tag .ensures)))  -- agree-parts-requires
+    (returns-5 t)
+    (λ c. search needs)  -- cast-last
+    (λ c. omega (arith, node-tag-bound _ _ (c .before .before .before .before .before .before .node-tag .ensures)))  -- mul-last
+    (λ c. omega (arith, node-tag-bound _ _ (c .before .before .before .before .before .before .node-tag .ensures)))  -- add-last
+    (λ c. omega (arith, node-tag-bound _ _ (c .before .before .before .before .before .before .node-tag .ensures)))  -- mul-if6
+    (λ c. omega (arith, node-tag-bound _ _ (c .before .before .before .before .before .before .node-tag .ensures)))  -- array-read-if6
+    (returns-6 t)
+    (λ c. omega (arith, node-tag-bound _ _ (c .before .before .before .before .before .before .before .node-tag .ensures)))  -- mul-o
+    (λ c. omega (arith, node-tag-bound _ _ (c .before .before .before .before .before .before .before .node-tag .ensures)))  -- array-read-o
+    (cast-o t)
+    (λ c. omega (arith, c .before .before .before .before .before .before .before .before .before .before .before .before .fits .i))  -- mul-cell
+    (λ c κs. search needs)  -- cell-requires
+    (λ c. omega (arith, c .before .before .before .before .before .before .before .before .before .before .before .before .before .before .fits .j))  -- mul-cell-2
+    (λ c κs. search needs)  -- cell-requires-2
+    (λ c κs. (omega (arith, c .before .before .before .before .before .before .before .before .before .before .before .before .before .before .before .pre .0, c .before .before .before .before .before .before .before .before .before .before .before .before .before .before .if1 .left), search needs))  -- agree-node-requires
+    (returns-7 t)

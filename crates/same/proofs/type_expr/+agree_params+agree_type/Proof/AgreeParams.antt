@@ -1,0 +1,108 @@
+-- `agree-params` meets its contract.
+use borrow.Author.Tests.{not-true, not-false}
+use Prim.Native.Nat.{_*_, _+_}
+use lib.ListN.{getD}
+use Rattle.rules.specs.Shape.{w}
+use Rattle.ast.specs.Decode.{tokenAt}
+use Rattle.same.specs.Agree.{Agree, Decides}
+use Rattle.same.specs.Shapes.{typesBelow, typeEnv}
+use Rattle.same.proofs.Agree.{decides-not}
+use Rattle.same.proofs.Walk.{pair-agree, pair-parts}
+use Rattle.same.proofs.Listing.{paramLists, Walking, begin, other-length, outside-left, outside-right, step, stop, done}
+use borrow.Author.Needs.{needs}
+use native.Mathlib.Omega.{arith}
+use Prim.Native.Nat.{ℕ}
+use Rattle.same.proofs.type_expr.agree_params.Reads as agree-params
+use Rattle.same.proofs.type_expr.+agree_params+agree_type.Lts-agree_params as lts
+use Rattle.ast.proofs.layout.token_at.Reads as token-at-reads
+use Rattle.same.proofs.word.agree_token.Reads as agree-token-reads
+use Rattle.ast.proofs.layout.cell.Reads as cell-reads
+use Rattle.same.proofs.type_expr.agree_type.Reads as agree-type
+use Rattle.same.proofs.type_expr.+agree_params+agree_type.Proof.Measures.{agree-params-at, agree-type-below}
+
+abbrev claims : ℕ → lts.Claims
+claims t = (token-at-reads.Asked, token-at-reads.Learnt, agree-token-reads.Asked, agree-token-reads.Learnt, cell-reads.Asked, cell-reads.Learnt, agree-type-below t, agree-type.Post)
+
+abbrev Inv-loop : lts.InvT-loop
+Inv-loop s types cells n s2 types2 cells2 m at₀ at2₀ left₀ at at2 left = Walking paramLists (typeEnv (s .now) (cells .now) (types .now) n) (typeEnv (s2 .now) (cells2 .now) (types2 .now) m) at₀ at2₀ left₀ at at2 left
+
+abbrev μ-loop : lts.MeasureT-loop
+μ-loop s types cells n s2 types2 cells2 m at₀ at2₀ left₀ at at2 left = left
+
+returns : (t : ℕ) → lts.Need-returns (claims t) (agree-params-at t) agree-params.Post Inv-loop μ-loop
+returns t c =
+    let a = c .before .before .before .args in
+    other-length paramLists (typeEnv (a .s .now .now) (a .cells .now .now) (a .types .now .now) (a .n)) (typeEnv (a .s2 .now .now) (a .cells2 .now .now) (a .types2 .now .now) (a .m)) (a .r) (a .r2) (c .if1 .taken)
+
+returns-2 : (t : ℕ) → lts.Need-returns-2 (claims t) (agree-params-at t) agree-params.Post Inv-loop μ-loop
+returns-2 t c =
+    let a = c .before .before .before .before .before .before .before .args in
+    outside-left paramLists (typeEnv (a .s .now .now) (a .cells .now .now) (a .types .now .now) (a .n)) (typeEnv (a .s2 .now .now) (a .cells2 .now .now) (a .types2 .now .now) (a .m)) (a .r) (a .r2) (c .if2 .taken)
+
+returns-3 : (t : ℕ) → lts.Need-returns-3 (claims t) (agree-params-at t) agree-params.Post Inv-loop μ-loop
+returns-3 t c =
+    let a = c .before .before .before .before .before .before .before .before .args in
+    outside-right paramLists (typeEnv (a .s .now .now) (a .cells .now .now) (a .types .now .now) (a .n)) (typeEnv (a .s2 .now .now) (a .cells2 .now .now) (a .types2 .now .now) (a .m)) (a .r) (a .r2) (c .before .before .before .before .before .if1 .left) (c .if3 .taken)
+
+loop-holds : (t : ℕ) → lts.Need-loop-holds (claims t) (agree-params-at t) agree-params.Post Inv-loop μ-loop
+loop-holds t c =
+    let a = c .before .before .before .before .before .before .before .before .args in
+    begin paramLists (typeEnv (a .s .now .now) (a .cells .now .now) (a .types .now .now) (a .n)) (typeEnv (a .s2 .now .now) (a .cells2 .now .now) (a .types2 .now .now) (a .m)) _ _ _ (c .before .if2 .left) (c .if3 .left) (omega arith) (omega arith)
+
+returns-4 : (t : ℕ) → lts.Need-returns-4 (claims t) (agree-params-at t) agree-params.Post Inv-loop μ-loop
+unfolding w
+returns-4 t c =
+    let a = c .before .before .before .before .before .before .before .before .before .before .before .before .before .before .before .before .before .before .args in
+    let d : Decides (c .before .agree-token .result) (Agree (w (typeEnv (a .s .now .now) (a .cells .now .now) (a .types .now .now) (a .n)) (tokenAt (a .cells .now .now) (c .before .before .before .before .before .before .before .before .before .loop .at))) (w (typeEnv (a .s2 .now .now) (a .cells2 .now .now) (a .types2 .now .now) (a .m)) (tokenAt (a .cells2 .now .now) (c .before .before .before .before .before .before .before .before .before .loop .at2)))) = (rw (c .before .before .before .before .before .token-at .ensures, c .before .before .token-at2 .ensures) at (c .before .agree-token .ensures)) in
+    stop paramLists (typeEnv (a .s .now .now) (a .cells .now .now) (a .types .now .now) (a .n)) (typeEnv (a .s2 .now .now) (a .cells2 .now .now) (a .types2 .now .now) (a .m)) (a .r) (a .r2) (c .before .before .before .before .before .before .before .before .before .before .before .before .before .before .before .if1 .left) (c .before .before .before .before .before .before .before .before .before .loop .inv) (c .before .before .before .before .before .before .before .before .loop-test .taken) (λ b. decides-not _ (not-true _ (c .if4 .taken)) d (pair-parts _ _ _ _ b .0))
+
+returns-5 : (t : ℕ) → lts.Need-returns-5 (claims t) (agree-params-at t) agree-params.Post Inv-loop μ-loop
+unfolding w
+returns-5 t c =
+    let a = c .before .before .before .before .before .before .before .before .before .before .before .before .before .before .before .before .before .before .before .before .before .before .before .before .args in
+    let q : Decides (c .before .agree-type .result) (Agree (typesBelow (a .s .now .now) (a .cells .now .now) (a .types .now .now) (a .n) (getD (a .cells .now .now) (c .before .before .before .before .before .before .before .before .before .before .before .before .before .before .before .loop .at + 3) 0)) (typesBelow (a .s2 .now .now) (a .cells2 .now .now) (a .types2 .now .now) (a .m) (getD (a .cells2 .now .now) (c .before .before .before .before .before .before .before .before .before .before .before .before .before .before .before .loop .at2 + 3) 0))) = (rw (c .before .before .before .before .cell .ensures, c .before .before .cell2 .ensures) at (c .before .agree-type .ensures)) in
+    stop paramLists (typeEnv (a .s .now .now) (a .cells .now .now) (a .types .now .now) (a .n)) (typeEnv (a .s2 .now .now) (a .cells2 .now .now) (a .types2 .now .now) (a .m)) (a .r) (a .r2) (c .before .before .before .before .before .before .before .before .before .before .before .before .before .before .before .before .before .before .before .before .before .if1 .left) (c .before .before .before .before .before .before .before .before .before .before .before .before .before .before .before .loop .inv) (c .before .before .before .before .before .before .before .before .before .before .before .before .before .before .loop-test .taken) (λ b. decides-not _ (not-true _ (c .if5 .taken)) q (pair-parts _ _ _ _ b .1))
+
+loop-less : (t : ℕ) → lts.Need-loop-less (claims t) (agree-params-at t) agree-params.Post Inv-loop μ-loop
+loop-less t c = omega arith
+
+loop-again : (t : ℕ) → lts.Need-loop-again (claims t) (agree-params-at t) agree-params.Post Inv-loop μ-loop
+unfolding w
+loop-again t c =
+    let a = c .before .before .before .before .before .before .before .before .before .before .before .before .before .before .before .before .before .before .before .before .before .before .before .before .args in
+    let d : Decides (c .before .before .before .before .before .before .before .agree-token .result) (Agree (w (typeEnv (a .s .now .now) (a .cells .now .now) (a .types .now .now) (a .n)) (tokenAt (a .cells .now .now) (c .before .before .before .before .before .before .before .before .before .before .before .before .before .before .before .loop .at))) (w (typeEnv (a .s2 .now .now) (a .cells2 .now .now) (a .types2 .now .now) (a .m)) (tokenAt (a .cells2 .now .now) (c .before .before .before .before .before .before .before .before .before .before .before .before .before .before .before .loop .at2)))) = (rw (c .before .before .before .before .before .before .before .before .before .before .before .token-at .ensures, c .before .before .before .before .before .before .before .before .token-at2 .ensures) at (c .before .before .before .before .before .before .before .agree-token .ensures)) in
+    let q : Decides (c .before .agree-type .result) (Agree (typesBelow (a .s .now .now) (a .cells .now .now) (a .types .now .now) (a .n) (getD (a .cells .now .now) (c .before .before .before .before .before .before .before .before .before .before .before .before .before .before .before .loop .at + 3) 0)) (typesBelow (a .s2 .now .now) (a .cells2 .now .now) (a .types2 .now .now) (a .m) (getD (a .cells2 .now .now) (c .before .before .before .before .before .before .before .before .before .before .before .before .before .before .before .loop .at2 + 3) 0))) = (rw (c .before .before .before .before .cell .ensures, c .before .before .cell2 .ensures) at (c .before .agree-type .ensures)) in
+    step paramLists (typeEnv (a .s .now .now) (a .cells .now .now) (a .types .now .now) (a .n)) (typeEnv (a .s2 .now .now) (a .cells2 .now .now) (a .types2 .now .now) (a .m)) (a .r) (a .r2) (c .before .before .before .before .before .before .before .before .before .before .before .before .before .before .before .before .before .before .before .before .before .if1 .left) (c .before .before .before .before .before .before .before .before .before .before .before .before .before .before .before .loop .inv) (c .before .before .before .before .before .before .before .before .before .before .before .before .before .before .loop-test .taken) (pair-agree (d .holds (not-false _ (c .before .before .before .before .before .before .if4 .left))) (q .holds (not-false _ (c .if5 .left))))
+
+returns-6 : (t : ℕ) → lts.Need-returns-6 (claims t) (agree-params-at t) agree-params.Post Inv-loop μ-loop
+returns-6 t c =
+    let a = c .before .before .before .before .before .before .before .before .before .before .args in
+    done paramLists (typeEnv (a .s .now .now) (a .cells .now .now) (a .types .now .now) (a .n)) (typeEnv (a .s2 .now .now) (a .cells2 .now .now) (a .types2 .now .now) (a .m)) (a .r) (a .r2) (c .before .before .before .before .before .before .before .if1 .left) (c .before .loop .inv) (omega arith)
+
+pub agree-params-meets : {M : Type 1} (t : ℕ) → lts.Closed (claims t) (agree-params-at t) agree-params.Post M
+agree-params-meets t = lts.spec (claims t) (agree-params-at t) agree-params.Post Inv-loop μ-loop
+    (returns t)
+    (λ c. omega arith)  -- cast-at
+    (λ c. omega arith)  -- cast-at2
+    (λ c. omega arith)  -- cast-left
+    (λ c. omega arith)  -- mul-if2
+    (λ c. omega arith)  -- add-if2
+    (returns-2 t)
+    (λ c. omega arith)  -- mul-if3
+    (λ c. omega arith)  -- add-if3
+    (returns-3 t)
+    (loop-holds t)
+    (λ c κs. search needs)  -- token-at-requires
+    (λ c κs. search needs)  -- token-at-requires-2
+    (λ c κs. search needs)  -- agree-token-requires
+    (returns-4 t)
+    (λ c κs. search needs)  -- cell-requires
+    (λ c κs. search needs)  -- cell-requires-2
+    (λ c κs. (omega (arith, c .before .before .before .before .before .before .before .before .before .before .before .before .before .before .before .before .before .before .before .before .before .before .pre .0), search needs))  -- agree-type-requires
+    (returns-5 t)
+    (λ c. omega (arith, c .before .before .before .before .before .before .before .before .before .before .before .before .before .before .before .loop .inv .small))  -- add-at
+    (λ c. omega (arith, c .before .before .before .before .before .before .before .before .before .before .before .before .before .before .before .loop .inv .small′))  -- add-at2
+    (λ c. omega arith)  -- sub-left
+    (loop-less t)
+    (loop-again t)
+    (returns-6 t)

@@ -1,0 +1,5 @@
+-- Same shape of two trees in lent arrays.
+pub mod Shapes
+pub mod Agree
+pub mod Parts
+pub mod Compare

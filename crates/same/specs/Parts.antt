@@ -1,0 +1,100 @@
+-- The parts of a node's record, in the order in which they are compared: what each is, and in which cell it stands.
+use mathlib.Core.Bool.{true, false}
+use mathlib.Core.Option.{Option, some}
+use mathlib.Core.List.{List, [], _∷_}
+use Prim.Native.Nat.{ℕ, _+_, _*_}
+use lib.Dec.{eqb}
+use lib.ListN.{getD}
+use Rattle.rules.specs.Shape.{Word, TypeShape, Params, FnShape, Shape, Shapes, FieldShapes, CaseShapes, Env, w, words, params, shapes, fields, cases, fns}
+use Rattle.ast.specs.Decode.{if, tokenAt, runAt}
+use Rattle.same.specs.Agree.{Agree}
+
+pub data Part : Type 0 where
+  nothing : Part
+  aWord : Part
+  someWords : Part
+  someParams : Part
+  aType : Part
+  someFns : Part
+  someNodes : Part
+  someFields : Part
+  someCases : Part
+  aNode : Part
+
+-- what a part says
+abbrev pub Value : Part → Type 0
+Value nothing = ℕ
+Value aWord = Word
+Value someWords = List Word
+Value someParams = Params
+Value aType = TypeShape
+Value someFns = List FnShape
+Value someNodes = Shapes
+Value someFields = FieldShapes
+Value someCases = CaseShapes
+Value aNode = Shape
+
+-- a part that stands in cell `o`
+abbrev pub read : Env → (p : Part) → List ℕ → ℕ → Option (Value p)
+read e nothing xs o = some 0
+read e aWord xs o = w e (tokenAt xs o)
+read e someWords xs o = words e (runAt xs o)
+read e someParams xs o = params e (runAt xs o)
+read e aType xs o = e .type (getD xs o 0)
+read e someFns xs o = fns e (runAt xs o)
+read e someNodes xs o = shapes e (runAt xs o)
+read e someFields xs o = fields e (runAt xs o)
+read e someCases xs o = cases e (runAt xs o)
+read e aNode xs o = e .node (getD xs o 0)
+
+-- two parts of one sort agree
+unfoldable pub PartAgrees : Env → Env → Part → List ℕ → ℕ → List ℕ → ℕ → Type 0
+PartAgrees e e′ p xs o xs′ o′ = Agree (read e p xs o) (read e′ p xs′ o′)
+
+-- the sorts by number
+unfoldable pub partOf : ℕ → Part
+partOf k =
+    if (eqb k 1) aWord (if (eqb k 2) someWords (if (eqb k 3) someParams (if (eqb k 4) aType (if (eqb k 5) someFns
+    (if (eqb k 6) someNodes (if (eqb k 7) someFields (if (eqb k 8) someCases (if (eqb k 9) aNode nothing))))))))
+
+-- six parts for each tag from 0 on, the last being the child that is compared last
+unfoldable pub partKinds : List ℕ
+partKinds =
+    0 ∷ 0 ∷ 0 ∷ 0 ∷ 0 ∷ 0 ∷
+    1 ∷ 0 ∷ 0 ∷ 0 ∷ 0 ∷ 0 ∷
+    1 ∷ 0 ∷ 0 ∷ 0 ∷ 0 ∷ 0 ∷
+    1 ∷ 9 ∷ 0 ∷ 0 ∷ 0 ∷ 9 ∷
+    1 ∷ 0 ∷ 0 ∷ 0 ∷ 0 ∷ 9 ∷
+    2 ∷ 1 ∷ 0 ∷ 0 ∷ 0 ∷ 9 ∷
+    2 ∷ 1 ∷ 3 ∷ 4 ∷ 6 ∷ 0 ∷
+    8 ∷ 1 ∷ 6 ∷ 0 ∷ 0 ∷ 0 ∷
+    6 ∷ 0 ∷ 0 ∷ 0 ∷ 0 ∷ 9 ∷
+    1 ∷ 0 ∷ 0 ∷ 0 ∷ 0 ∷ 9 ∷
+    1 ∷ 4 ∷ 0 ∷ 0 ∷ 0 ∷ 9 ∷
+    1 ∷ 2 ∷ 0 ∷ 0 ∷ 0 ∷ 0 ∷
+    1 ∷ 2 ∷ 1 ∷ 5 ∷ 0 ∷ 0 ∷
+    1 ∷ 7 ∷ 0 ∷ 0 ∷ 0 ∷ 0 ∷
+    1 ∷ 6 ∷ 0 ∷ 0 ∷ 0 ∷ 0 ∷ []
+
+-- the cell of each
+unfoldable pub partCells : List ℕ
+partCells =
+    0 ∷ 0 ∷ 0 ∷ 0 ∷ 0 ∷ 0 ∷
+    2 ∷ 0 ∷ 0 ∷ 0 ∷ 0 ∷ 0 ∷
+    2 ∷ 0 ∷ 0 ∷ 0 ∷ 0 ∷ 0 ∷
+    2 ∷ 6 ∷ 0 ∷ 0 ∷ 0 ∷ 5 ∷
+    2 ∷ 0 ∷ 0 ∷ 0 ∷ 0 ∷ 5 ∷
+    2 ∷ 4 ∷ 0 ∷ 0 ∷ 0 ∷ 7 ∷
+    2 ∷ 4 ∷ 7 ∷ 9 ∷ 10 ∷ 0 ∷
+    2 ∷ 4 ∷ 7 ∷ 0 ∷ 0 ∷ 0 ∷
+    3 ∷ 0 ∷ 0 ∷ 0 ∷ 0 ∷ 2 ∷
+    3 ∷ 0 ∷ 0 ∷ 0 ∷ 0 ∷ 2 ∷
+    2 ∷ 6 ∷ 0 ∷ 0 ∷ 0 ∷ 5 ∷
+    2 ∷ 5 ∷ 0 ∷ 0 ∷ 0 ∷ 0 ∷
+    2 ∷ 5 ∷ 7 ∷ 10 ∷ 0 ∷ 0 ∷
+    2 ∷ 5 ∷ 0 ∷ 0 ∷ 0 ∷ 0 ∷
+    2 ∷ 5 ∷ 0 ∷ 0 ∷ 0 ∷ 0 ∷ []
+
+-- part `k` of two records of one tag, from the cells `p` and `p′` on
+unfoldable pub PartsAgree : Env → Env → ℕ → List ℕ → ℕ → List ℕ → ℕ → ℕ → Type 0
+PartsAgree e e′ tag xs p xs′ p′ k = PartAgrees e e′ (partOf (getD partKinds (6 * tag + k) 0)) xs (p + getD partCells (6 * tag + k) 0) xs′ (p′ + getD partCells (6 * tag + k) 0)

@@ -1,0 +1,242 @@
+// When two types, or two lists of arguments or of fns, agree. The number of a type falls from call to call.
+use crate::word::agree_token;
+use crate::word::agree_words;
+use ast::layout::cell;
+use ast::layout::run_at;
+use ast::layout::token_at;
+use rules::Run;
+ghost use mathlib.Core.Path.{_≡_};
+ghost use Rattle.rules.specs.Shape.{params, fns};
+ghost use Rattle.same.specs.Agree.{Agree, Decides};
+ghost use Rattle.same.specs.Shapes.{typesBelow, typeEnv, typeTag};
+
+// The tag of a type's record; 0 where it lies outside or its tag is unknown.
+fn type_tag(types: &[u32], i: u32) -> u32
+    ensures { λ r. ⌜ r ≡ typeTag (now (types .entry)) i ⌝ }
+{
+    let at = 8 * i as usize;
+    if at + 8 <= types.len() {
+        let tag = cell(types, at, 0);
+        if tag <= 5 {
+            return tag;
+        }
+    }
+    0
+}
+
+// Type `i`, below `n`, and type `j`, below `m`. The last call is the last thing done, and passes nothing that lies in this function's
+// frame, so that a long chain takes no stack.
+pub fn agree_type(
+    s: &&[u8],
+    types: &&[u32],
+    cells: &&[u32],
+    n: u32,
+    i: u32,
+    s2: &&[u8],
+    types2: &&[u32],
+    cells2: &&[u32],
+    m: u32,
+    j: u32,
+) -> bool
+    ensures { λ r. ⌜ Decides r (Agree (typesBelow (now (now (s .entry))) (now (now (cells .entry))) (now (now (types .entry))) n i) (typesBelow (now (now (s2 .entry))) (now (now (cells2 .entry))) (now (now (types2 .entry))) m j)) ⌝ }
+{
+    if n <= i {
+        return false;
+    }
+    if m <= j {
+        return false;
+    }
+    let tag = type_tag(*types, i);
+    if tag == 0 {
+        return false;
+    }
+    if tag != type_tag(*types2, j) {
+        return false;
+    }
+    let at = 8 * i as usize;
+    let at2 = 8 * j as usize;
+    if tag == 3 {
+        return agree_type(
+            s,
+            types,
+            cells,
+            i,
+            cell(*types, at, 1),
+            s2,
+            types2,
+            cells2,
+            j,
+            cell(*types2, at2, 1),
+        );
+    }
+    if tag == 4 {
+        return agree_type(
+            s,
+            types,
+            cells,
+            i,
+            cell(*types, at, 1),
+            s2,
+            types2,
+            cells2,
+            j,
+            cell(*types2, at2, 1),
+        );
+    }
+    if !agree_token(
+        *s,
+        token_at(*types, at + 1),
+        *s2,
+        token_at(*types2, at2 + 1),
+    ) {
+        return false;
+    }
+    if tag != 5 {
+        return true;
+    }
+    agree_params(
+        s,
+        types,
+        cells,
+        i,
+        run_at(*types, at + 4),
+        s2,
+        types2,
+        cells2,
+        j,
+        run_at(*types2, at2 + 4),
+    )
+}
+
+// Names with their types, those below `n` and `m`.
+pub fn agree_params(
+    s: &&[u8],
+    types: &&[u32],
+    cells: &&[u32],
+    n: u32,
+    r: Run,
+    s2: &&[u8],
+    types2: &&[u32],
+    cells2: &&[u32],
+    m: u32,
+    r2: Run,
+) -> bool
+    ensures { λ b. ⌜ Decides b (Agree (params (typeEnv (now (now (s .entry))) (now (now (cells .entry))) (now (now (types .entry))) n) r) (params (typeEnv (now (now (s2 .entry))) (now (now (cells2 .entry))) (now (now (types2 .entry))) m) r2)) ⌝ }
+{
+    if r.len != r2.len {
+        return false;
+    }
+    let mut at = r.start as usize;
+    let mut at2 = r2.start as usize;
+    let mut left = r.len as usize;
+    if cells.len() < at + left * 4 {
+        return false;
+    }
+    if cells2.len() < at2 + left * 4 {
+        return false;
+    }
+    while 0 < left {
+        if !agree_token(*s, token_at(*cells, at), *s2, token_at(*cells2, at2)) {
+            return false;
+        }
+        if !agree_type(
+            s,
+            types,
+            cells,
+            n,
+            cell(*cells, at, 3),
+            s2,
+            types2,
+            cells2,
+            m,
+            cell(*cells2, at2, 3),
+        ) {
+            return false;
+        }
+        at += 4;
+        at2 += 4;
+        left -= 1;
+    }
+    true
+}
+
+// The fns of two externs.
+pub fn agree_fns(
+    s: &&[u8],
+    types: &&[u32],
+    cells: &&[u32],
+    n: u32,
+    r: Run,
+    s2: &&[u8],
+    types2: &&[u32],
+    cells2: &&[u32],
+    m: u32,
+    r2: Run,
+) -> bool
+    ensures { λ b. ⌜ Decides b (Agree (fns (typeEnv (now (now (s .entry))) (now (now (cells .entry))) (now (now (types .entry))) n) r) (fns (typeEnv (now (now (s2 .entry))) (now (now (cells2 .entry))) (now (now (types2 .entry))) m) r2)) ⌝ }
+{
+    if r.len != r2.len {
+        return false;
+    }
+    let mut at = r.start as usize;
+    let mut at2 = r2.start as usize;
+    let mut left = r.len as usize;
+    if cells.len() < at + left * 8 {
+        return false;
+    }
+    if cells2.len() < at2 + left * 8 {
+        return false;
+    }
+    while 0 < left {
+        if !agree_words(
+            *s,
+            *cells,
+            run_at(*cells, at),
+            *s2,
+            *cells2,
+            run_at(*cells2, at2),
+        ) {
+            return false;
+        }
+        if !agree_token(
+            *s,
+            token_at(*cells, at + 2),
+            *s2,
+            token_at(*cells2, at2 + 2),
+        ) {
+            return false;
+        }
+        if !agree_params(
+            s,
+            types,
+            cells,
+            n,
+            run_at(*cells, at + 5),
+            s2,
+            types2,
+            cells2,
+            m,
+            run_at(*cells2, at2 + 5),
+        ) {
+            return false;
+        }
+        if !agree_type(
+            s,
+            types,
+            cells,
+            n,
+            cell(*cells, at, 7),
+            s2,
+            types2,
+            cells2,
+            m,
+            cell(*cells2, at2, 7),
+        ) {
+            return false;
+        }
+        at += 8;
+        at2 += 8;
+        left -= 1;
+    }
+    true
+}
