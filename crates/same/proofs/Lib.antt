@@ -9,3 +9,4 @@ mod Types
 mod Nodes
 mod Roots
 pub mod Compare
+pub mod Held

@@ -3,3 +3,4 @@ pub mod Shapes
 pub mod Agree
 pub mod Parts
 pub mod Compare
+pub mod Returned

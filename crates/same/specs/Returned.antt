@@ -1,0 +1,26 @@
+-- What a strict reading returns, as it is lent to a comparison; and what the comparison of two such trees answers.
+use mathlib.Core.Path.{_≡_}
+use mathlib.Core.Bool.{Bool, true, false}
+use mathlib.Core.List.{List}
+use Prim.Native.Nat.{ℕ}
+use Rattle.rules.specs.Rules.{stageOne}
+use Rattle.rules.specs.Parse.{Reading, parse}
+use Rattle.rules.specs.Tree.{Tree}
+use Rattle.rules.specs.Promise.{Arrays, promised}
+use Rattle.rules.specs.Shape.{shapeOf}
+use Rattle.rules.specs.declared.Counts.{Counts}
+use Rattle.rules.specs.declared.Parsed.the-variants as P
+use Rattle.ast.specs.Answer.{Answer, answer, Lent, lent}
+
+-- the script with the arrays as a reading leaves them, and its counts
+abbrev pub returned : List ℕ → Arrays → Counts → Lent
+returned script l c = let o = promised (parse stageOne) script l .arrays in lent script (o .nodes) (o .types) (o .lists) (o .roots) c
+
+-- a strict reading of the script into these arrays returns a tree, with these counts
+abbrev pub Returns : List ℕ → Arrays → Counts → Type 0
+Returns script l c = promised (parse stageOne) script l .answer ≡ P.Tree c
+
+-- yes where the shapes of the two trees are the same, else no
+pub data YesOrNo (s₁ : List ℕ) (t₁ : Tree) (s₂ : List ℕ) (t₂ : Tree) : Answer Bool → Type 0 where
+  yes : shapeOf s₁ t₁ ≡ shapeOf s₂ t₂ → YesOrNo s₁ t₁ s₂ t₂ (answer true)
+  no : (shapeOf s₁ t₁ ≡ shapeOf s₂ t₂ → ⊥) → YesOrNo s₁ t₁ s₂ t₂ (answer false)
