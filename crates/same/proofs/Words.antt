@@ -10,7 +10,8 @@ use lib.Dec.{leb, eqb}
 use lib.ListN.{length, getD, take, drop}
 use borrow.Author.Tests.{le-leb, lt-leb, leb-true, eq-eqb, eqb-true}
 use Rattle.lex.specs.Kind.{sameBytes}
-use Rattle.rules.specs.Shape.{Word, hasSpelling, spellingStart, wordOf, wellFormed, word}
+use Rattle.lex.specs.Spelling.{hasSpelling, spellingStart}
+use Rattle.rules.specs.Shape.{Word, wordOf, wellFormed, word}
 use Rattle.lex.specs.declared.tok.Token.{Token}
 use Rattle.ast.specs.Decode.{if}
 use Rattle.ast.proofs.Tokens.{wellFormed-spelled, hasSpelling-below, hasSpelling-above, hasSpelling-inside}

@@ -4,7 +4,7 @@ use ast::lookup::spelling_offset;
 use ast::lookup::well_formed;
 use lex::Token;
 use lex::Type;
-use lex::same;
+use lex::same_bytes;
 use rules::Run;
 ghost use mathlib.Core.Path.{_≡_};
 ghost use mathlib.Core.Bool.{true};
@@ -27,7 +27,7 @@ fn agree_spelling(s: &[u8], t: Token, s2: &[u8], t2: Token) -> bool
     let a_end = a + t.len;
     let b = t2.start + spelling_offset(s2, t2);
     let b_end = b + t2.len;
-    same(&s[a..a_end], &s2[b..b_end])
+    same_bytes(&s[a..a_end], &s2[b..b_end])
 }
 
 pub fn agree_token(s: &[u8], t: Token, s2: &[u8], t2: Token) -> bool
