@@ -90,16 +90,16 @@ unwanted-when true f p q = absurd (true≢false refl q)
 unwanted-when false f p q = not-false f p
 
 module _ (p : Parser) (stop : ℕ) where
-  wanted-going : wanted p stop ≡ true → isGoing (p .status) ≡ true
+  pub wanted-going : wanted p stop ≡ true → isGoing (p .status) ≡ true
   wanted-going e = wanted-when (isGoing (p .status)) (eqb (p .cur .kind) kEof) (eqb (p .cur .kind) stop) e .0
 
-  wanted-eof : wanted p stop ≡ true → eqb (p .cur .kind) kEof ≡ false
+  pub wanted-eof : wanted p stop ≡ true → eqb (p .cur .kind) kEof ≡ false
   wanted-eof e = wanted-when (isGoing (p .status)) (eqb (p .cur .kind) kEof) (eqb (p .cur .kind) stop) e .1
 
-  wanted-stop : wanted p stop ≡ true → eqb (p .cur .kind) stop ≡ false
+  pub wanted-stop : wanted p stop ≡ true → eqb (p .cur .kind) stop ≡ false
   wanted-stop e = wanted-when (isGoing (p .status)) (eqb (p .cur .kind) kEof) (eqb (p .cur .kind) stop) e .2
 
-  unwanted : isGoing (p .status) ≡ true → wanted p stop ≡ false → eqb (p .cur .kind) kEof ≡ false → eqb (p .cur .kind) stop ≡ true
+  pub unwanted : isGoing (p .status) ≡ true → wanted p stop ≡ false → eqb (p .cur .kind) kEof ≡ false → eqb (p .cur .kind) stop ≡ true
   unwanted g e f = unwanted-when (eqb (p .cur .kind) kEof) (eqb (p .cur .kind) stop) (subst (λ (b : Bool). wantedBy b (eqb (p .cur .kind) kEof) (eqb (p .cur .kind) stop) ≡ false) g e) f
 
 -- a turn lowers the measure

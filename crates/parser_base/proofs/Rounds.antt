@@ -77,6 +77,15 @@ module _ {A : Type 0} {script : List ℕ} {f : A → Rule (ControlFlow A)} {grow
     way = λ R L stack m h. simulates (record { fuel = length (m .left); a = a₀; m = m; comes = refl; fuelled = omega arith; value = refl; represents = h });
   }
 
+  -- where what the code holds gives the property
+  pub round-start-at : {a₀ : A} {Q : A → Type 0} {s : Code} → ((R L : ℕ) (stack : List ℕ) (m : State) → Represents script s R L (grow a₀ stack) m → Q a₀) → LoopInvariant script f grow a₀ Q s s
+  unfolding loop
+  round-start-at {a₀} q = record {
+    sticky = λ e. refl;
+    monotone = omega arith;
+    way = λ R L stack m h. simulates (record { fuel = length (m .left); a = a₀; m = m; comes = refl; fuelled = omega arith; value = q R L stack m h; represents = h });
+  }
+
   module _ {a₀ : A} {Q Q′ : A → Type 0} {s₀ s s′ : Code} where
     pub round-again : LoopInvariant script f grow a₀ Q s₀ s → going s ≡ true → Again script f grow Q Q′ s s′ → LoopInvariant script f grow a₀ Q′ s₀ s′
     unfolding after

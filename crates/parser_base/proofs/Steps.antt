@@ -301,6 +301,31 @@ module _ {A : Type 0} {script : List ℕ} {x : Rule (List (List ℕ))} {run : A}
       go R L stack j (ok xs m) h = last R L stack (y xs m) (q .simulates (R + r₁) (L + l₁) stack xs m j (h .0 .0) (omega (arith, h .0 .1, ap length (h .1 .related .left))) (h .1))
       go R L stack j (err e m) h = subst (λ (t : Code). FailedAt script t e R L stack m) (sym (q .sticky (failed-fails h))) h
 
+-- a list, and then what goes on with it
+module _ {A B : Type 0} {script : List ℕ} {y : List (List ℕ) → Rule A} {run : A} {v : B} {d r₁ l₁ r₂ l₂ d₂ r₃ l₃ mark n : ℕ} {s s₁ s₂ : Code} (f : A → Rule B) where
+  pub lists-seq : Lists script y run d r₁ l₁ mark n s s₁ → Refines script r₂ l₂ (f run) (λ b. b ≡ v) kept d₂ r₃ l₃ s₁ s₂ → r₂ ≤ r₁ → l₂ ≤ l₁
+      → Lists script (λ xs. y xs >>= f) v (d + d₂) (r₃ + (r₁ - r₂)) (l₃ + (l₁ - l₂)) mark n s s₂
+  unfolding _>>=_
+  lists-seq p q a b = record {
+    sticky = λ e. let e₁ : s₁ ≡ s = p .sticky e in q .sticky (ap going e₁ ∙ e) ∙ e₁;
+    monotone = omega (arith, p .monotone, q .monotone);
+    progress = λ e. either (going s₁)
+        (λ g. omega (arith, p .progress g, q .progress e))
+        (λ g. absurd (true≢false e (ap going (q .sticky g) ∙ g)));
+    simulates = λ R L stack xs m j k few h. go R L stack a b (y xs m) (p .simulates R L stack xs m j k few h);
+  }
+    where
+      last : (R L : ℕ) (stack : List ℕ) (res : Result B) → Ends script (λ b. b ≡ v) kept s₂ (R + (r₁ - r₂)) (L + (l₁ - l₂)) r₃ l₃ stack res → Ends script (λ b. b ≡ v) kept s₂ R L (r₃ + (r₁ - r₂)) (l₃ + (l₁ - l₂)) stack res
+      last R L stack (ok b m) h = (h .0, represents-less _ _ (omega arith) (omega arith) (h .1))
+      last R L stack (err e m) h = failed-less _ _ (omega arith) (omega arith) h
+
+      go : (R L : ℕ) (stack : List ℕ) → r₂ ≤ r₁ → l₂ ≤ l₁ → (res : Result A) → Ends script (λ a. a ≡ run) kept s₁ R L r₁ l₁ stack res
+          → Ends script (λ b. b ≡ v) kept s₂ R L (r₃ + (r₁ - r₂)) (l₃ + (l₁ - l₂)) stack (elim res [ ok a m ↦ f a m | err e m ↦ err e m ])
+      go R L stack a b (ok w m) h = last R L stack (f w m)
+          (subst (λ (x : A). Ends script (λ b. b ≡ v) kept s₂ (R + (r₁ - r₂)) (L + (l₁ - l₂)) r₃ l₃ stack (f x m)) (sym (h .0))
+          (q .simulates (R + (r₁ - r₂)) (L + (l₁ - l₂)) stack m (represents-less _ _ (omega arith) (omega arith) (h .1))))
+      go R L stack a b (err e m) h = subst (λ (x : Code). FailedAt script x e R L stack m) (sym (q .sticky (failed-fails h))) h
+
 -- members, and then a step that changes none
 module _ {A : Type 0} {script : List ℕ} {x : Rule (List (List ℕ))} {y : Rule A} {v : A} {r l d r₁ l₁ d₂ r₂ l₂ n : ℕ} {s s₁ s₂ : Code} where
   pub collected-then : Refines script r l x (Collected script n s₁) allGrown d r₁ l₁ s s₁ → Refines script 0 0 y (λ a. a ≡ v) kept d₂ r₂ l₂ s₁ s₂

@@ -62,7 +62,7 @@ ReadsType script x s nodes types lists q = Refines script 0 0 x (λ t. t ≡ q .
 
 -- a node is made
 abbrev pub ReadsNode : List ℕ → Rule NodeId → Code → List ℕ → List ℕ → List ℕ → NodeRead → Type 0
-ReadsNode script x s nodes types lists q = Refines script 0 0 x (λ n. n ≡ q .id) kept 1 0 0 s (code nodes types lists (q .parser))
+ReadsNode script x s nodes types lists q = Refines script 0 0 x (λ n. n ≡ q .id) kept 1 0 8 s (code nodes types lists (q .parser))
 
 -- a step of a loop over a node goes on
 abbrev pub ReadsStep : List ℕ → Rule (ControlFlow NodeId) → Code → List ℕ → List ℕ → List ℕ → NodeRead → Type 0

@@ -1,0 +1,2 @@
+-- The laws of the item cycle.
+pub mod Levels

@@ -1,0 +1,24 @@
+-- `parser_leaves::atom` meets its contract.
+use borrow.Author.Needs.{needs}
+use Rattle.parser_base.proofs.Steps.{read, enough}
+use mathlib.Core.Path.{refl}
+use native.Mathlib.Omega.{arith}
+use Rattle.rules.specs.Rules.{atom}
+use Rattle.parser_leaves.proofs.atom.Statement.{statement}
+use Rattle.parser_leaves.proofs.atom.Tie as tie
+
+returns : tie.Need-returns
+unfolding atom
+returns c =
+    let advance = c .before .before .before .before .advance in
+    let push-node = c .before .before .push-node in
+    λ types lists. enough (read _ (advance .ensures _ types lists) (push-node .ensures _ types lists _ 1 (omega arith) refl)) tt
+
+pub atom-spec : {M : Type 1} → statement M
+atom-spec =
+    tie.close
+    (tie.spec
+    (λ c κs. search needs)
+    (λ c κs. search needs)
+    (λ c. search needs)
+    returns)

@@ -1,0 +1,36 @@
+-- `parser_leaves::match_node` meets its contract.
+use borrow.Author.Needs.{needs}
+use Rattle.parser_base.proofs.Steps.{as-rule, enough}
+use mathlib.Core.Path.{refl}
+use native.Mathlib.Omega.{arith}
+use Rattle.parser_base.specs.Refines.{failAt}
+use Rattle.parser_leaves.specs.Matches.{matchNode}
+use Rattle.parser_leaves.proofs.Matches.{default-none, default-some, fail-any}
+use Rattle.parser_leaves.proofs.match_node.Statement.{statement}
+use Rattle.parser_leaves.proofs.match_node.Tie as tie
+
+returns : tie.Need-returns
+unfolding matchNode failAt
+returns c =
+    let args = c .before .before .before .before .args in
+    let if1 = c .before .if1 in
+    let fail-at = c .fail-at in
+    λ script types lists. rw (default-none (args .d) (if1 .taken), matchNode) (enough (fail-any _ _ (fail-at .ensures script _ types lists)) tt)
+
+returns-2 : tie.Need-returns-2
+unfolding matchNode
+returns-2 c =
+    let args = c .before .before .before .before .before .before .before .before .before .args in
+    let if1 = c .before .before .before .before .before .before .if1 in
+    let push-node = c .before .before .push-node in
+    λ script types lists. rw (default-some (args .d) (if1 .left), matchNode) (push-node .ensures script types lists _ 1 (omega arith) refl)
+
+pub match-node-spec : {M : Type 1} → statement M
+match-node-spec =
+    tie.close
+    (tie.spec
+    (λ c κs. search needs)
+    returns
+    (λ c κs. search needs)
+    (λ c. search needs)
+    returns-2)

@@ -1,0 +1,3 @@
+-- What the contracts of the item reader are written in.
+pub mod Tests
+pub mod Matches

@@ -1,0 +1,287 @@
+// The tables and tests of items and expressions, and the nodes with none below them.
+use lex::Token;
+use lex::Type;
+use lex::is_prefix_sign;
+use parser_base::NodeRead;
+use parser_base::Parser;
+use parser_base::advance;
+use parser_base::expect_ident;
+use parser_base::fail_at;
+use parser_base::going;
+use parser_base::push_cell;
+use parser_base::push_node;
+use parser_base::push_run;
+use parser_base::push_token;
+use parser_types::parse_type;
+use rules::Node;
+use rules::NodeId;
+use rules::Run;
+ghost use mathlib.Core.Path.{_≡_};
+ghost use mathlib.Core.List.{List, [], _∷_, _++_};
+ghost use Prim.Native.Nat.{ℕ, _<_};
+ghost use lib.ListN.{getD};
+ghost use Rattle.rules.specs.Combinators.{tokenCells, runCells};
+ghost use Rattle.rules.specs.Rules.{atom, ident, fieldAccess, cast, breaksOff};
+ghost use Rattle.parser_base.specs.Represents.{code, lowToken};
+ghost use Rattle.parser_base.specs.Refines.{Refines, kept, ReadsNode, ReadsStep, Pushes, deeper};
+ghost use Rattle.parser_leaves.specs.Tests.{operandClass, operatorNumber, leftPowers, rightPowers, callAt, posts, goes};
+ghost use Rattle.parser_leaves.specs.Matches.{defaultOf, matchNode};
+
+// ---- tables
+
+// What begins an operand: a record 1, an array 2, an atom 3, a name 4, a bracket 5, a sign 6; 0 what begins none.
+const OPERANDS: [u32; 35] = [
+    0,
+    0,
+    5,
+    0,
+    6,
+    6,
+    0,
+    0,
+    0,
+    0,
+    0,
+    0,
+    0,
+    0,
+    0,
+    0,
+    0,
+    0,
+    2,
+    0,
+    1,
+    0,
+    3,
+    3,
+    3,
+    4,
+    0,
+    0,
+    0,
+    0,
+    0,
+    0,
+    0,
+    3,
+    3,
+];
+
+// The number of an infix sign by its kind; 9 where there is none.
+const OPERATORS: [u32; 13] = [9, 9, 9, 9, 0, 1, 2, 3, 4, 9, 5, 6, 7];
+
+// Left and right binding powers of `+` `-` `*` `/` `%` `==` `<` `>` `!=`, by their numbers.
+const LEFT_POWERS: [u32; 9] = [1, 1, 3, 3, 3, 0, 0, 0, 0];
+
+const RIGHT_POWERS: [u32; 9] = [2, 2, 4, 4, 4, 1, 1, 1, 1];
+
+// The power of a prefix sign.
+pub const PREFIX_POWER: u32 = 5;
+
+pub fn operand_class(kind: u32) -> u32
+    ensures { λ r. ⌜ r ≡ operandClass kind ⌝ }
+{
+    if 35 <= kind {
+        return 0;
+    }
+    OPERANDS[kind as usize]
+}
+
+pub fn operator(kind: u32) -> u32
+    ensures { λ r. ⌜ r ≡ operatorNumber kind ⌝ }
+{
+    if 13 <= kind {
+        return 9;
+    }
+    OPERATORS[kind as usize]
+}
+
+fn left_power(n: u32) -> u32
+    requires { ⌜ n < 9 ⌝ }
+    ensures { λ r. ⌜ r ≡ getD leftPowers n 0 ⌝ }
+{
+    LEFT_POWERS[n as usize]
+}
+
+pub fn right_power(n: u32) -> u32
+    requires { ⌜ n < 9 ⌝ }
+    ensures { λ r. ⌜ r ≡ getD rightPowers n 0 ⌝ }
+{
+    RIGHT_POWERS[n as usize]
+}
+
+// ---- whether a loop over an expression goes on
+
+// An Ident or a Field can be called.
+fn is_callable_target(nodes: &[u32], n: NodeId) -> bool
+    ensures { λ r. ⌜ r ≡ callAt (now (nodes .entry)) n ⌝ }
+{
+    let at = 16 * n.0 as usize;
+    if nodes.len() <= at {
+        return false;
+    }
+    if nodes[at] == 2 {
+        return true;
+    }
+    nodes[at] == 9
+}
+
+pub fn posts(nodes: &[u32], p: Parser, n: NodeId) -> bool
+    ensures { λ r. ⌜ r ≡ posts (now (nodes .entry)) p n ⌝ }
+{
+    if !going(p) {
+        return false;
+    }
+    if p.cur.kind == Type::DOT {
+        return true;
+    }
+    if p.cur.kind == Type::BRACE_LEFT {
+        return is_callable_target(nodes, n);
+    }
+    false
+}
+
+// A sign that begins an operand ends the one before it.
+fn breaks_off(script: &[u8], t: Token) -> bool
+    ensures { λ r. ⌜ r ≡ breaksOff (now (script .entry)) t ⌝ }
+{
+    if t.kind == Type::PLUS {
+        return is_prefix_sign(script, t.start);
+    }
+    if t.kind == Type::MINUS {
+        return is_prefix_sign(script, t.start);
+    }
+    false
+}
+
+pub fn goes(script: &[u8], p: Parser, least: u32) -> bool
+    ensures { λ r. ⌜ r ≡ goes (now (script .entry)) p least ⌝ }
+{
+    if !going(p) {
+        return false;
+    }
+    let t = p.cur;
+    if t.kind == Type::AS {
+        return true;
+    }
+    let n = operator(t.kind);
+    if 9 <= n {
+        return false;
+    }
+    if breaks_off(script, t) {
+        return false;
+    }
+    least <= left_power(n)
+}
+
+// ---- nodes with none below them
+
+pub fn atom(script: &[u8], nodes: &mut [u32], p: Parser) -> NodeRead
+    requires { ⌜ 1 < p .cur .kind ⌝ }
+    ensures { λ r. ⌜ ((types lists : List ℕ) → ReadsNode (now (script .entry)) atom (code (now (nodes .entry)) types lists p) (now (nodes .exit)) types lists r) ⌝ }
+{
+    let raw = p.cur;
+    let p1 = advance(script, p);
+    let id = p1.used.values;
+    push_node(nodes, p1, Node::Atom { id, raw }, 0)
+}
+
+pub fn ident(script: &[u8], nodes: &mut [u32], p: Parser) -> NodeRead
+    requires { ⌜ 1 < p .cur .kind ⌝ }
+    ensures { λ r. ⌜ ((types lists : List ℕ) → ReadsNode (now (script .entry)) ident (code (now (nodes .entry)) types lists p) (now (nodes .exit)) types lists r) ⌝ }
+{
+    let name = p.cur;
+    let p1 = advance(script, p);
+    let id = p1.used.values;
+    push_node(nodes, p1, Node::Ident { id, name }, 0)
+}
+
+pub fn field_access(script: &[u8], nodes: &mut [u32], p: Parser, lhs: NodeId) -> NodeRead
+    requires { ⌜ 1 < p .cur .kind ⌝ }
+    ensures { λ r. ⌜ ((types lists : List ℕ) → ReadsStep (now (script .entry)) (fieldAccess lhs) (code (now (nodes .entry)) types lists p) (now (nodes .exit)) types lists r) ⌝ }
+{
+    let p1 = advance(script, p);
+    let name = p1.cur;
+    let p2 = expect_ident(script, p1);
+    let id = p2.used.values;
+    push_node(
+        nodes,
+        p2,
+        Node::Field {
+            id,
+            target: lhs,
+            name,
+        },
+        0,
+    )
+}
+
+pub fn cast(
+    script: &[u8],
+    nodes: &mut [u32],
+    types: &mut [u32],
+    lists: &mut [u32],
+    p: Parser,
+    lhs: NodeId,
+    levels: usize,
+) -> NodeRead
+    requires { ⌜ 1 < p .cur .kind ⌝ }
+    ensures { λ r. ⌜ ReadsStep (now (script .entry)) (cast (deeper (now (script .entry)) levels) lhs) (code (now (nodes .entry)) (now (types .entry)) (now (lists .entry)) p) (now (nodes .exit)) (now (types .exit)) (now (lists .exit)) r ⌝ }
+{
+    let src = p.cur;
+    let p1 = advance(script, p);
+    let t = parse_type(script, types, lists, p1, levels);
+    let p2 = t.parser;
+    let rhs = t.id;
+    let id = p2.used.values;
+    push_node(nodes, p2, Node::Cast { id, src, lhs, rhs }, 0)
+}
+
+// ---- the cases of a match
+
+// The default of a match: its token and body, where `has` is not 0.
+pub struct Default {
+    pub has: u32,
+    pub token: Token,
+    pub run: Run,
+}
+
+pub struct CaseRead {
+    pub parser: Parser,
+    pub default: Default,
+    pub members: u32,
+}
+
+pub fn push_case(lists: &mut [u32], p: Parser, t: Token, n: NodeId, body: Run) -> Parser
+    ensures { λ r. ⌜ ((script nodes types : List ℕ) → Pushes script 12 (tokenCells (lowToken t) ++ (n .0 ∷ runCells body)) (code nodes types (now (lists .entry)) p) (code nodes types (now (lists .exit)) r)) ⌝ }
+{
+    let p1 = push_token(lists, p, t);
+    let p2 = push_cell(lists, p1, n.0);
+    push_run(lists, p2, body)
+}
+
+pub fn match_node(nodes: &mut [u32], p: Parser, t: Token, cases: Run, d: Default) -> NodeRead
+    ensures { λ r. ⌜ ((script types lists : List ℕ) → Refines script 1 0 (matchNode (lowToken t) (defaultOf d) cases) (λ n. n ≡ r .id) kept 0 0 0 (code (now (nodes .entry)) types lists p) (code (now (nodes .exit)) types lists (r .parser))) ⌝ }
+{
+    if d.has == 0 {
+        return NodeRead {
+            parser: fail_at(p, 18, t),
+            id: NodeId(0),
+        };
+    }
+    let token = d.token;
+    let run = d.run;
+    let id = p.used.values;
+    push_node(
+        nodes,
+        p,
+        Node::Match {
+            id,
+            cases,
+            default_token: token,
+            default_body: run,
+        },
+        0,
+    )
+}
