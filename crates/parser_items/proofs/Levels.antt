@@ -38,11 +38,11 @@ module _ {script : List ℕ} {Q : NodeId → Type 0} {d r′ l′ : ℕ} {s s′
   expr-deep least e p = rw (deeper-zero script levels e .1 least) (refused p)
 
 module _ {script : List ℕ} {Q : NodeId → Type 0} {r l d r′ l′ : ℕ} {s s′ : Code} (levels : ℕ) where
-  pub prefix-at : (levels ≡ 0 → ⊥) → Refines script r l (parsePrefix (deeper script (levels - 1))) Q kept d r′ l′ s s′ → Refines script r l (deeper script levels .prefix) Q kept d r′ l′ s s′
-  prefix-at f p = rw (deeper-suc script levels f .0) p
+  pub prefix-by : (levels ≡ 0 → ⊥) → Refines script r l (parsePrefix (deeper script (levels - 1))) Q kept d r′ l′ s s′ → Refines script r l (deeper script levels .prefix) Q kept d r′ l′ s s′
+  prefix-by f p = rw (deeper-suc script levels f .0) p
 
-  pub expr-at : (least : ℕ) → (levels ≡ 0 → ⊥) → Refines script r l (parseExpr (deeper script (levels - 1)) stageOne script least) Q kept d r′ l′ s s′ → Refines script r l (deeper script levels .expr least) Q kept d r′ l′ s s′
-  expr-at least f p = rw (deeper-suc script levels f .1 least) p
+  pub expr-by : (least : ℕ) → (levels ≡ 0 → ⊥) → Refines script r l (parseExpr (deeper script (levels - 1)) stageOne script least) Q kept d r′ l′ s s′ → Refines script r l (deeper script levels .expr least) Q kept d r′ l′ s s′
+  expr-by least f p = rw (deeper-suc script levels f .1 least) p
 
 -- ---- tables
 

@@ -51,7 +51,7 @@ ghost use Rattle.parser_leaves.specs.Matches.{casesGrown, CasesAre, caseCells, 
 
 // ---- items
 
-pub fn parse_prefix(
+pub fn prefix(
     script: &[u8],
     nodes: &mut [u32],
     types: &mut [u32],
@@ -97,7 +97,7 @@ fn item(
     if p1.cur.kind == Type::MATCH {
         return parse_match(script, nodes, types, lists, p1, levels);
     }
-    parse_expr(script, nodes, types, lists, p1, 0, levels)
+    expr(script, nodes, types, lists, p1, 0, levels)
 }
 
 fn parse_let(
@@ -117,7 +117,7 @@ fn parse_let(
     let name = p2.cur;
     let p3 = expect_ident(script, p2);
     let p4 = expect(script, p3, Type::EQUAL);
-    let e = parse_prefix(script, nodes, types, lists, p4, levels);
+    let e = prefix(script, nodes, types, lists, p4, levels);
     let p5 = e.parser;
     let rhs = e.id;
     let id = p5.used.values;
@@ -208,7 +208,7 @@ fn items(
     let mut q = p;
     let mut members: u32 = 0;
     while wants(q, stop) {
-        let n = parse_prefix(script, nodes, types, lists, q, levels);
+        let n = prefix(script, nodes, types, lists, q, levels);
         let q1 = n.parser;
         q = push_cell(lists, q1, n.id.0);
         members = std::num::wrapping_add_u32(members, 1);
@@ -309,7 +309,7 @@ fn condition(
     ensures { λ r. ⌜ ReadsMember (now (script .entry)) (caseCells (deeper (now (script .entry)) levels)) (code (now (nodes .entry)) (now (types .entry)) (now (lists .entry)) p) (code (now (nodes .exit)) (now (types .exit)) (now (lists .exit)) r) ⌝ }
 {
     let t = p.cur;
-    let e = parse_expr(script, nodes, types, lists, p, 0, levels);
+    let e = expr(script, nodes, types, lists, p, 0, levels);
     let p1 = e.parser;
     let n = e.id;
     let b = parse_body(script, nodes, types, lists, p1, levels);
@@ -320,7 +320,7 @@ fn condition(
 
 // ---- expressions
 
-fn parse_expr(
+fn expr(
     script: &[u8],
     nodes: &mut [u32],
     types: &mut [u32],
@@ -434,7 +434,7 @@ fn init(
     let key = p.cur;
     let p1 = expect_ident(script, p);
     let p2 = expect(script, p1, Type::COLON);
-    let e = parse_expr(script, nodes, types, lists, p2, 0, levels);
+    let e = expr(script, nodes, types, lists, p2, 0, levels);
     let p3 = e.parser;
     let id = e.id;
     push_named(lists, p3, key, id.0)
@@ -453,14 +453,14 @@ fn array_lit(
 {
     let src = p.cur;
     let p1 = advance(script, p);
-    let l = elements(script, nodes, types, lists, p1, levels);
+    let l = elems(script, nodes, types, lists, p1, levels);
     let p2 = l.parser;
     let members = l.run;
     let id = p2.used.values;
     push_node(nodes, p2, Node::Array { id, src, members }, 0)
 }
 
-fn elements(
+fn elems(
     script: &[u8],
     nodes: &mut [u32],
     types: &mut [u32],
@@ -474,7 +474,7 @@ fn elements(
     let mut q = p;
     let mut members: u32 = 0;
     while wants(q, Type::BRAKET_RIGHT) {
-        let n = parse_expr(script, nodes, types, lists, q, 0, levels);
+        let n = expr(script, nodes, types, lists, q, 0, levels);
         let q1 = n.parser;
         q = push_cell(lists, q1, n.id.0);
         members = std::num::wrapping_add_u32(members, 1);
@@ -494,7 +494,7 @@ fn group(
     ensures { λ r. ⌜ ReadsNode (now (script .entry)) (group (deeper (now (script .entry)) levels)) (code (now (nodes .entry)) (now (types .entry)) (now (lists .entry)) p) (now (nodes .exit)) (now (types .exit)) (now (lists .exit)) r ⌝ }
 {
     let p1 = advance(script, p);
-    let e = parse_expr(script, nodes, types, lists, p1, 0, levels);
+    let e = expr(script, nodes, types, lists, p1, 0, levels);
     let p2 = e.parser;
     let id = e.id;
     let parser = expect(script, p2, Type::BRACE_RIGHT);
@@ -514,7 +514,7 @@ fn unary(
 {
     let op = p.cur;
     let p1 = advance(script, p);
-    let e = parse_expr(script, nodes, types, lists, p1, PREFIX_POWER, levels);
+    let e = expr(script, nodes, types, lists, p1, PREFIX_POWER, levels);
     let p2 = e.parser;
     let rhs = e.id;
     let id = p2.used.values;
@@ -650,7 +650,7 @@ fn binary(
 {
     let op = p.cur;
     let p1 = advance(script, p);
-    let e = parse_expr(script, nodes, types, lists, p1, right, levels);
+    let e = expr(script, nodes, types, lists, p1, right, levels);
     let p2 = e.parser;
     let rhs = e.id;
     let id = p2.used.values;

@@ -1,0 +1,255 @@
+-- Laws of writing a text: one text behind another, members of a loop, what a whole text leaves.
+use mathlib.Core.Path.{_≡_, refl, sym, _∙_, ap}
+use mathlib.Core.Bool.{Bool, true, false, false≢true}
+use mathlib.Core.Option.{Option}
+use mathlib.Core.List.{List, [], _∷_, _++_}
+use Prim.Native.Nat.{ℕ, zero, suc, _+_, _-_, _*_, _/_, _%_, _<_, _≤_, min}
+use native.Mathlib.Nat.{suc-ne-zero}
+use native.Mathlib.Omega.{arith}
+use lib.Dec.{leb, ltb}
+use lib.ListN.{length, set, getD, take, drop, length-set, List·getD-eq-default}
+use lib.Seq.{set-out}
+use borrow.Author.Tests.{lt-ltb, le-ltb, ltb-false, le-leb, lt-leb, leb-true, eq-eqb, ne-eqb}
+use Rattle.lex.proofs.Laws.{cases, agree}
+use Rattle.lex.specs.declared.diagnostic.Diagnostic.{Diagnostic}
+use Rattle.lex.specs.declared.tok.Token.{Token}
+use Rattle.rules.specs.declared.Run.{Run}
+use Rattle.rules.specs.declared.Node.{Node}
+use Rattle.rules.specs.declared.TypeExpr.{TypeExpr}
+use Rattle.ast.specs.declared.layout.NodeRead.{NodeRead}
+use Rattle.ast.specs.declared.layout.NodeRead.the-variants as NR
+use Rattle.ast.specs.declared.layout.TypeRead.{TypeRead}
+use Rattle.ast.specs.declared.layout.TypeRead.the-variants as TR
+use Rattle.rules.specs.declared.Counts.{Counts}
+use Rattle.rules.specs.declared.Parsed.{Parsed}
+use Rattle.rules.specs.declared.Parsed.the-variants as P
+use Rattle.rules.specs.Promise.{Arrays}
+use Rattle.ast.specs.Decode.{nodeRead, typeRead, nodeAt, typeAt}
+use Rattle.listing.specs.Text.{bytes, malformed, gap, each, listed, digits, number, kindNames, kindName, token, node, typeExpr}
+use Rattle.listing.specs.Listing.{line, nodeText, typeText, numbersLine, errorLine, treeText, and, within, diagnosticAt, textOf}
+use Rattle.listing.specs.Emit.{Output, last, put, emit, Emits}
+
+emit-append : (a b : List ℕ) (o : Output) → emit (a ++ b) o ≡ emit b (emit a o)
+unfolding emit
+emit-append [] b o = refl
+emit-append (x ∷ a) b o = emit-append a b (put x o)
+
+module _ {a b x y z : List ℕ} {p q r : ℕ} where
+  -- a text, and then another
+  pub then : Emits a x p y q → Emits b y q z r → Emits (a ++ b) x p z r
+  then f g = record { emitted = g .emitted ∙ ap (emit b) (f .emitted) ∙ sym (emit-append a b (record { buffer = x; at = p })) }
+
+-- nothing
+pub nothing : {x : List ℕ} {p : ℕ} → Emits [] x p x p
+unfolding emit
+nothing = record { emitted = refl }
+
+-- the text is another by an equation
+pub by : {a b x y : List ℕ} {p q : ℕ} → a ≡ b → Emits a x p y q → Emits b x p y q
+by {x = x} {p = p} e f = record { emitted = f .emitted ∙ ap (λ (t : List ℕ). emit t (record { buffer = x; at = p })) e }
+
+length-put : (b : ℕ) (o : Output) → length (put b o .buffer) ≡ length (o .buffer)
+unfolding put
+length-put b o = go (ltb b 256)
+  where
+    go : (t : Bool) → length (elim t as (λ (_ : Bool). Output) [ true ↦ record { buffer = set (o .buffer) (o .at) b; at = min (o .at + 1) last } | false ↦ record { buffer = o .buffer; at = last } ] .buffer) ≡ length (o .buffer)
+    go true = length-set (o .buffer) (o .at) b
+    go false = refl
+
+length-emit : (text : List ℕ) (o : Output) → length (emit text o .buffer) ≡ length (o .buffer)
+unfolding emit
+length-emit [] o = refl
+length-emit (b ∷ text) o = length-emit text (put b o) ∙ length-put b o
+
+-- a buffer keeps its length
+pub same-size : {a x y : List ℕ} {p q : ℕ} → Emits a x p y q → length y ≡ length x
+same-size {a} {x} {y} {p} f = ap (λ (o : Output). length (o .buffer)) (f .emitted) ∙ length-emit a (record { buffer = x; at = p })
+
+-- one more member of a loop
+pub next : (text : ℕ → List ℕ) (i : ℕ) {x y z : List ℕ} {p q r : ℕ} → Emits (each text i) x p y q → Emits (text i) y q z r → Emits (each text (suc i)) x p z r
+unfolding each
+next text i f g = then f g
+
+-- ---- a byte
+
+pub put-byte : (b : ℕ) (o : Output) → b < 256 → put b o ≡ record { buffer = set (o .buffer) (o .at) b; at = min (o .at + 1) last }
+unfolding put
+put-byte b o h = rw (lt-ltb b 256 h, put)
+
+output : {x y : List ℕ} {p q : ℕ} → x ≡ y → p ≡ q → _≡_ {A = Output} (record { buffer = x; at = p }) (record { buffer = y; at = q })
+output e f = cc
+
+module _ (b : ℕ) (x : List ℕ) (at : ℕ) (small : b < 256) where
+  pub byte-inside : at < last → Emits (b ∷ []) x at (set x at b) (at + 1)
+  unfolding emit
+  byte-inside h = record { emitted = output refl (omega arith) ∙ sym (put-byte b (record { buffer = x; at = at }) small) }
+
+  pub byte-behind : length x ≤ at → at < last → Emits (b ∷ []) x at x (at + 1)
+  unfolding emit
+  byte-behind l h = record { emitted = output (sym (set-out x at b l)) (omega arith) ∙ sym (put-byte b (record { buffer = x; at = at }) small) }
+
+  pub byte-last : length x ≤ at → last ≤ at → Emits (b ∷ []) x at x last
+  unfolding emit
+  byte-last l h = record { emitted = output (sym (set-out x at b l)) (omega arith) ∙ sym (put-byte b (record { buffer = x; at = at }) small) }
+
+pub no-byte : {x : List ℕ} {p : ℕ} → Emits malformed x p x last
+unfolding emit put
+no-byte = record { emitted = refl }
+
+-- ---- blanks
+
+pub no-gap : {x : List ℕ} {p : ℕ} (n : ℕ) → n ≡ 0 → Emits (gap n) x p x p
+unfolding gap emit
+no-gap zero e = nothing
+no-gap (suc n) e = absurd (suc-ne-zero n e)
+
+pub a-gap : (n : ℕ) → (n ≡ 0 → ⊥) → 32 ∷ [] ≡ gap n
+unfolding gap
+a-gap zero h = absurd (h refl)
+a-gap (suc n) h = refl
+
+-- ---- numbers
+
+-- more fuel makes no difference
+fuel : (f g n : ℕ) → n ≤ f → n ≤ g → digits f n ≡ digits g n
+unfolding digits
+fuel zero zero n h k = refl
+fuel zero (suc g) n h k = rw (lt-ltb n 10 (omega arith))
+fuel (suc f) zero n h k = rw (lt-ltb n 10 (omega arith))
+fuel (suc f) (suc g) n h k =
+    ap (λ (l : List ℕ). l ++ ((48 + n % 10) ∷ []))
+    (cases (λ (l : List ℕ). l ≡ elim (ltb n 10) as (λ (_ : Bool). List ℕ) [ true ↦ [] | false ↦ digits g (n / 10) ]) (ltb n 10)
+    (λ e. rw e) (λ e. let l : 10 ≤ n = ltb-false n 10 e in rw e (fuel f g (n / 10) (omega arith) (omega arith))))
+
+pub one-digit : (n : ℕ) → n < 10 → (48 + n) ∷ [] ≡ number n
+unfolding number digits
+one-digit zero h = refl
+one-digit (suc m) h = let e : suc m % 10 ≡ suc m = omega arith in rw (lt-ltb (suc m) 10 h, e)
+
+pub more-digits : (n : ℕ) → 10 ≤ n → number (n / 10) ++ ((48 + n % 10) ∷ []) ≡ number n
+unfolding number digits
+more-digits zero h = absurd (omega arith)
+more-digits (suc m) h = rw (le-ltb (suc m) 10 h, fuel (suc m / 10) m (suc m / 10) (omega arith) (omega arith))
+
+-- ---- a run of members
+
+module _ (width : ℕ) (cells : List ℕ) (member : ℕ → List ℕ) (r : Run) where
+  pub run-inside : r .start + width * r .len ≤ length cells → (40 ∷ []) ++ (each (λ i. gap i ++ member (r .start + width * i)) (r .len) ++ (41 ∷ [])) ≡ listed width cells member r
+  unfolding listed
+  run-inside h = rw (le-leb (r .start + width * r .len) (length cells) h, listed)
+
+  pub run-outside : length cells < r .start + width * r .len → malformed ≡ listed width cells member r
+  unfolding listed
+  run-outside h = rw (lt-leb (r .start + width * r .len) (length cells) h, listed)
+
+  module _ (n : ℕ) {x y z u v : List ℕ} {p q s t w : ℕ} where
+    pub list-inside : {i : ℕ} → r .start + width * r .len ≤ length cells → i ≡ r .len → Emits (gap n) x p y q → Emits (40 ∷ []) y q z s
+        → Emits (each (λ k. gap k ++ member (r .start + width * k)) i) z s u t → Emits (41 ∷ []) u t v w → Emits (gap n ++ listed width cells member r) x p v w
+    list-inside h e a b f g = then a (by (run-inside h) (then b (then (by (ap (each (λ k. gap k ++ member (r .start + width * k))) e) f) g)))
+
+  module _ (n : ℕ) {x y z : List ℕ} {p q s : ℕ} where
+    pub list-outside : length cells < r .start + width * r .len → Emits (gap n) x p y q → Emits malformed y q z s → Emits (gap n ++ listed width cells member r) x p z s
+    list-outside h a b = then a (by (run-outside h) b)
+
+-- ---- a form of what a call answered
+
+module _ (n : ℕ) {x y : List ℕ} {p q : ℕ} where
+  pub token-is : {t u : Token} → t ≡ u → Emits (gap n ++ token t) x p y q → Emits (gap n ++ token u) x p y q
+  token-is e = by (ap (λ (t : Token). gap n ++ token t) e)
+
+  pub number-is : {a b : ℕ} → a ≡ b → Emits (gap n ++ number a) x p y q → Emits (gap n ++ number b) x p y q
+  number-is e = by (ap (λ (a : ℕ). gap n ++ number a) e)
+
+  pub run-is : (text : Run → List ℕ) {r s : Run} → r ≡ s → Emits (gap n ++ text r) x p y q → Emits (gap n ++ text s) x p y q
+  run-is text e = by (ap (λ (r : Run). gap n ++ text r) e)
+
+-- ---- the names of the kinds
+
+-- the table of the code: the names, and where each ends
+abbrev names : List ℕ
+names = bytes "EofBraceLeftBraceRightPlusMinusAsteriksSlashPercentEqualDoubleEqualLessThanGreaterThanExclaimNotEqualQuestionColonDotBraketLeftBraketRightCurlyLeftCurlyRightSDIIdentDocImportExternLetFnMatchAsTrueFalseStrIntDoubleBoolVoidOptionArrayForeignRecord"
+
+abbrev ends : List ℕ
+ends = 0 ∷ 3 ∷ 12 ∷ 22 ∷ 26 ∷ 31 ∷ 39 ∷ 44 ∷ 51 ∷ 56 ∷ 67 ∷ 75 ∷ 86 ∷ 93 ∷ 101 ∷ 109 ∷ 114 ∷ 117 ∷ 127 ∷ 138 ∷ 147 ∷ 157 ∷ 158 ∷ 159 ∷ 160 ∷ 165 ∷ 168 ∷ 174 ∷ 180 ∷ 183 ∷ 185 ∷ 190 ∷ 192 ∷ 196 ∷ 201 ∷ 204 ∷ 207 ∷ 213 ∷ 217 ∷ 221 ∷ 227 ∷ 232 ∷ 239 ∷ 245 ∷ []
+
+pub ends-in-order : (k : ℕ) → k < 44 → getD ends (k - 1) 0 ≤ getD ends k 0
+ends-in-order k h = leb-true _ _ (agree (λ (n : ℕ). leb (getD ends (n - 1) 0) (getD ends n 0)) (λ (n : ℕ). true) true 44 k refl h)
+
+pub ends-inside : (k : ℕ) → k < 44 → getD ends k 0 ≤ 245
+ends-inside k h = leb-true _ _ (agree (λ (n : ℕ). leb (getD ends n 0) 245) (λ (n : ℕ). true) true 44 k refl h)
+
+pub kind-low : (k : ℕ) → k < 1 → malformed ≡ kindName k
+unfolding kindName kindNames
+kind-low k h = let e : k ≡ 0 = omega arith in rw e
+
+pub kind-high : (k : ℕ) → 43 < k → malformed ≡ kindName k
+unfolding kindName kindNames
+kind-high k h = sym (List·getD-eq-default kindNames malformed {n = k} h)
+
+-- antt computes it for every kind
+pub kind-at : (k : ℕ) → 0 < k → k < 44 → take (getD ends k 0 - getD ends (k - 1) 0) (drop (getD ends (k - 1) 0) names) ≡ kindName k
+unfolding kindName kindNames bytes
+kind-at k l h =
+    let e : k - 1 + 1 ≡ k = omega arith in
+    ap (λ (m : ℕ). take (getD ends m 0 - getD ends (k - 1) 0) (drop (getD ends (k - 1) 0) names)) (sym e)
+    ∙ agree (λ (n : ℕ). take (getD ends (n + 1) 0 - getD ends n 0) (drop (getD ends n 0) names)) (λ (n : ℕ). kindName (n + 1)) [] 43 (k - 1) refl (omega arith)
+    ∙ ap kindName e
+
+-- ---- a record that was asked for
+
+module _ (cells : List ℕ) where
+  pub node-known : {r : NodeRead} {o : Option Node} {n : Node} → nodeRead r ≡ o → r ≡ NR.Known n → node cells n ≡ nodeText cells o
+  unfolding nodeText nodeRead
+  node-known e f = ap (nodeText cells) (sym (ap nodeRead f) ∙ e)
+
+  pub node-unknown : {r : NodeRead} {o : Option Node} → nodeRead r ≡ o → r ≡ NR.Unknown → malformed ≡ nodeText cells o
+  unfolding nodeText nodeRead
+  node-unknown e f = ap (nodeText cells) (sym (ap nodeRead f) ∙ e)
+
+  pub type-known : {r : TypeRead} {o : Option TypeExpr} {t : TypeExpr} → typeRead r ≡ o → r ≡ TR.Known t → typeExpr cells t ≡ typeText cells o
+  unfolding typeText typeRead
+  type-known e f = ap (typeText cells) (sym (ap typeRead f) ∙ e)
+
+  pub type-unknown : {r : TypeRead} {o : Option TypeExpr} → typeRead r ≡ o → r ≡ TR.Unknown → malformed ≡ typeText cells o
+  unfolding typeText typeRead
+  type-unknown e f = ap (typeText cells) (sym (ap typeRead f) ∙ e)
+
+-- ---- an error
+
+pub error-ten : (e : Diagnostic) → e .number ≡ 10 → line (bytes "refused") (number (e .number) ∷ number (e .start) ∷ number (e .len) ∷ []) ≡ errorLine e
+unfolding errorLine
+error-ten e h = rw (eq-eqb _ _ h, errorLine)
+
+pub error-other : (e : Diagnostic) → (e .number ≡ 10 → ⊥) → numbersLine (bytes "error") e ≡ errorLine e
+unfolding errorLine
+error-other e h = rw (ne-eqb _ _ h, errorLine)
+
+-- ---- the arrays of an answer
+
+third : (x y z w : Bool) → and x (and y (and z w)) ≡ true → z ≡ true
+third true true true w e = refl
+third true true false w e = e
+third true false z w e = absurd (false≢true e)
+third false y z w e = absurd (false≢true e)
+
+module _ {p : Parsed} (a : Arrays) where
+  module _ {c : Counts} {r : Bool} (tree : p ≡ P.Tree c) (right : r ≡ within c a) where
+    pub tree-in : r ≡ true → treeText c (take (c .cells) (a .lists)) (nodeAt (a .nodes)) (typeAt (a .types)) (λ i. getD (a .roots) i 0) (diagnosticAt (a .diagnostics)) ≡ textOf p a
+    unfolding textOf
+    tree-in e = rw (tree, sym right ∙ e, textOf)
+
+    pub tree-out : r ≡ false → malformed ≡ textOf p a
+    unfolding textOf
+    tree-out e = rw (tree, sym right ∙ e, textOf)
+
+    pub cells-inside : r ≡ true → c .cells ≤ length (a .lists)
+    unfolding within
+    cells-inside e = leb-true _ _ (third (leb (16 * c .nodes) (length (a .nodes))) (leb (8 * c .types) (length (a .types))) (leb (c .cells) (length (a .lists))) _ (sym right ∙ e))
+
+  pub error-is : {e : Diagnostic} → p ≡ P.Error e → errorLine e ≡ textOf p a
+  unfolding textOf
+  error-is f = rw (f, textOf)
+
+  pub refusal-is : {n : ℕ} → p ≡ P.Refused n → line (bytes "refused") (number n ∷ []) ≡ textOf p a
+  unfolding textOf
+  refusal-is f = rw (f, textOf)

@@ -1,0 +1,121 @@
+-- Laws of a whole text: what it measures on no buffer, and what it leaves in one that is long enough.
+use mathlib.Core.Path.{_≡_, refl, sym, _∙_, ap}
+use mathlib.Core.Bool.{Bool, true, false, false≢true}
+use mathlib.Core.List.{List, [], _∷_, _++_}
+use Prim.Native.Nat.{ℕ, zero, suc, _+_, _<_, _≤_, min}
+use native.Mathlib.Nat.{suc-ne-zero, zero-add}
+use native.Mathlib.Omega.{arith}
+use lib.Dec.{leb, ltb}
+use lib.ListN.{length, set, take, drop}
+use lib.Seq.{sets, sets-eq}
+use borrow.Author.Tests.{lt-ltb, le-ltb, ltb-true, ltb-false, le-leb, lt-leb}
+use Rattle.listing.specs.declared.Listing.the-variants as L
+use Rattle.listing.specs.Listing.{Written, and, plain, written}
+use Rattle.listing.specs.Emit.{Output, last, put, emit, Emits}
+use Rattle.listing.proofs.EmitLaws.{put-byte, same-size}
+
+and-left : (a b : Bool) → and a b ≡ true → a ≡ true
+and-left true b e = refl
+and-left false b e = e
+
+and-right : (a b : Bool) → and a b ≡ true → b ≡ true
+and-right true b e = e
+and-right false b e = absurd (false≢true e)
+
+-- ---- positions
+
+-- the last position is not left
+at-last : (b : ℕ) (o : Output) → o .at ≡ last → put b o .at ≡ last
+unfolding put
+at-last b o e = go (ltb b 256)
+  where
+    go : (t : Bool) → elim t as (λ (_ : Bool). Output) [ true ↦ record { buffer = set (o .buffer) (o .at) b; at = min (o .at + 1) last } | false ↦ record { buffer = o .buffer; at = last } ] .at ≡ last
+    go true = omega arith
+    go false = refl
+
+stays : (text : List ℕ) (o : Output) → o .at ≡ last → emit text o .at ≡ last
+unfolding emit
+stays [] o e = e
+stays (b ∷ text) o e = stays text (put b o) (at-last b o e)
+
+-- bytes, up to the last position
+bytes-count : (text : List ℕ) (o : Output) → plain text ≡ true → o .at ≤ last → emit text o .at ≡ min (o .at + length text) last
+unfolding emit plain
+bytes-count [] o e h = omega arith
+bytes-count (b ∷ text) o e h =
+    let small : b < 256 = ltb-true b 256 (and-left (ltb b 256) (plain text) e) in
+    let p : put b o .at ≡ min (o .at + 1) last = ap (λ (x : Output). x .at) (put-byte b o small) in
+    bytes-count text (put b o) (and-right (ltb b 256) (plain text) e) (omega arith) ∙ omega arith
+
+-- what is no byte
+fault : (text : List ℕ) (o : Output) → plain text ≡ false → emit text o .at ≡ last
+unfolding emit plain put
+fault [] o e = absurd (false≢true (sym e))
+fault (b ∷ text) o e = go (ltb b 256) refl (fault text (put b o))
+  where
+    go : (t : Bool) → ltb b 256 ≡ t → (plain text ≡ false → emit text (put b o) .at ≡ last) → emit text (put b o) .at ≡ last
+    go true f more = more (rw f at e)
+    go false f more = stays text (put b o) (rw (f, put))
+
+-- bytes into a buffer
+bytes-in : (text : List ℕ) (o : Output) → plain text ≡ true → o .at + length text ≤ last → emit text o .buffer ≡ sets (o .buffer) (o .at) text
+unfolding emit plain
+bytes-in [] o e h = refl
+bytes-in (b ∷ text) o e h =
+    let small : b < 256 = ltb-true b 256 (and-left (ltb b 256) (plain text) e) in
+    let p : put b o ≡ record { buffer = set (o .buffer) (o .at) b; at = min (o .at + 1) last } = put-byte b o small in
+    let q : put b o .at ≡ suc (o .at) = ap (λ (x : Output). x .at) p ∙ omega arith in
+    bytes-in text (put b o) (and-right (ltb b 256) (plain text) e) (omega arith)
+    ∙ ap (λ (n : ℕ). sets (put b o .buffer) n text) q
+    ∙ ap (λ (x : Output). sets (x .buffer) (suc (o .at)) text) p
+
+-- ---- the three answers
+
+nil : (y : List ℕ) → length y ≡ 0 → y ≡ []
+nil [] e = refl
+nil (b ∷ y) e = absurd (suc-ne-zero (length y) e)
+
+module _ {text y : List ℕ} (x : List ℕ) {n : ℕ} (measured : Emits text [] 0 y n) where
+  -- lending no part of the buffer leaves it
+  pub kept : y ++ x ≡ x
+  kept = ap (λ (l : List ℕ). l ++ x) (nil y (same-size measured))
+
+  counted : emit text (record { buffer = []; at = 0 }) .at ≡ n
+  counted = sym (ap (λ (o : Output). o .at) (measured .emitted))
+
+  -- below the last position there are bytes only
+  all-bytes : (n ≡ last → ⊥) → plain text ≡ true
+  all-bytes h = go (plain text) refl
+    where
+      go : (t : Bool) → plain text ≡ t → plain text ≡ true
+      go true e = e
+      go false e = absurd (h (sym counted ∙ fault text (record { buffer = []; at = 0 }) e))
+
+  length-is : plain text ≡ true → n ≡ min (length text) last
+  length-is e = sym counted ∙ bytes-count text (record { buffer = []; at = 0 }) e (omega arith) ∙ omega arith
+
+  pub no-tree : n ≡ last → _≡_ {A = Written} (record { answer = L.Malformed; buffer = y ++ x }) (written text x)
+  unfolding written
+  no-tree h = rw kept (go (plain text) refl)
+    where
+      go : (t : Bool) → plain text ≡ t → _≡_ {A = Written} (record { answer = L.Malformed; buffer = x }) (written text x)
+      go true e = let l : last ≤ length text = omega (arith, length-is e) in rw (e, le-ltb (length text) last l, written)
+      go false e = rw (e, written)
+
+  pub no-room : (n ≡ last → ⊥) → length x < n → _≡_ {A = Written} (record { answer = L.Short; buffer = y ++ x }) (written text x)
+  unfolding written
+  no-room h l =
+      let e : plain text ≡ true = all-bytes h in
+      let m : n ≡ min (length text) last = length-is e in
+      rw (kept, e, lt-ltb (length text) last (omega arith), lt-leb (length text) (length x) (omega arith), written)
+
+  pub whole : {z : List ℕ} {m : ℕ} → (n ≡ last → ⊥) → n ≤ length x → Emits text (y ++ x) 0 z m → _≡_ {A = Written} (record { answer = L.Written m; buffer = z }) (written text x)
+  unfolding written
+  whole {z} {m} h l f =
+      let e : plain text ≡ true = all-bytes h in
+      let k : n ≡ min (length text) last = length-is e in
+      let o : Output = record { buffer = x; at = 0 } in
+      let g : _≡_ {A = Output} (record { buffer = z; at = m }) (emit text o) = f .emitted ∙ ap (λ (b : List ℕ). emit text (record { buffer = b; at = 0 })) kept in
+      let to : m ≡ length text = ap (λ (o : Output). o .at) g ∙ bytes-count text o e (omega arith) ∙ omega arith in
+      let out : z ≡ text ++ drop (length text) x = ap (λ (o : Output). o .buffer) g ∙ bytes-in text o e (omega arith) ∙ sets-eq text x 0 (omega arith) ∙ ap (λ (i : ℕ). text ++ drop i x) (zero-add (length text)) in
+      rw (e, lt-ltb (length text) last (omega arith), le-leb (length text) (length x) (omega arith), to, out, written)

@@ -1,0 +1,33 @@
+-- `listing::lines::write_node_line` meets its contract.
+use borrow.Author.Needs.{needs}
+use Rattle.listing.specs.Text.{bytes, fields, form}
+use Rattle.listing.specs.Listing.{line, nodeLine}
+use Rattle.listing.proofs.EmitLaws.{then, same-size}
+use Rattle.listing.proofs.lines.write_node_line.Statement.{statement}
+use Rattle.listing.proofs.lines.write_node_line.Tie as tie
+
+returns : tie.Need-returns
+unfolding nodeLine line form bytes fields
+returns c =
+    let s5 = c .before .before in
+    let s4 = s5 .before .before .before .before in
+    let s3 = s4 .before .before .before .before in
+    let s2 = s3 .before .before .before .before in
+    let s1 = s2 .before .before .before .before in
+    (then (then (s1 .write-text .ensures) (then (s2 .write-number .ensures) (then (s3 .write-node-field .ensures) (s4 .write-byte .ensures)))) (s5 .write-byte2 .ensures))
+
+same-length : tie.Need-same-length
+same-length c = same-size (returns c)
+
+pub write-node-line-spec : {M : Type 1} → statement M
+write-node-line-spec =
+    tie.close
+    (tie.spec
+    (λ c. search needs)
+    (λ c κs. search needs)
+    (λ c κs. search needs)
+    (λ c κs. search needs)
+    (λ c κs. search needs)
+    (λ c κs. search needs)
+    same-length
+    returns)

@@ -1,0 +1,127 @@
+-- The listing of a reading, and of arrays whoever filled them; what of it goes into a lent buffer.
+use mathlib.Core.Bool.{Bool, true, false}
+use mathlib.Core.Option.{Option, none, some}
+use mathlib.Core.List.{List, [], _∷_, _++_}
+use Prim.Native.Nat.{ℕ, _+_, _*_}
+use lib.Dec.{leb, ltb, eqb}
+use lib.ListN.{length, getD, take, drop, getElem?}
+use Rattle.lex.specs.declared.diagnostic.Diagnostic.{Diagnostic}
+use Rattle.rules.specs.declared.Counts.{Counts}
+use Rattle.rules.specs.declared.Node.{Node}
+use Rattle.rules.specs.declared.TypeExpr.{TypeExpr}
+use Rattle.rules.specs.declared.Parsed.{Parsed}
+use Rattle.rules.specs.declared.Parsed.the-variants as P
+use Rattle.rules.specs.Tree.{Tree}
+use Rattle.rules.specs.Parse.{Reading, read, ended}
+use Rattle.rules.specs.Promise.{Arrays, noError}
+use Rattle.ast.specs.Decode.{nodeAt, typeAt}
+use Rattle.listing.specs.declared.Listing.{Listing}
+use Rattle.listing.specs.declared.Listing.the-variants as L
+use Rattle.listing.specs.Text.{bytes, malformed, form, fields, gap, each, number, node, typeExpr}
+
+-- ---- lines
+
+-- a form, and the line feed
+unfoldable pub line : List ℕ → List (List ℕ) → List ℕ
+line name fs = form name fs ++ (10 ∷ [])
+
+unfoldable pub nodeText : List ℕ → Option Node → List ℕ
+nodeText cells none = malformed
+nodeText cells (some n) = node cells n
+
+unfoldable pub typeText : List ℕ → Option TypeExpr → List ℕ
+typeText cells none = malformed
+typeText cells (some t) = typeExpr cells t
+
+unfoldable pub nodeLine : List ℕ → (ℕ → Option Node) → ℕ → List ℕ
+nodeLine cells nodes i = line (bytes "node") (number i ∷ nodeText cells (nodes i) ∷ [])
+
+unfoldable pub typeLine : List ℕ → (ℕ → Option TypeExpr) → ℕ → List ℕ
+typeLine cells types i = line (bytes "type") (number i ∷ typeText cells (types i) ∷ [])
+
+unfoldable pub countsLine : ℕ → ℕ → ℕ → List ℕ
+countsLine nodes types values =
+    line (bytes "tree") (form (bytes "nodes") (number nodes ∷ []) ∷ form (bytes "types") (number types ∷ []) ∷ form (bytes "values") (number values ∷ []) ∷ [])
+
+unfoldable pub rootsLine : (ℕ → ℕ) → ℕ → List ℕ
+rootsLine root n = (40 ∷ bytes "roots") ++ (each (λ i. gap 1 ++ number (root i)) n ++ (41 ∷ 10 ∷ []))
+
+-- an error's five numbers under a name
+unfoldable pub numbersLine : List ℕ → Diagnostic → List ℕ
+numbersLine name e = line name (number (e .number) ∷ number (e .start) ∷ number (e .len) ∷ number (e .wanted) ∷ number (e .seen) ∷ [])
+
+-- 10 is a refusal, and has no kinds
+unfoldable pub errorLine : Diagnostic → List ℕ
+errorLine e =
+    elim (eqb (e .number) 10) [
+      | true ↦ line (bytes "refused") (number (e .number) ∷ number (e .start) ∷ number (e .len) ∷ [])
+      | false ↦ numbersLine (bytes "error") e
+    ]
+
+-- a tree by its counts and its records, wherever they are taken from
+unfoldable pub treeText : Counts → List ℕ → (ℕ → Option Node) → (ℕ → Option TypeExpr) → (ℕ → ℕ) → (ℕ → Diagnostic) → List ℕ
+treeText c cells nodes types root error =
+    countsLine (c .nodes) (c .types) (c .values)
+    ++ (each (nodeLine cells nodes) (c .nodes)
+    ++ (each (typeLine cells types) (c .types)
+    ++ (rootsLine root (c .roots)
+    ++ each (λ i. numbersLine (bytes "diag") (error i)) (c .diagnostics))))
+
+-- ---- the listing of a reading
+
+abbrev pub countsOf : Tree → List Diagnostic → Counts
+countsOf t es = record { nodes = length (t .arena .nodes); types = length (t .arena .types); cells = length (t .arena .cells); roots = length (t .roots); values = t .arena .values; diagnostics = length es }
+
+unfoldable pub listingOf : Reading → List ℕ
+listingOf (read t es) =
+    treeText (countsOf t es) (t .arena .cells) (getElem? (t .arena .nodes)) (getElem? (t .arena .types)) (λ i. getD (t .roots) i 0) (λ i. getD es i noError)
+listingOf (ended e) = errorLine e
+
+-- ---- the listing of arrays
+
+abbrev pub arraysOf : List ℕ → List ℕ → List ℕ → List ℕ → List ℕ → Arrays
+arraysOf nodes types lists roots diagnostics = record { nodes = nodes; types = types; lists = lists; roots = roots; diagnostics = diagnostics }
+
+abbrev pub and : Bool → Bool → Bool
+and true b = b
+and false b = false
+
+-- the arrays have what the counts say
+unfoldable pub within : Counts → Arrays → Bool
+within c a =
+    and (leb (16 * c .nodes) (length (a .nodes))) (and (leb (8 * c .types) (length (a .types))) (and (leb (c .cells) (length (a .lists))) (and (leb (c .roots) (length (a .roots))) (leb (5 * c .diagnostics) (length (a .diagnostics))))))
+
+abbrev pub diagnosticAt : List ℕ → ℕ → Diagnostic
+diagnosticAt xs i = record { number = getD xs (5 * i) 0; start = getD xs (5 * i + 1) 0; len = getD xs (5 * i + 2) 0; wanted = getD xs (5 * i + 3) 0; seen = getD xs (5 * i + 4) 0 }
+
+unfoldable pub textOf : Parsed → Arrays → List ℕ
+textOf (P.Tree c) a =
+    elim (within c a) [
+      | true ↦ treeText c (take (c .cells) (a .lists)) (nodeAt (a .nodes)) (typeAt (a .types)) (λ i. getD (a .roots) i 0) (diagnosticAt (a .diagnostics))
+      | false ↦ malformed
+    ]
+textOf (P.Error e) a = errorLine e
+textOf (P.Refused n) a = line (bytes "refused") (number n ∷ [])
+
+-- ---- into a buffer
+
+-- every number is a byte
+unfoldable pub plain : List ℕ → Bool
+plain [] = true
+plain (b ∷ bs) = and (ltb b 256) (plain bs)
+
+-- the answer, and the buffer as it is left
+pub record Written : Type 0 where
+  pub answer : Listing
+  pub buffer : List ℕ
+
+-- the text in front; the buffer as it was where it is too short, and where the text has what is no byte, or 2^64 - 1 bytes or more
+unfoldable pub written : List ℕ → List ℕ → Written
+written text buffer =
+    elim (and (plain text) (ltb (length text) 18446744073709551615)) [
+      | true ↦ elim (leb (length text) (length buffer)) [
+        | true ↦ record { answer = L.Written (length text); buffer = text ++ drop (length text) buffer }
+        | false ↦ record { answer = L.Short; buffer = buffer }
+      ]
+      | false ↦ record { answer = L.Malformed; buffer = buffer }
+    ]

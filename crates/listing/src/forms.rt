@@ -1,0 +1,225 @@
+// Tokens and lists. Each form has a blank in front where something stands before it.
+use crate::emit::write_byte;
+use crate::emit::write_gap;
+use crate::emit::write_malformed;
+use crate::emit::write_number;
+use crate::emit::write_text;
+use ast::layout::cell;
+use ast::layout::run_at;
+use ast::layout::token_at;
+use lex::Token;
+use rules::Run;
+ghost use mathlib.Core.List.{_++_};
+ghost use Prim.Native.Nat.{_+_, _<_};
+ghost use Rattle.listing.specs.Text.{gap, kindName, token, tokens, ids, pair, pairs, branch, branches, externFn, externFns};
+ghost use Rattle.listing.specs.Emit.{Emits};
+
+// The names of the kinds, one after the other.
+const NAMES: [u8; 245] =
+    *b"EofBraceLeftBraceRightPlusMinusAsteriksSlashPercentEqualDoubleEqualLessThanGreaterThanExclaimNotEqualQuestionColonDotBraketLeftBraketRightCurlyLeftCurlyRightSDIIdentDocImportExternLetFnMatchAsTrueFalseStrIntDoubleBoolVoidOptionArrayForeignRecord";
+
+// Where each kind's name ends; the first begins at 0.
+const NAME_ENDS: [usize; 44] = [
+    0,
+    3,
+    12,
+    22,
+    26,
+    31,
+    39,
+    44,
+    51,
+    56,
+    67,
+    75,
+    86,
+    93,
+    101,
+    109,
+    114,
+    117,
+    127,
+    138,
+    147,
+    157,
+    158,
+    159,
+    160,
+    165,
+    168,
+    174,
+    180,
+    183,
+    185,
+    190,
+    192,
+    196,
+    201,
+    204,
+    207,
+    213,
+    217,
+    221,
+    227,
+    232,
+    239,
+    245,
+];
+
+fn write_kind(kind: u32, out: &mut [u8], at: usize) -> usize
+    ensures { λ r. ⌜ Emits (kindName kind) (now (out .entry)) at (now (out .exit)) r ⌝ }
+{
+    if kind < 1 {
+        return write_malformed(out, at);
+    }
+    if 43 < kind {
+        return write_malformed(out, at);
+    }
+    let k = kind as usize;
+    let from = NAME_ENDS[k - 1];
+    let to = NAME_ENDS[k];
+    write_text(&NAMES[from..to], out, at)
+}
+
+pub fn write_token(before: usize, t: Token, out: &mut [u8], at: usize) -> usize
+    ensures { λ r. ⌜ Emits (gap before ++ token t) (now (out .entry)) at (now (out .exit)) r ⌝ }
+{
+    let a = write_gap(before, out, at);
+    let b = write_byte(b'(', out, a);
+    let c = write_kind(t.kind, out, b);
+    let d = write_number(1, t.start, out, c);
+    let e = write_number(1, t.len, out, d);
+    write_byte(b')', out, e)
+}
+
+pub fn write_tokens(before: usize, lists: &[u32], run: Run, out: &mut [u8], at: usize) -> usize
+    ensures { λ r. ⌜ Emits (gap before ++ tokens (now (lists .entry)) run) (now (out .entry)) at (now (out .exit)) r ⌝ }
+{
+    let a = write_gap(before, out, at);
+    let start = run.start as usize;
+    let len = run.len as usize;
+    if start + 3 * len <= lists.len() {
+        let mut to = write_byte(b'(', out, a);
+        let mut i = 0;
+        while i < len {
+            to = write_token(i, token_at(lists, start + 3 * i), out, to);
+            i += 1;
+        }
+        write_byte(b')', out, to)
+    } else {
+        write_malformed(out, a)
+    }
+}
+
+pub fn write_ids(before: usize, lists: &[u32], run: Run, out: &mut [u8], at: usize) -> usize
+    ensures { λ r. ⌜ Emits (gap before ++ ids (now (lists .entry)) run) (now (out .entry)) at (now (out .exit)) r ⌝ }
+{
+    let a = write_gap(before, out, at);
+    let start = run.start as usize;
+    let len = run.len as usize;
+    if start + len <= lists.len() {
+        let mut to = write_byte(b'(', out, a);
+        let mut i = 0;
+        while i < len {
+            to = write_number(i, cell(lists, start + i, 0) as usize, out, to);
+            i += 1;
+        }
+        write_byte(b')', out, to)
+    } else {
+        write_malformed(out, a)
+    }
+}
+
+// A token and a number, from cell `j` on.
+fn write_pair(before: usize, lists: &[u32], j: usize, out: &mut [u8], at: usize) -> usize
+    ensures { λ r. ⌜ Emits (gap before ++ pair (now (lists .entry)) j) (now (out .entry)) at (now (out .exit)) r ⌝ }
+{
+    let a = write_gap(before, out, at);
+    let b = write_byte(b'(', out, a);
+    let c = write_token(0, token_at(lists, j), out, b);
+    let d = write_number(1, cell(lists, j, 3) as usize, out, c);
+    write_byte(b')', out, d)
+}
+
+pub fn write_pairs(before: usize, lists: &[u32], run: Run, out: &mut [u8], at: usize) -> usize
+    ensures { λ r. ⌜ Emits (gap before ++ pairs (now (lists .entry)) run) (now (out .entry)) at (now (out .exit)) r ⌝ }
+{
+    let a = write_gap(before, out, at);
+    let start = run.start as usize;
+    let len = run.len as usize;
+    if start + 4 * len <= lists.len() {
+        let mut to = write_byte(b'(', out, a);
+        let mut i = 0;
+        while i < len {
+            to = write_pair(i, lists, start + 4 * i, out, to);
+            i += 1;
+        }
+        write_byte(b')', out, to)
+    } else {
+        write_malformed(out, a)
+    }
+}
+
+// A case of a match, from cell `j` on: token and condition, body.
+fn write_case(before: usize, lists: &[u32], j: usize, out: &mut [u8], at: usize) -> usize
+    requires { ⌜ j + 4 < 18446744073709551616 ⌝ }
+    ensures { λ r. ⌜ Emits (gap before ++ branch (now (lists .entry)) j) (now (out .entry)) at (now (out .exit)) r ⌝ }
+{
+    let a = write_gap(before, out, at);
+    let b = write_byte(b'(', out, a);
+    let c = write_pair(0, lists, j, out, b);
+    let d = write_ids(1, lists, run_at(lists, j + 4), out, c);
+    write_byte(b')', out, d)
+}
+
+pub fn write_cases(before: usize, lists: &[u32], run: Run, out: &mut [u8], at: usize) -> usize
+    ensures { λ r. ⌜ Emits (gap before ++ branches (now (lists .entry)) run) (now (out .entry)) at (now (out .exit)) r ⌝ }
+{
+    let a = write_gap(before, out, at);
+    let start = run.start as usize;
+    let len = run.len as usize;
+    if start + 6 * len <= lists.len() {
+        let mut to = write_byte(b'(', out, a);
+        let mut i = 0;
+        while i < len {
+            to = write_case(i, lists, start + 6 * i, out, to);
+            i += 1;
+        }
+        write_byte(b')', out, to)
+    } else {
+        write_malformed(out, a)
+    }
+}
+
+// A function of an extern, from cell `j` on: docs, name, arguments, type.
+fn write_extern_fn(before: usize, lists: &[u32], j: usize, out: &mut [u8], at: usize) -> usize
+    requires { ⌜ j + 5 < 18446744073709551616 ⌝ }
+    ensures { λ r. ⌜ Emits (gap before ++ externFn (now (lists .entry)) j) (now (out .entry)) at (now (out .exit)) r ⌝ }
+{
+    let a = write_gap(before, out, at);
+    let b = write_byte(b'(', out, a);
+    let c = write_tokens(0, lists, run_at(lists, j), out, b);
+    let d = write_token(1, token_at(lists, j + 2), out, c);
+    let e = write_pairs(1, lists, run_at(lists, j + 5), out, d);
+    let f = write_number(1, cell(lists, j, 7) as usize, out, e);
+    write_byte(b')', out, f)
+}
+
+pub fn write_extern_fns(before: usize, lists: &[u32], run: Run, out: &mut [u8], at: usize) -> usize
+    ensures { λ r. ⌜ Emits (gap before ++ externFns (now (lists .entry)) run) (now (out .entry)) at (now (out .exit)) r ⌝ }
+{
+    let a = write_gap(before, out, at);
+    let start = run.start as usize;
+    let len = run.len as usize;
+    if start + 8 * len <= lists.len() {
+        let mut to = write_byte(b'(', out, a);
+        let mut i = 0;
+        while i < len {
+            to = write_extern_fn(i, lists, start + 8 * i, out, to);
+            i += 1;
+        }
+        write_byte(b')', out, to)
+    } else {
+        write_malformed(out, a)
+    }
+}

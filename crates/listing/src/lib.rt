@@ -1,0 +1,50 @@
+// The listing of a reading, written into a lent buffer.
+mod emit;
+mod forms;
+mod lines;
+mod records;
+
+use crate::emit::LAST;
+use crate::lines::write_answer;
+use rules::Parsed;
+ghost use mathlib.Core.Path.{_≡_};
+ghost use Rattle.rules.specs.Promise.{Arrays};
+ghost use Rattle.listing.specs.Listing.{Written, textOf, written, arraysOf};
+
+// How many bytes were written; or that the buffer is too short, or that the arrays hold no tree. The buffer is unchanged then.
+pub enum Listing {
+    Written(usize),
+    Short,
+    Malformed,
+}
+
+// The text is measured on no buffer before it is written.
+pub fn write_listing(
+    answer: Parsed,
+    nodes: &[u32],
+    types: &[u32],
+    lists: &[u32],
+    roots: &[u32],
+    diagnostics: &[u32],
+    out: &mut [u8],
+) -> Listing
+    ensures { λ r. ⌜ _≡_ {A = Written} (record { answer = r; buffer = now (out .exit) }) (written (textOf answer (arraysOf (now (nodes .entry)) (now (types .entry)) (now (lists .entry)) (now (roots .entry)) (now (diagnostics .entry)))) (now (out .entry))) ⌝ }
+{
+    let n = write_answer(
+        answer,
+        nodes,
+        types,
+        lists,
+        roots,
+        diagnostics,
+        &mut out[..0],
+        0,
+    );
+    if n == LAST {
+        return Listing::Malformed;
+    }
+    if out.len() < n {
+        return Listing::Short;
+    }
+    Listing::Written(write_answer(answer, nodes, types, lists, roots, diagnostics, out, 0))
+}

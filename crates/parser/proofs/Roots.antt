@@ -1,0 +1,188 @@
+-- The roots of a script, one after the other.
+use mathlib.Core.Path.{_≡_, refl, sym, ap, subst, _∙_}
+use mathlib.Core.Bool.{Bool, true, false}
+use mathlib.Core.List.{List, [], _∷_, _++_, map, flatten, reverse, append-assoc, append-nil}
+use Prim.Native.Nat.{ℕ, suc, _+_, _*_, _-_, _≤_, _<_}
+use native.Mathlib.Omega.{arith}
+use lib.Dec.{eqb}
+use lib.ListN.{length, take, set, length-append, length-reverse, length-set, replicate-append-replicate}
+use lib.Seq.{take-at, set-at}
+use Rattle.lex.specs.Kind.{kEof}
+use Rattle.lex.specs.Lex.{cut, tokensFrom, nextAt}
+use Rattle.lex.specs.declared.tok.Next.{Next}
+use Rattle.lex.specs.declared.tok.Token.{Token}
+use Rattle.lex.proofs.Steps.{tokens-le}
+use Rattle.rules.specs.Tree.{State, Result, ok, err}
+use Rattle.rules.specs.Combinators.{Rule, _>>=_, pure, current, ifKind, withDocs, loop, ControlFlow, continue, break}
+use Rattle.rules.specs.Rules.{maxLevels, stageOne}
+use Rattle.rules.specs.Parse.{begin, parseRoots}
+use Rattle.rules.specs.Layout.{zeros, nodeCells, typeCells}
+use Rattle.rules.specs.declared.NodeId.{NodeId}
+use Rattle.parser_base.specs.Represents.{Code, code, going, isGoing, ahead, docCells, Represents, FailedAt}
+use Rattle.parser_base.specs.Refines.{Ends, kept, Refines, deeper, wanted}
+use Rattle.parser_base.specs.declared.Parser.{Parser}
+use Rattle.parser_base.specs.declared.Used.{Used}
+use Rattle.parser_base.specs.declared.Status.the-variants.{Going, Failed}
+use Rattle.parser_base.proofs.Steps.{either, true≢false, left-some, current-represents, represents-less, represents-going, failed-fails}
+use Rattle.parser_base.proofs.Leaves.{from-next, next-near}
+use Rattle.parser_base.proofs.Cells.{withUsed, zeros-length, types-length, nodes-length}
+use Rattle.parser_base.proofs.Docs.{docs-length}
+use Rattle.parser_base.proofs.Rounds.{Again, Turned, LoopInvariant, round-start-at, round-out, ifKind-is-yes, ifKind-is-no}
+use Rattle.parser_base.proofs.Loops.{wanted-eof, unwanted}
+use Rattle.parser.specs.Whole.{Blank, rootStep, RootsAre, dropDocs, Holds, RootsEnd}
+use Rattle.parser.specs.declared.RootsRead.{RootsRead}
+
+-- ---- docs that are dropped
+
+abbrev pub undocumented : Used → Used
+undocumented u = record { nodes = u .nodes; values = u .values; types = u .types; docs = 0; cells = u .cells; scratch = u .scratch }
+
+pub dropping : (script nodes types types′ lists : List ℕ) (p : Parser) → isGoing (p .status) ≡ true
+    → types′ ≡ take (length types - 3 * p .used .docs) types ++ zeros (length types - (length types - 3 * p .used .docs))
+    → Refines script 0 0 dropDocs (λ n. n ≡ 0) kept 0 0 0 (code nodes types lists p) (code nodes types′ lists (withUsed p (undocumented (p .used))))
+unfolding dropDocs withDocs flatten
+dropping script nodes types types′ lists p g e = record {
+  sticky = λ z. absurd (true≢false g z);
+  monotone = omega arith;
+  progress = λ _. omega arith;
+  simulates = λ R L stack m h.
+      let u : Used = p .used in
+      let laid = h .related .types in
+      let credit = h .related .credit in
+      let top : List ℕ = docCells (m .docs) in
+      let front : List ℕ = flatten (map typeCells (m .arena .types)) in
+      let y : ℕ = length types - (8 * u .types + 3 * u .docs) in
+      let n : length top ≡ 3 * u .docs = omega (arith, docs-length (m .docs), laid .docCounted) in
+      let k : length front ≡ 8 * u .types = omega (arith, types-length (m .arena .types), laid .counted) in
+      let old : types ≡ (front ++ zeros y) ++ reverse top = laid .laid ∙ sym (append-assoc front (zeros y) (reverse top)) in
+      let both : length types ≡ length front + (y + 3 * u .docs) = omega (arith, ap length (laid .laid) ∙ length-append front _, length-append (zeros y) (reverse top), zeros-length y, length-reverse top) in
+      let at : length (front ++ zeros y) ≡ length types - 3 * u .docs = omega (arith, length-append front (zeros y), zeros-length y) in
+      let kept-front : take (length types - 3 * u .docs) types ≡ front ++ zeros y = ap (take (length types - 3 * u .docs)) old ∙ take-at (front ++ zeros y) (reverse top) (length types - 3 * u .docs) at in
+      let new : types′ ≡ (front ++ zeros y) ++ zeros (3 * u .docs) = e ∙ ap (λ (l : List ℕ). l ++ zeros (length types - (length types - 3 * u .docs))) kept-front ∙ ap (λ (j : ℕ). (front ++ zeros y) ++ zeros j) {x = length types - (length types - 3 * u .docs)} {y = 3 * u .docs} (omega arith) in
+      let same : length types′ ≡ length types = omega (arith, ap length new ∙ length-append (front ++ zeros y) (zeros (3 * u .docs)), zeros-length (3 * u .docs)) in
+      let j : y + 3 * u .docs ≡ length types′ - (8 * u .types + 3 * 0) = omega arith in (
+        refl,
+        record {
+          status = h .status;
+          related = record {
+            left = h .related .left;
+            inRange = h .related .inRange;
+            inside = h .related .inside;
+            nodes = h .related .nodes;
+            types = record {
+              laid = new ∙ append-assoc front (zeros y) (zeros (3 * u .docs)) ∙ ap (λ (l : List ℕ). front ++ l) (replicate-append-replicate y (3 * u .docs) 0 ∙ ap zeros j ∙ sym (append-nil _));
+              counted = laid .counted;
+              docCounted = refl;
+              allLow = tt;
+            };
+            lists = h .related .lists;
+            credit = record { records = omega (arith, credit .records); numbers = omega (arith, credit .numbers); room = omega (arith, credit .room) };
+            lent = record { small = h .related .lent .small; nodes = h .related .lent .nodes; types = omega (arith, same, h .related .lent .types); lists = h .related .lent .lists };
+          };
+        },
+      );
+}
+
+-- ---- one more root
+
+module _ {script roots roots′ : List ℕ} {n n′ : ℕ} {id : NodeId} {s s′ : Code} where
+  pub root-again : wanted (s .parser) kEof ≡ true → length script ≤ length roots → Refines script 0 0 (deeper script maxLevels .prefix) (λ a. a ≡ id) kept 1 0 8 s s′
+      → (going s′ ≡ true → n < length roots → n < 65536 → (roots′ ≡ set roots n (id .0)) × (n′ ≡ n + 1))
+      → Again script (rootStep script) kept (RootsAre script roots n s) (RootsAre script roots′ n′ s′) s s′
+  unfolding _>>=_ pure
+  root-again w long p f = record {
+    monotone = p .monotone;
+    progress = p .progress;
+    flowValue = λ R L stack xs m q h.
+        let cur : current (m .left) ≡ s .parser .cur = current-represents (h .related) in
+        subst (Turned script (rootStep script) kept (RootsAre script roots′ n′ s′) s′ R L stack) (sym (ifKind-is-no kEof _ _ m (rw cur (wanted-eof (s .parser) kEof w))))
+        (go R L stack xs q (h .related .lent .small) (deeper script maxLevels .prefix m) (p .simulates R L stack m (represents-less _ _ (omega arith) (omega arith) h)));
+  }
+    where
+      go : (R L : ℕ) (stack xs : List ℕ) → RootsAre script roots n s xs → length script ≤ 65536 → (r : Result NodeId) → Ends script (λ a. a ≡ id) kept s′ R L 0 8 stack r
+          → Turned script (rootStep script) kept (RootsAre script roots′ n′ s′) s′ R L stack (elim r as (λ _. Result (ControlFlow (List ℕ))) [ ok a t ↦ ok (continue (xs ++ (a .0 ∷ []))) t | err e t ↦ err e t ])
+      go R L stack xs q small (ok a m) h =
+          let g : going s′ ≡ true = represents-going (h .1) in
+          let t : length (ahead script s′) + 1 ≤ length (ahead script s) = p .progress g in
+          let some : 1 ≤ length (ahead script s′) = omega (arith, left-some (h .1 .related), ap length (h .1 .related .left)) in
+          let room : n < length script = omega (arith, q .1, q .2) in
+          let z = f g (omega arith) (omega arith) in
+          let k : length roots - n ≡ suc (length roots - n - 1) = omega arith in
+          let same : length roots′ ≡ length roots = ap length (z .0) ∙ length-set roots n (id .0) in
+          let old : roots ≡ xs ++ (0 ∷ zeros (length roots - n - 1)) = q .0 ∙ ap (λ (j : ℕ). xs ++ zeros j) k in
+          let new : roots′ ≡ xs ++ (a .0 ∷ zeros (length roots - n - 1)) =
+          z .0 ∙ ap (λ (l : List ℕ). set l n (id .0)) old ∙ set-at xs 0 (zeros (length roots - n - 1)) (id .0) n (q .1) ∙ ap (λ (b : NodeId). xs ++ (b .0 ∷ zeros (length roots - n - 1))) (sym (h .0)) in
+          let more : length (xs ++ (a .0 ∷ [])) ≡ length xs + 1 = length-append xs (a .0 ∷ []) in
+          let j : length roots - n - 1 ≡ length roots′ - n′ = omega (arith, z .1) in
+          ((new ∙ sym (append-assoc xs (a .0 ∷ []) (zeros (length roots - n - 1))) ∙ ap (λ (i : ℕ). (xs ++ (a .0 ∷ [])) ++ zeros i) j, omega (arith, q .1, z .1), omega (arith, q .2)), represents-less _ _ (omega arith) (omega arith) (h .1))
+      go R L stack xs q small (err e m) h = h
+
+-- ---- the beginning and the end
+
+abbrev pub fresh : Next → Parser
+fresh x = record { cur = x .token; pos = x .next; used = record { nodes = 0; values = 0; types = 0; docs = 0; cells = 0; scratch = 0 }; status = Going }
+
+blank-as : {a : List ℕ} (n : ℕ) → a ≡ zeros (length a) → n ≡ 0 → a ≡ zeros (length a - n) ++ []
+blank-as {a} n e z = e ∙ ap zeros {x = length a} {y = length a - n} (omega arith) ∙ sym (append-nil (zeros (length a - n)))
+
+module _ {script nodes types lists roots : List ℕ} (x : Next) (h : Blank script nodes types lists roots) (e : x ≡ nextAt script 0) where
+  pub begun : Represents script (code nodes types lists (fresh x)) 0 0 [] (begin script)
+  unfolding begin cut tokensFrom flatten
+  begun =
+      let few : length (tokensFrom script 0) ≤ length script + 1 = omega (arith, tokens-le script 0 0) in
+      let inRange = next-near script 0 e (omega arith) in
+      record {
+        status = refl;
+        related = record {
+          left = from-next script 0 e;
+          inRange = inRange .0;
+          inside = inRange .1;
+          nodes = record { laid = blank-as _ (h .blankNodes) (omega arith); counted = refl; valued = refl };
+          types = record { laid = blank-as _ (h .blankTypes) (omega arith); counted = refl; docCounted = refl; allLow = tt };
+          lists = record { laid = blank-as _ (h .blankLists) (omega arith); counted = refl; stacked = refl };
+          credit = record { records = omega arith; numbers = omega arith; room = omega arith };
+          lent = h .lent;
+        };
+      }
+
+  pub roots-start : LoopInvariant script (rootStep script) kept [] (RootsAre script roots 0 (code nodes types lists (fresh x))) (code nodes types lists (fresh x)) (code nodes types lists (fresh x))
+  roots-start = round-start-at (λ R L stack m k. (h .blankRoots ∙ ap zeros {x = length roots} {y = length roots - 0} (omega arith), refl, omega (arith, k .related .credit .records, ap length (k .related .left))))
+
+  module _ {nodes′ types′ types″ lists′ roots′ : List ℕ} {q : Parser} {r : RootsRead} where
+    pub roots-end : LoopInvariant script (rootStep script) kept [] (RootsAre script roots′ (r .members) (code nodes′ types′ lists′ q)) (code nodes types lists (fresh x)) (code nodes′ types′ lists′ q)
+        → wanted q kEof ≡ false
+        → Refines script 0 0 dropDocs (λ n. n ≡ 0) kept 0 0 0 (code nodes′ types′ lists′ q) (code nodes′ types″ lists′ (r .parser))
+        → RootsEnd nodes′ types″ lists′ roots′ r (parseRoots stageOne script (begin script))
+    unfolding parseRoots dropDocs withDocs pure flatten
+    roots-end i w p = go (loop (rootStep script) [] (begin script)) (round-out i (λ stack. refl) out .simulates 0 0 [] (begin script) begun)
+      where
+        out : (R L : ℕ) (stack xs : List ℕ) (m : State) → RootsAre script roots′ (r .members) (code nodes′ types′ lists′ q) xs → Represents script (code nodes′ types′ lists′ q) R L stack m → rootStep script xs m ≡ ok (break xs) m
+        out R L stack xs m k g =
+            let cur : current (m .left) ≡ q .cur = current-represents (g .related) in
+            either (eqb (q .cur .kind) kEof)
+            (λ z. ifKind-is-yes kEof _ _ m (rw cur z))
+            (λ z. absurd (true≢false (unwanted q kEof (represents-going g) w z) z))
+
+        go : (res : Result (List ℕ)) → Ends script (RootsAre script roots′ (r .members) (code nodes′ types′ lists′ q)) kept (code nodes′ types′ lists′ q) 0 0 0 0 [] res → RootsEnd nodes′ types″ lists′ roots′ r res
+        go (ok xs m) k =
+            let d : Represents script (code nodes′ types″ lists′ (r .parser)) 0 0 [] (withDocs [] m) = p .simulates 0 0 [] m (k .1) .1 in
+            let u : Used = r .parser .used in
+            let ns = d .related .nodes in
+            let ts = d .related .types in
+            let ls = d .related .lists in
+            let a : length nodes′ - 16 * u .nodes ≡ length nodes′ - length (flatten (map nodeCells (m .arena .nodes))) = omega (arith, ns .counted, nodes-length (m .arena .nodes)) in
+            let b : length types″ - (8 * u .types + 3 * u .docs) ≡ length types″ - length (flatten (map typeCells (m .arena .types))) = omega (arith, ts .counted, ts .docCounted, types-length (m .arena .types)) in
+            let c : length lists′ - (u .cells + u .scratch) ≡ length lists′ - length (m .arena .cells) = omega (arith, ls .counted, ls .stacked) in
+            record {
+              going = d .status;
+              nodesHeld = ns .laid ∙ ap (λ (l : List ℕ). flatten (map nodeCells (m .arena .nodes)) ++ l) (append-nil _ ∙ ap zeros a);
+              typesHeld = ts .laid ∙ ap (λ (l : List ℕ). flatten (map typeCells (m .arena .types)) ++ l) (append-nil _ ∙ ap zeros b);
+              listsHeld = ls .laid ∙ ap (λ (l : List ℕ). m .arena .cells ++ l) (append-nil _ ∙ ap zeros c);
+              rootsHeld = k .0 .0 ∙ ap (λ (j : ℕ). xs ++ zeros (length roots′ - j)) (sym (k .0 .1));
+              nodeCount = ns .counted;
+              typeCount = ts .counted;
+              cellCount = ls .counted;
+              valueCount = ns .valued;
+              rootCount = sym (k .0 .1);
+            }
+        go (err e m) k = ap (λ (t : Code). t .parser .status) (p .sticky (failed-fails k)) ∙ k .status

@@ -1,0 +1,2 @@
+-- What the contracts of the entry points are written in.
+pub mod Whole

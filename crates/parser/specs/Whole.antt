@@ -1,0 +1,57 @@
+-- What reading the roots of a whole script comes to.
+use mathlib.Core.Path.{_≡_}
+use mathlib.Core.List.{List, [], _∷_, _++_, map, flatten}
+use Prim.Native.Nat.{ℕ, _+_, _-_, _≤_}
+use lib.ListN.{length}
+use Rattle.lex.specs.Kind.{kEof}
+use Rattle.rules.specs.Tree.{State, Result, ok, err}
+use Rattle.rules.specs.Combinators.{Rule, _>>=_, pure, ifKind, withDocs, ControlFlow, continue, break, loop}
+use Rattle.rules.specs.Rules.{maxLevels}
+use Rattle.rules.specs.Layout.{zeros, padded, nodeCells, typeCells}
+use Rattle.rules.specs.Promise.{Arrays}
+use Rattle.parser_base.specs.Represents.{Code, ahead, EnoughLent}
+use Rattle.parser_base.specs.Refines.{deeper}
+use Rattle.parser_base.specs.declared.Status.the-variants.{Going, Failed}
+use Rattle.parser.specs.declared.RootsRead.{RootsRead}
+
+abbrev pub arrays : List ℕ → List ℕ → List ℕ → List ℕ → List ℕ → Arrays
+arrays nodes types lists roots diagnostics = record { nodes = nodes; types = types; lists = lists; roots = roots; diagnostics = diagnostics }
+
+-- enough is lent, and it is blank
+pub record Blank (script ns ts ls rs : List ℕ) : Type 0 where
+  pub lent : EnoughLent script ns ts ls
+  pub roots : length script ≤ length rs
+  pub blankNodes : ns ≡ zeros (length ns)
+  pub blankTypes : ts ≡ zeros (length ts)
+  pub blankLists : ls ≡ zeros (length ls)
+  pub blankRoots : rs ≡ zeros (length rs)
+
+-- one more root
+abbrev pub rootStep : List ℕ → List ℕ → Rule (ControlFlow (List ℕ))
+rootStep script roots = ifKind kEof (pure (break roots)) (deeper script maxLevels .prefix >>= (λ n. pure (continue (roots ++ (n .0 ∷ [])))))
+
+-- the array holds `n` roots, each of which took a token
+abbrev pub RootsAre : List ℕ → List ℕ → ℕ → Code → List ℕ → Type 0
+RootsAre script array n s xs = (array ≡ xs ++ zeros (length array - n)) × (length xs ≡ n) × (length xs + length (ahead script s) ≤ length script + 1)
+
+-- docs that still wait are dropped
+unfoldable pub dropDocs : Rule ℕ
+dropDocs = λ s. ok 0 (withDocs [] s)
+
+-- the arrays and counts of a tree
+pub record Holds (nodes types lists roots : List ℕ) (r : RootsRead) (xs : List ℕ) (m : State) : Type 0 where
+  pub going : r .parser .status ≡ Going
+  pub nodesHeld : nodes ≡ padded (length nodes) (flatten (map nodeCells (m .arena .nodes)))
+  pub typesHeld : types ≡ padded (length types) (flatten (map typeCells (m .arena .types)))
+  pub listsHeld : lists ≡ padded (length lists) (m .arena .cells)
+  pub rootsHeld : roots ≡ padded (length roots) xs
+  pub nodeCount : r .parser .used .nodes ≡ length (m .arena .nodes)
+  pub typeCount : r .parser .used .types ≡ length (m .arena .types)
+  pub cellCount : r .parser .used .cells ≡ length (m .arena .cells)
+  pub valueCount : r .parser .used .values ≡ m .arena .values
+  pub rootCount : r .members ≡ length xs
+
+-- by how the rule ends
+abbrev pub RootsEnd : List ℕ → List ℕ → List ℕ → List ℕ → RootsRead → Result (List ℕ) → Type 0
+RootsEnd nodes types lists roots r (ok xs m) = Holds nodes types lists roots r xs m
+RootsEnd nodes types lists roots r (err e m) = r .parser .status ≡ Failed e

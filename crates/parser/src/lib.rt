@@ -1,0 +1,217 @@
+// The entry points of parser.rs.
+use lex::Type;
+use lex::next_token;
+use parser_base::Parser;
+use parser_base::Status;
+use parser_base::Used;
+use parser_base::going;
+use parser_base::wants;
+use parser_items::prefix;
+use rules::Counts;
+use rules::NodeId;
+use rules::Parsed;
+ghost use mathlib.Core.Path.{_≡_};
+ghost use mathlib.Core.Bool.{true, false};
+ghost use mathlib.Core.List.{List, _++_};
+ghost use Prim.Native.Nat.{ℕ, _+_, _*_, _-_, _<_, _≤_};
+ghost use lib.Dec.{ltb};
+ghost use lib.ListN.{length, take, set};
+ghost use Rattle.lex.specs.Bytes.{or};
+ghost use Rattle.rules.specs.Layout.{zeros};
+ghost use Rattle.rules.specs.Rules.{stageOne};
+ghost use Rattle.rules.specs.Parse.{begin, parseRoots, parse};
+ghost use Rattle.rules.specs.Promise.{promised};
+ghost use Rattle.parser_base.specs.Represents.{code, isGoing};
+ghost use Rattle.parser_base.specs.Refines.{Refines, kept};
+ghost use Rattle.parser.specs.Whole.{arrays, Blank, RootsEnd, dropDocs};
+
+// ---- arrays
+
+// From a place on an array is cleared.
+fn clear_from(a: &mut [u32], from: usize)
+    requires { ⌜ from ≤ length (now a) ⌝ }
+    ensures { λ r. ⌜ now (a .exit) ≡ take from (now (a .entry)) ++ zeros (length (now (a .entry)) - from) ⌝ }
+{
+    let mut i = from;
+    while i < a.len() {
+        a[i] = 0;
+        i += 1;
+    }
+}
+
+// One of the arrays has fewer cells than `n` bytes ask for.
+fn too_short(
+    n: usize,
+    nodes: usize,
+    types: usize,
+    lists: usize,
+    roots: usize,
+    diagnostics: usize,
+) -> bool
+    requires { ⌜ n ≤ 65536 ⌝ }
+    ensures { λ r. ⌜ r ≡ or (ltb nodes (16 * n)) (or (ltb types (8 * n)) (or (ltb lists (8 * n)) (or (ltb roots n) (ltb diagnostics (5 * n))))) ⌝ }
+{
+    if nodes < 16 * n {
+        return true;
+    }
+    if types < 8 * n {
+        return true;
+    }
+    if lists < 8 * n {
+        return true;
+    }
+    if roots < n {
+        return true;
+    }
+    diagnostics < 5 * n
+}
+
+// ---- roots
+
+// What is read of the roots, and how many.
+pub struct RootsRead {
+    pub parser: Parser,
+    pub members: u32,
+}
+
+// A root's number goes behind those that are there, where the reading has not failed.
+fn push_root(roots: &mut [u32], p: Parser, n: u32, id: NodeId) -> u32
+    ensures { λ r. ⌜ (isGoing (p .status) ≡ true → n < length (now (roots .entry)) → n < 65536 → (now (roots .exit) ≡ set (now (roots .entry)) n (id .0)) × (r ≡ n + 1)) ⌝ }
+{
+    if !going(p) {
+        return n;
+    }
+    let at = n as usize;
+    if roots.len() <= at {
+        return n;
+    }
+    if 65536 <= n {
+        return n;
+    }
+    roots[at] = id.0;
+    n + 1
+}
+
+// Docs that wait at the end are dropped.
+fn drop_docs(types: &mut [u32], p: Parser) -> Parser
+    ensures { λ r. ⌜ ((script nodes lists : List ℕ) → Refines script 0 0 dropDocs (λ n. n ≡ 0) kept 0 0 0 (code nodes (now (types .entry)) lists p) (code nodes (now (types .exit)) lists r)) ⌝ }
+{
+    if !going(p) {
+        return p;
+    }
+    let u = p.used;
+    let docs = u.docs;
+    if 65536 < docs {
+        return p;
+    }
+    let n = 3 * docs as usize;
+    if types.len() < n {
+        return p;
+    }
+    clear_from(types, types.len() - n);
+    let used = Used {
+        nodes: u.nodes,
+        values: u.values,
+        types: u.types,
+        docs: 0,
+        cells: u.cells,
+        scratch: u.scratch,
+    };
+    let cur = p.cur;
+    let status = p.status;
+    Parser {
+        cur,
+        pos: p.pos,
+        used,
+        status,
+    }
+}
+
+fn parse_roots(
+    script: &[u8],
+    nodes: &mut [u32],
+    types: &mut [u32],
+    lists: &mut [u32],
+    roots: &mut [u32],
+) -> RootsRead
+    requires { ⌜ Blank (now script) (now nodes) (now types) (now lists) (now roots) ⌝ }
+    ensures { λ r. ⌜ RootsEnd (now (nodes .exit)) (now (types .exit)) (now (lists .exit)) (now (roots .exit)) r (parseRoots stageOne (now (script .entry)) (begin (now (script .entry)))) ⌝ }
+{
+    let first = next_token(script, 0);
+    let cur = first.token;
+    let used = Used {
+        nodes: 0,
+        values: 0,
+        types: 0,
+        docs: 0,
+        cells: 0,
+        scratch: 0,
+    };
+    let mut q = Parser {
+        cur,
+        pos: first.next,
+        used,
+        status: Status::Going,
+    };
+    let mut members: u32 = 0;
+    while wants(q, Type::EOF) {
+        let n = prefix(script, nodes, types, lists, q, Parser::MAX_LEVELS);
+        q = n.parser;
+        members = push_root(roots, q, members, n.id);
+    }
+    let parser = drop_docs(types, q);
+    RootsRead { parser, members }
+}
+
+// program = prefix*, up to the first error.
+pub fn parse(
+    script: &[u8],
+    nodes: &mut [u32],
+    types: &mut [u32],
+    lists: &mut [u32],
+    roots: &mut [u32],
+    diagnostics: &mut [u32],
+) -> Parsed
+    ensures { λ r. ⌜ promised (parse stageOne) (now (script .entry)) (arrays (now (nodes .entry)) (now (types .entry)) (now (lists .entry)) (now (roots .entry)) (now (diagnostics .entry))) ≡ record { answer = r; arrays = arrays (now (nodes .exit)) (now (types .exit)) (now (lists .exit)) (now (roots .exit)) (now (diagnostics .exit)) } ⌝ }
+{
+    if Parser::MAX_BYTES < script.len() {
+        return Parsed::Refused(1);
+    }
+    if too_short(
+        script.len(),
+        nodes.len(),
+        types.len(),
+        lists.len(),
+        roots.len(),
+        diagnostics.len(),
+    ) {
+        return Parsed::Refused(2);
+    }
+    clear_from(nodes, 0);
+    clear_from(types, 0);
+    clear_from(lists, 0);
+    clear_from(roots, 0);
+    clear_from(diagnostics, 0);
+    let r = parse_roots(script, nodes, types, lists, roots);
+    let members = r.members;
+    let p = r.parser;
+    let u = p.used;
+    let status = p.status;
+    match status {
+        Status::Going => Parsed::Tree(Counts {
+            nodes: u.nodes,
+            types: u.types,
+            cells: u.cells,
+            roots: members,
+            values: u.values,
+            diagnostics: 0,
+        }),
+        Status::Failed(d) => {
+            clear_from(nodes, 0);
+            clear_from(types, 0);
+            clear_from(lists, 0);
+            clear_from(roots, 0);
+            Parsed::Error(d)
+        }
+    }
+}
