@@ -17,7 +17,7 @@ ghost use Rattle.same.specs.Parts.{partOf, PartAgrees, PartsAgree};
 
 // Six parts for each tag from 0 on, in the order in which they are compared; the last is the child that is compared last. What each is:
 // 0 nothing, 1 a token, 2 a list of tokens, 3 arguments, 4 a type, 5 fns, 6 a list of nodes, 7 fields, 8 cases, 9 a node.
-const PART_KINDS: [u32; 90] = [
+const PART_KINDS: [u8; 90] = [
     0,
     0,
     0,
@@ -111,7 +111,7 @@ const PART_KINDS: [u32; 90] = [
 ];
 
 // The cell of each in its record.
-const PART_CELLS: [u32; 90] = [
+const PART_CELLS: [u8; 90] = [
     0,
     0,
     0,
@@ -357,7 +357,7 @@ fn agree_part(
     k2: u32,
     j: u32,
     at2: usize,
-    kind: u32,
+    kind: u8,
 ) -> bool
     ensures { λ r. ⌜ Decides r (PartAgrees (envBelow (view (now (now (s .entry))) (now (now (nodes .entry))) (now (now (types .entry))) (now (now (cells .entry))) k) i) (envBelow (view (now (now (s2 .entry))) (now (now (nodes2 .entry))) (now (now (types2 .entry))) (now (now (cells2 .entry))) k2) j) (partOf kind) (now (now (nodes .entry))) at (now (now (nodes2 .entry))) at2) ⌝ }
 {
