@@ -10,3 +10,4 @@ mod Nodes
 mod Roots
 pub mod Compare
 pub mod Held
+mod Examples

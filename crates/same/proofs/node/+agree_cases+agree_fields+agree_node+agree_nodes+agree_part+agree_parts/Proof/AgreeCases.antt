@@ -112,29 +112,29 @@ returns-6 t c =
 pub agree-cases-meets : {M : Type 1} (t : ℕ) → lts.Closed (claims t) (agree-cases-at t) agree-cases.Post M
 agree-cases-meets t = lts.spec (claims t) (agree-cases-at t) agree-cases.Post Inv-loop μ-loop
     (returns t)
-    (λ c. omega arith) -- cast-at
-    (λ c. omega arith) -- cast-at2
-    (λ c. omega arith) -- cast-left
-    (λ c. omega arith) -- mul-if2
-    (λ c. omega arith) -- add-if2
+    (λ c. omega arith)  -- cast-at
+    (λ c. omega arith)  -- cast-at2
+    (λ c. omega arith)  -- cast-left
+    (λ c. omega arith)  -- mul-if2
+    (λ c. omega arith)  -- add-if2
     (returns-2 t)
-    (λ c. omega arith) -- mul-if3
-    (λ c. omega arith) -- add-if3
+    (λ c. omega arith)  -- mul-if3
+    (λ c. omega arith)  -- add-if3
     (returns-3 t)
     (loop-holds t)
-    (λ c κs. search needs) -- cell-requires
-    (λ c κs. search needs) -- cell-requires-2
-    (λ c κs. (omega (arith, c .before .before .before .before .before .before .before .before .before .before .before .before .before .before .pre .0), search needs)) -- agree-node-requires
+    (λ c κs. search needs)  -- cell-requires
+    (λ c κs. search needs)  -- cell-requires-2
+    (λ c κs. (omega (arith, c .before .before .before .before .before .before .before .before .before .before .before .before .before .before .pre .0), search needs))  -- agree-node-requires
     (returns-4 t)
-    (λ c. omega (arith, c .before .before .before .before .before .before .before .before .loop .inv .small, c .before .before .before .before .before .before .before .loop-test .taken)) -- add-run-at
-    (λ c κs. search needs) -- run-at-requires
-    (λ c. omega (arith, c .before .before .before .before .before .before .before .before .before .before .loop .inv .small′, c .before .before .before .before .before .before .before .before .before .loop-test .taken)) -- add-run-at-2
-    (λ c κs. search needs) -- run-at-requires-2
-    (λ c κs. (omega (arith, c .before .before .before .before .before .before .before .before .before .before .before .before .before .before .before .before .before .before .before .before .pre .0), search needs)) -- agree-nodes-requires
+    (λ c. omega (arith, c .before .before .before .before .before .before .before .before .loop .inv .small, c .before .before .before .before .before .before .before .loop-test .taken))  -- add-run-at
+    (λ c κs. search needs)  -- run-at-requires
+    (λ c. omega (arith, c .before .before .before .before .before .before .before .before .before .before .loop .inv .small′, c .before .before .before .before .before .before .before .before .before .loop-test .taken))  -- add-run-at-2
+    (λ c κs. search needs)  -- run-at-requires-2
+    (λ c κs. (omega (arith, c .before .before .before .before .before .before .before .before .before .before .before .before .before .before .before .before .before .before .before .before .pre .0), search needs))  -- agree-nodes-requires
     (returns-5 t)
-    (λ c. omega (arith, c .before .before .before .before .before .before .before .before .before .before .before .before .before .loop .inv .small, c .before .before .before .before .before .before .before .before .before .before .before .before .loop-test .taken)) -- add-at
-    (λ c. omega (arith, c .before .before .before .before .before .before .before .before .before .before .before .before .before .loop .inv .small′, c .before .before .before .before .before .before .before .before .before .before .before .before .loop-test .taken)) -- add-at2
-    (λ c. omega (arith, c .before .before .before .before .before .before .before .before .before .before .before .before .loop-test .taken)) -- sub-left
+    (λ c. omega (arith, c .before .before .before .before .before .before .before .before .before .before .before .before .before .loop .inv .small, c .before .before .before .before .before .before .before .before .before .before .before .before .loop-test .taken))  -- add-at
+    (λ c. omega (arith, c .before .before .before .before .before .before .before .before .before .before .before .before .before .loop .inv .small′, c .before .before .before .before .before .before .before .before .before .before .before .before .loop-test .taken))  -- add-at2
+    (λ c. omega (arith, c .before .before .before .before .before .before .before .before .before .before .before .before .loop-test .taken))  -- sub-left
     (loop-less t)
     (loop-again t)
     (returns-6 t)

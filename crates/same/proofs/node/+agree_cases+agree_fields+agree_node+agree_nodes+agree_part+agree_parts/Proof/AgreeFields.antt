@@ -115,27 +115,27 @@ returns-6 t c =
 pub agree-fields-meets : {M : Type 1} (t : ℕ) → lts.Closed (claims t) (agree-fields-at t) agree-fields.Post M
 agree-fields-meets t = lts.spec (claims t) (agree-fields-at t) agree-fields.Post Inv-loop μ-loop
     (returns t)
-    (λ c. omega arith) -- cast-at
-    (λ c. omega arith) -- cast-at2
-    (λ c. omega arith) -- cast-left
-    (λ c. omega arith) -- mul-if2
-    (λ c. omega arith) -- add-if2
+    (λ c. omega arith)  -- cast-at
+    (λ c. omega arith)  -- cast-at2
+    (λ c. omega arith)  -- cast-left
+    (λ c. omega arith)  -- mul-if2
+    (λ c. omega arith)  -- add-if2
     (returns-2 t)
-    (λ c. omega arith) -- mul-if3
-    (λ c. omega arith) -- add-if3
+    (λ c. omega arith)  -- mul-if3
+    (λ c. omega arith)  -- add-if3
     (returns-3 t)
     (loop-holds t)
-    (λ c κs. search needs) -- token-at-requires
-    (λ c κs. search needs) -- token-at-requires-2
-    (λ c κs. search needs) -- agree-token-requires
+    (λ c κs. search needs)  -- token-at-requires
+    (λ c κs. search needs)  -- token-at-requires-2
+    (λ c κs. search needs)  -- agree-token-requires
     (returns-4 t)
-    (λ c κs. search needs) -- cell-requires
-    (λ c κs. search needs) -- cell-requires-2
-    (λ c κs. (omega (arith, c .before .before .before .before .before .before .before .before .before .before .before .before .before .before .before .before .before .before .before .before .before .before .pre .0), search needs)) -- agree-node-requires
+    (λ c κs. search needs)  -- cell-requires
+    (λ c κs. search needs)  -- cell-requires-2
+    (λ c κs. (omega (arith, c .before .before .before .before .before .before .before .before .before .before .before .before .before .before .before .before .before .before .before .before .before .before .pre .0), search needs))  -- agree-node-requires
     (returns-5 t)
-    (λ c. omega (arith, c .before .before .before .before .before .before .before .before .before .before .before .before .before .before .before .loop .inv .small, c .before .before .before .before .before .before .before .before .before .before .before .before .before .before .loop-test .taken)) -- add-at
-    (λ c. omega (arith, c .before .before .before .before .before .before .before .before .before .before .before .before .before .before .before .loop .inv .small′, c .before .before .before .before .before .before .before .before .before .before .before .before .before .before .loop-test .taken)) -- add-at2
-    (λ c. omega (arith, c .before .before .before .before .before .before .before .before .before .before .before .before .before .before .loop-test .taken)) -- sub-left
+    (λ c. omega (arith, c .before .before .before .before .before .before .before .before .before .before .before .before .before .before .before .loop .inv .small, c .before .before .before .before .before .before .before .before .before .before .before .before .before .before .loop-test .taken))  -- add-at
+    (λ c. omega (arith, c .before .before .before .before .before .before .before .before .before .before .before .before .before .before .before .loop .inv .small′, c .before .before .before .before .before .before .before .before .before .before .before .before .before .before .loop-test .taken))  -- add-at2
+    (λ c. omega (arith, c .before .before .before .before .before .before .before .before .before .before .before .before .before .before .loop-test .taken))  -- sub-left
     (loop-less t)
     (loop-again t)
     (returns-6 t)

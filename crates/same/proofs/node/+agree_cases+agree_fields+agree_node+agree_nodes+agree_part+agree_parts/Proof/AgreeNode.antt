@@ -80,22 +80,22 @@ pub agree-node-meets : {M : Type 1} (t : ℕ) → lts.Closed (claims t) (agree-n
 agree-node-meets t = lts.spec (claims t) (agree-node-at t) agree-node.Post
     (returns t)
     (returns-2 t)
-    (λ c κs. search needs) -- node-tag-requires
+    (λ c κs. search needs)  -- node-tag-requires
     (returns-3 t)
-    (λ c κs. search needs) -- node-tag-requires-2
+    (λ c κs. search needs)  -- node-tag-requires-2
     (returns-4 t)
-    (λ c κs. (omega (arith, c .before .before .before .before .before .before .before .before .pre .0, c .before .before .before .before .before .before .before .if1 .left), node-tag-bound _ _ (c .before .before .before .before .node-tag .ensures))) -- agree-parts-requires
+    (λ c κs. (omega (arith, c .before .before .before .before .before .before .before .before .pre .0, c .before .before .before .before .before .before .before .if1 .left), node-tag-bound _ _ (c .before .before .before .before .node-tag .ensures)))  -- agree-parts-requires
     (returns-5 t)
-    (λ c. search needs) -- cast-last
-    (λ c. omega (arith, node-tag-bound _ _ (c .before .before .before .before .before .before .node-tag .ensures))) -- mul-last
-    (λ c. omega (arith, node-tag-bound _ _ (c .before .before .before .before .before .before .node-tag .ensures))) -- add-last
-    (λ c. omega (arith, node-tag-bound _ _ (c .before .before .before .before .before .before .node-tag .ensures))) -- array-read-if6
+    (λ c. search needs)  -- cast-last
+    (λ c. omega (arith, node-tag-bound _ _ (c .before .before .before .before .before .before .node-tag .ensures)))  -- mul-last
+    (λ c. omega (arith, node-tag-bound _ _ (c .before .before .before .before .before .before .node-tag .ensures)))  -- add-last
+    (λ c. omega (arith, node-tag-bound _ _ (c .before .before .before .before .before .before .node-tag .ensures)))  -- array-read-if6
     (returns-6 t)
-    (λ c. omega (arith, node-tag-bound _ _ (c .before .before .before .before .before .before .before .node-tag .ensures))) -- array-read-o
+    (λ c. omega (arith, node-tag-bound _ _ (c .before .before .before .before .before .before .before .node-tag .ensures)))  -- array-read-o
     (cast-o t)
-    (λ c. omega (arith, c .before .before .before .before .before .before .before .before .before .before .before .before .fits .i)) -- mul-cell
-    (λ c κs. search needs) -- cell-requires
-    (λ c. omega (arith, c .before .before .before .before .before .before .before .before .before .before .before .before .before .before .fits .j)) -- mul-cell-2
-    (λ c κs. search needs) -- cell-requires-2
-    (λ c κs. (omega (arith, c .before .before .before .before .before .before .before .before .before .before .before .before .before .before .before .pre .0, c .before .before .before .before .before .before .before .before .before .before .before .before .before .before .if1 .left), search needs)) -- agree-node-requires
+    (λ c. omega (arith, c .before .before .before .before .before .before .before .before .before .before .before .before .fits .i))  -- mul-cell
+    (λ c κs. search needs)  -- cell-requires
+    (λ c. omega (arith, c .before .before .before .before .before .before .before .before .before .before .before .before .before .before .fits .j))  -- mul-cell-2
+    (λ c κs. search needs)  -- cell-requires-2
+    (λ c κs. (omega (arith, c .before .before .before .before .before .before .before .before .before .before .before .before .before .before .before .pre .0, c .before .before .before .before .before .before .before .before .before .before .before .before .before .before .if1 .left), search needs))  -- agree-node-requires
     (returns-7 t)

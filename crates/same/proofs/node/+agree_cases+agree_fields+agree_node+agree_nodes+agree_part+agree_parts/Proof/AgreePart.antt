@@ -133,40 +133,40 @@ returns-10 t c =
 
 pub agree-part-meets : {M : Type 1} (t : ℕ) → lts.Closed (claims t) (agree-part-at t) agree-part.Post M
 agree-part-meets t = lts.spec (claims t) (agree-part-at t) agree-part.Post
-    (λ c κs. search needs) -- token-at-requires
-    (λ c κs. search needs) -- token-at-requires-2
-    (λ c κs. search needs) -- agree-token-requires
+    (λ c κs. search needs)  -- token-at-requires
+    (λ c κs. search needs)  -- token-at-requires-2
+    (λ c κs. search needs)  -- agree-token-requires
     (returns t)
-    (λ c κs. search needs) -- run-at-requires
-    (λ c κs. search needs) -- run-at-requires-2
-    (λ c κs. search needs) -- agree-words-requires
+    (λ c κs. search needs)  -- run-at-requires
+    (λ c κs. search needs)  -- run-at-requires-2
+    (λ c κs. search needs)  -- agree-words-requires
     (returns-2 t)
-    (λ c κs. search needs) -- run-at-requires-3
-    (λ c κs. search needs) -- run-at-requires-4
-    (λ c κs. search needs) -- agree-params-requires
+    (λ c κs. search needs)  -- run-at-requires-3
+    (λ c κs. search needs)  -- run-at-requires-4
+    (λ c κs. search needs)  -- agree-params-requires
     (returns-3 t)
-    (λ c κs. search needs) -- cell-requires
-    (λ c κs. search needs) -- cell-requires-2
-    (λ c κs. search needs) -- agree-type-requires
+    (λ c κs. search needs)  -- cell-requires
+    (λ c κs. search needs)  -- cell-requires-2
+    (λ c κs. search needs)  -- agree-type-requires
     (returns-4 t)
-    (λ c κs. search needs) -- run-at-requires-5
-    (λ c κs. search needs) -- run-at-requires-6
-    (λ c κs. search needs) -- agree-fns-requires
+    (λ c κs. search needs)  -- run-at-requires-5
+    (λ c κs. search needs)  -- run-at-requires-6
+    (λ c κs. search needs)  -- agree-fns-requires
     (returns-5 t)
-    (λ c κs. search needs) -- run-at-requires-7
-    (λ c κs. search needs) -- run-at-requires-8
-    (λ c κs. (omega (arith, c .before .before .before .before .before .before .before .before .before .before .pre .0), search needs)) -- agree-nodes-requires
+    (λ c κs. search needs)  -- run-at-requires-7
+    (λ c κs. search needs)  -- run-at-requires-8
+    (λ c κs. (omega (arith, c .before .before .before .before .before .before .before .before .before .before .pre .0), search needs))  -- agree-nodes-requires
     (returns-6 t)
-    (λ c κs. search needs) -- run-at-requires-9
-    (λ c κs. search needs) -- run-at-requires-10
-    (λ c κs. (omega (arith, c .before .before .before .before .before .before .before .before .before .before .before .pre .0), search needs)) -- agree-fields-requires
+    (λ c κs. search needs)  -- run-at-requires-9
+    (λ c κs. search needs)  -- run-at-requires-10
+    (λ c κs. (omega (arith, c .before .before .before .before .before .before .before .before .before .before .before .pre .0), search needs))  -- agree-fields-requires
     (returns-7 t)
-    (λ c κs. search needs) -- run-at-requires-11
-    (λ c κs. search needs) -- run-at-requires-12
-    (λ c κs. (omega (arith, c .before .before .before .before .before .before .before .before .before .before .before .before .pre .0), search needs)) -- agree-cases-requires
+    (λ c κs. search needs)  -- run-at-requires-11
+    (λ c κs. search needs)  -- run-at-requires-12
+    (λ c κs. (omega (arith, c .before .before .before .before .before .before .before .before .before .before .before .before .pre .0), search needs))  -- agree-cases-requires
     (returns-8 t)
-    (λ c κs. search needs) -- cell-requires-3
-    (λ c κs. search needs) -- cell-requires-4
-    (λ c κs. (omega (arith, c .before .before .before .before .before .before .before .before .before .before .before .before .before .pre .0), search needs)) -- agree-node-requires
+    (λ c κs. search needs)  -- cell-requires-3
+    (λ c κs. search needs)  -- cell-requires-4
+    (λ c κs. (omega (arith, c .before .before .before .before .before .before .before .before .before .before .before .before .before .pre .0), search needs))  -- agree-node-requires
     (returns-9 t)
     (returns-10 t)

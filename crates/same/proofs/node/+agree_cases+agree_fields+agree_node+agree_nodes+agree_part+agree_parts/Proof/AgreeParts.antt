@@ -72,18 +72,18 @@ add-agree-part-2 t c = omega (arith, cell-small (6 * c .before .before .args .ta
 pub agree-parts-meets : {M : Type 1} (t : ℕ) → lts.Closed (claims t) (agree-parts-at t) agree-parts.Post M
 agree-parts-meets t = lts.spec (claims t) (agree-parts-at t) agree-parts.Post Inv-loop μ-loop
     (loop-holds t)
-    (λ c. omega (arith, c .before .before .pre .1)) -- mul-p
-    (λ c. omega (arith, c .before .before .pre .1, c .loop-test .taken)) -- add-p
-    (λ c. omega (arith, c .before .before .pre .1, c .loop-test .taken)) -- array-read-kind
-    (λ c. omega (arith, c .before .before .pre .1, c .loop-test .taken)) -- array-read-o
+    (λ c. omega (arith, c .before .before .pre .1))  -- mul-p
+    (λ c. omega (arith, c .before .before .pre .1, c .loop-test .taken))  -- add-p
+    (λ c. omega (arith, c .before .before .pre .1, c .loop-test .taken))  -- array-read-kind
+    (λ c. omega (arith, c .before .before .pre .1, c .loop-test .taken))  -- array-read-o
     (cast-o t)
-    (λ c. omega (arith, c .before .before .fits .i)) -- mul-agree-part
+    (λ c. omega (arith, c .before .before .fits .i))  -- mul-agree-part
     (add-agree-part t)
-    (λ c. omega (arith, c .before .before .fits .j)) -- mul-agree-part-2
+    (λ c. omega (arith, c .before .before .fits .j))  -- mul-agree-part-2
     (add-agree-part-2 t)
-    (λ c κs. (omega (arith, c .before .before .pre .0), search needs)) -- agree-part-requires
+    (λ c κs. (omega (arith, c .before .before .pre .0), search needs))  -- agree-part-requires
     (returns t)
-    (λ c. omega (arith, c .before .before .loop-test .taken)) -- add-x
+    (λ c. omega (arith, c .before .before .loop-test .taken))  -- add-x
     (loop-less t)
     (loop-again t)
     (returns-2 t)
