@@ -1,6 +1,6 @@
 -- Laws of writing a text: one text behind another, members of a loop, what a whole text leaves.
 use mathlib.Core.Path.{_≡_, refl, sym, _∙_, ap}
-use mathlib.Core.Bool.{Bool, true, false, false≢true}
+use mathlib.Core.Bool.{Bool, true, false, false≢true, _&&_}
 use mathlib.Core.Option.{Option}
 use mathlib.Core.List.{List, [], _∷_, _++_}
 use Prim.Native.Nat.{ℕ, zero, suc, _+_, _-_, _*_, _/_, _%_, _<_, _≤_, min}
@@ -26,7 +26,7 @@ use Rattle.rules.specs.declared.Parsed.the-variants as P
 use Rattle.rules.specs.Promise.{Arrays}
 use Rattle.ast.specs.Decode.{nodeRead, typeRead, nodeAt, typeAt}
 use Rattle.listing.specs.Text.{bytes, malformed, gap, each, listed, digits, number, kindNames, kindName, token, node, typeExpr}
-use Rattle.listing.specs.Listing.{line, nodeText, typeText, numbersLine, errorLine, treeText, and, within, diagnosticAt, textOf}
+use Rattle.listing.specs.Listing.{line, nodeText, typeText, numbersLine, errorLine, treeText, within, diagnosticAt, textOf}
 use Rattle.listing.specs.Emit.{Output, last, put, emit, Emits}
 
 emit-append : (a b : List ℕ) (o : Output) → emit (a ++ b) o ≡ emit b (emit a o)
@@ -226,7 +226,7 @@ error-other e h = rw (ne-eqb _ _ h, errorLine)
 
 -- ---- the arrays of an answer
 
-third : (x y z w : Bool) → and x (and y (and z w)) ≡ true → z ≡ true
+third : (x y z w : Bool) → (x && (y && (z && w))) ≡ true → z ≡ true
 third true true true w e = refl
 third true true false w e = e
 third true false z w e = absurd (false≢true e)

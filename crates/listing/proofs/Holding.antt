@@ -1,9 +1,9 @@
 -- Arrays that a reading filled are listed as the reading.
 use mathlib.Core.Path.{_≡_, refl, sym, _∙_, ap}
-use mathlib.Core.Bool.{Bool, true}
+use mathlib.Core.Bool.{Bool, true, _&&_}
 use mathlib.Core.Option.{Option}
 use mathlib.Core.List.{List, [], _∷_, _++_, map, flatten}
-use Prim.Native.Nat.{ℕ, zero, suc, _+_, _-_, _*_, _<_, _≤_}
+use Prim.Native.Nat.{ℕ, zero, suc, _+_, _-_, _*_, _<_}
 use native.Mathlib.Nat.{add-zero}
 use native.Mathlib.Omega.{arith}
 use lib.Dec.{leb}
@@ -17,12 +17,12 @@ use Rattle.rules.specs.declared.Counts.{Counts}
 use Rattle.rules.specs.Tree.{Tree}
 use Rattle.rules.specs.Parse.{Reading, read, ended}
 use Rattle.rules.specs.Layout.{nodeWidth, typeWidth, zeros, padded, nodeCells, typeCells, diagnosticCells}
-use Rattle.rules.specs.Promise.{Arrays, noError, holding, Outcome, outcome}
+use Rattle.rules.specs.Promise.{Arrays, noError, holding, outcome}
 use Rattle.ast.specs.Decode.{nodeOf, typeOf, nodeAt, typeAt}
 use Rattle.ast.proofs.LayoutLaws.{node-inside, type-inside, node-length, type-length, node-trip, type-trip}
 use Rattle.listing.specs.Text.{bytes, gap, each, number}
-use Rattle.listing.specs.Listing.{line, nodeText, typeText, nodeLine, typeLine, rootsLine, numbersLine, treeText, countsOf, listingOf, and, within, diagnosticAt, textOf}
-use Rattle.listing.proofs.Stored.{Stored, stored, getD-is, length-stored}
+use Rattle.listing.specs.Listing.{line, nodeText, typeText, nodeLine, typeLine, rootsLine, numbersLine, treeText, countsOf, listingOf, within, diagnosticAt, textOf}
+use Rattle.listing.proofs.Stored.{stored, getD-is, length-stored}
 
 -- texts that agree below n
 each-same : (f g : ℕ → List ℕ) (n : ℕ) → ((i : ℕ) → i < n → f i ≡ g i) → each f n ≡ each g n
@@ -66,7 +66,7 @@ module _ (zs : List ℕ) where
 in-front : (n : ℕ) (xs : List ℕ) (m : ℕ) → length xs ≡ n → leb n (length (padded m xs)) ≡ true
 in-front n xs m e = le-leb n (length (padded m xs)) (omega (arith, length-append xs (zeros (m - length xs))))
 
-all-true : {a b c d e : Bool} → a ≡ true → b ≡ true → c ≡ true → d ≡ true → e ≡ true → and a (and b (and c (and d e))) ≡ true
+all-true : {a b c d e : Bool} → a ≡ true → b ≡ true → c ≡ true → d ≡ true → e ≡ true → (a && (b && (c && (d && e)))) ≡ true
 all-true p q r s u = rw (p, q, r, s) u
 
 module _ (t : Tree) (es : List Diagnostic) (l : Arrays) where

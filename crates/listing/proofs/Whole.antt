@@ -1,24 +1,24 @@
 -- Laws of a whole text: what it measures on no buffer, and what it leaves in one that is long enough.
 use mathlib.Core.Path.{_≡_, refl, sym, _∙_, ap}
-use mathlib.Core.Bool.{Bool, true, false, false≢true}
+use mathlib.Core.Bool.{Bool, true, false, false≢true, _&&_}
 use mathlib.Core.List.{List, [], _∷_, _++_}
-use Prim.Native.Nat.{ℕ, zero, suc, _+_, _<_, _≤_, min}
+use Prim.Native.Nat.{ℕ, suc, _+_, _<_, _≤_, min}
 use native.Mathlib.Nat.{suc-ne-zero, zero-add}
 use native.Mathlib.Omega.{arith}
-use lib.Dec.{leb, ltb}
-use lib.ListN.{length, set, take, drop}
+use lib.Dec.{ltb}
+use lib.ListN.{length, set, drop}
 use lib.Seq.{sets, sets-eq}
-use borrow.Author.Tests.{lt-ltb, le-ltb, ltb-true, ltb-false, le-leb, lt-leb}
+use borrow.Author.Tests.{lt-ltb, le-ltb, ltb-true, le-leb, lt-leb}
 use Rattle.listing.specs.declared.Listing.the-variants as L
-use Rattle.listing.specs.Listing.{Written, and, plain, written}
+use Rattle.listing.specs.Listing.{Written, plain, written}
 use Rattle.listing.specs.Emit.{Output, last, put, emit, Emits}
 use Rattle.listing.proofs.EmitLaws.{put-byte, same-size}
 
-and-left : (a b : Bool) → and a b ≡ true → a ≡ true
+and-left : (a b : Bool) → (a && b) ≡ true → a ≡ true
 and-left true b e = refl
 and-left false b e = e
 
-and-right : (a b : Bool) → and a b ≡ true → b ≡ true
+and-right : (a b : Bool) → (a && b) ≡ true → b ≡ true
 and-right true b e = e
 and-right false b e = absurd (false≢true e)
 

@@ -1,5 +1,5 @@
 -- The listing of a reading, and of arrays whoever filled them; what of it goes into a lent buffer.
-use mathlib.Core.Bool.{Bool, true, false}
+use mathlib.Core.Bool.{Bool, true, false, _&&_}
 use mathlib.Core.Option.{Option, none, some}
 use mathlib.Core.List.{List, [], _∷_, _++_}
 use Prim.Native.Nat.{ℕ, _+_, _*_}
@@ -17,7 +17,7 @@ use Rattle.rules.specs.Promise.{Arrays, noError}
 use Rattle.ast.specs.Decode.{nodeAt, typeAt}
 use Rattle.listing.specs.declared.Listing.{Listing}
 use Rattle.listing.specs.declared.Listing.the-variants as L
-use Rattle.listing.specs.Text.{bytes, malformed, form, fields, gap, each, number, node, typeExpr}
+use Rattle.listing.specs.Text.{bytes, malformed, form, gap, each, number, node, typeExpr}
 
 -- ---- lines
 
@@ -82,18 +82,19 @@ listingOf (ended e) = errorLine e
 abbrev pub arraysOf : List ℕ → List ℕ → List ℕ → List ℕ → List ℕ → Arrays
 arraysOf nodes types lists roots diagnostics = record { nodes = nodes; types = types; lists = lists; roots = roots; diagnostics = diagnostics }
 
-abbrev pub and : Bool → Bool → Bool
-and true b = b
-and false b = false
-
 -- the arrays have what the counts say
 unfoldable pub within : Counts → Arrays → Bool
 within c a =
-    and (leb (16 * c .nodes) (length (a .nodes))) (and (leb (8 * c .types) (length (a .types))) (and (leb (c .cells) (length (a .lists))) (and (leb (c .roots) (length (a .roots))) (leb (5 * c .diagnostics) (length (a .diagnostics))))))
+    leb (16 * c .nodes) (length (a .nodes))
+    && (leb (8 * c .types) (length (a .types))
+    && (leb (c .cells) (length (a .lists))
+    && (leb (c .roots) (length (a .roots))
+    && leb (5 * c .diagnostics) (length (a .diagnostics)))))
 
 abbrev pub diagnosticAt : List ℕ → ℕ → Diagnostic
 diagnosticAt xs i = record { number = getD xs (5 * i) 0; start = getD xs (5 * i + 1) 0; len = getD xs (5 * i + 2) 0; wanted = getD xs (5 * i + 3) 0; seen = getD xs (5 * i + 4) 0 }
 
+-- what is listed of an answer and of arrays whoever filled them; of a refusal without a place its number
 unfoldable pub textOf : Parsed → Arrays → List ℕ
 textOf (P.Tree c) a =
     elim (within c a) [
@@ -108,7 +109,7 @@ textOf (P.Refused n) a = line (bytes "refused") (number n ∷ [])
 -- every number is a byte
 unfoldable pub plain : List ℕ → Bool
 plain [] = true
-plain (b ∷ bs) = and (ltb b 256) (plain bs)
+plain (b ∷ bs) = ltb b 256 && plain bs
 
 -- the answer, and the buffer as it is left
 pub record Written : Type 0 where
@@ -118,7 +119,7 @@ pub record Written : Type 0 where
 -- the text in front; the buffer as it was where it is too short, and where the text has what is no byte, or 2^64 - 1 bytes or more
 unfoldable pub written : List ℕ → List ℕ → Written
 written text buffer =
-    elim (and (plain text) (ltb (length text) 18446744073709551615)) [
+    elim (plain text && ltb (length text) 18446744073709551615) [
       | true ↦ elim (leb (length text) (length buffer)) [
         | true ↦ record { answer = L.Written (length text); buffer = text ++ drop (length text) buffer }
         | false ↦ record { answer = L.Short; buffer = buffer }

@@ -6,7 +6,6 @@ use Prim.Native.Char.{code}
 use Prim.Native.String.{String, [] as []ˢ, _∷_ as _∷ˢ_}
 use lib.Dec.{leb, ltb}
 use lib.ListN.{length, getD}
-use Rattle.lex.specs.declared.diagnostic.Diagnostic.{Diagnostic}
 use Rattle.lex.specs.declared.tok.Token.{Token}
 use Rattle.rules.specs.declared.Run.{Run}
 use Rattle.rules.specs.declared.Node.{Node}

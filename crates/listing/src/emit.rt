@@ -1,8 +1,7 @@
 // Bytes, texts and numbers into a buffer from a position on. Behind the buffer's end they are only counted.
 ghost use Prim.Native.Nat.{_+_};
-ghost use mathlib.Core.List.{List, [], _∷_};
+ghost use mathlib.Core.List.{[], _∷_, _++_};
 ghost use Rattle.listing.specs.Text.{malformed, gap, number};
-ghost use mathlib.Core.List.{_++_};
 ghost use Rattle.listing.specs.Emit.{Emits};
 
 // The last position: counting stops there. It also stands for a text that has what cannot be listed.

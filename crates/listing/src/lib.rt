@@ -8,7 +8,6 @@ use crate::emit::LAST;
 use crate::lines::write_answer;
 use rules::Parsed;
 ghost use mathlib.Core.Path.{_≡_};
-ghost use Rattle.rules.specs.Promise.{Arrays};
 ghost use Rattle.listing.specs.Listing.{Written, textOf, written, arraysOf};
 
 // How many bytes were written; or that the buffer is too short, or that the arrays hold no tree. The buffer is unchanged then.

@@ -14,13 +14,12 @@ use rules::Counts;
 use rules::NodeId;
 use rules::Parsed;
 use rules::TypeExprId;
-ghost use Prim.Native.Nat.{_+_, _*_, _≤_, _<_};
-ghost use mathlib.Core.Bool.{true};
+ghost use Prim.Native.Nat.{_+_, _*_, _<_};
 ghost use mathlib.Core.Path.{_≡_};
 ghost use mathlib.Core.List.{[], _∷_, _++_};
-ghost use lib.ListN.{getD, take};
+ghost use lib.ListN.{getD};
 ghost use Rattle.ast.specs.Decode.{nodeAt, typeAt};
-ghost use Rattle.listing.specs.Text.{bytes, gap, number, each, fields, form};
+ghost use Rattle.listing.specs.Text.{bytes, gap, number, each, fields};
 ghost use Rattle.listing.specs.Listing.{line, nodeText, typeText, countsLine, rootsLine, numbersLine, errorLine, treeText, within, diagnosticAt, textOf, arraysOf, nodeLine, typeLine};
 ghost use Rattle.listing.specs.Emit.{Emits};
 

@@ -15,7 +15,7 @@ use rules::Run;
 use rules::TypeExpr;
 use rules::TypeExprId;
 ghost use mathlib.Core.List.{[], _∷_, _++_};
-ghost use Rattle.listing.specs.Text.{bytes, gap, number, token, tokens, ids, pairs, tuple, fields, form, node, typeExpr};
+ghost use Rattle.listing.specs.Text.{bytes, gap, number, token, ids, tuple, fields, form, node, typeExpr};
 ghost use Rattle.listing.specs.Emit.{Emits};
 
 // A record that is a token, as Atom and Ident.
