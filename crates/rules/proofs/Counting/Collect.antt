@@ -26,7 +26,7 @@ use Rattle.rules.proofs.Counting.Whole.{begin-accounted, begin-left, be
 -- ---- resynchronising
 
 -- the kinds that it stops before
-data Stops : ℕ → Type 0 where
+pub data Stops : ℕ → Type 0 where
   atRoot : {k : ℕ} → RootKind k → Stops k
   atEof : Stops kEof
 
@@ -151,11 +151,12 @@ module _ (script : List ℕ) where
   before s = length (begin script .left) - length (s .left)
 
   -- either a token is taken since the last error, or the next root will take one before it fails
-  data Since (es : List Occurrence) (s : State) : Type 0 where
+  pub data Since (es : List Occurrence) (s : State) : Type 0 where
     tokenTaken : Ascending (before s) es → Since es s
     synchronized : s .docs ≡ [] → Stops (current (s .left) .kind) → Since es s
 
-  record Gathers (g : Gathered) (s : State) : Type 0 where
+  -- what every turn of the loop over roots keeps
+  pub record Gathers (g : Gathered) (s : State) : Type 0 where
     pub reached : Reached script s
     pub ascending : Ascending (suc (before s)) (g .errors)
     pub fewErrors : length (g .errors) + pending s ≤ length (begin script .left)
@@ -186,7 +187,7 @@ module _ (power : ℕ → Option Powers) (eof : power kEof ≡ none) (script : L
   unfolding readers
   root-ends l s q = parsePrefix-ends _ (readers-take power eof script l) s (restart q) (λ s′ z. later z) (λ s′ z d k. waits z d k) (λ d n. stays d n)
 
-  abbrev Turn : State → ControlFlow Gathered → State → Type 0
+  abbrev pub Turn : State → ControlFlow Gathered → State → Type 0
   Turn s = Turned pending (Gathers script) (Complete script) s
 
   recover-ends : (g : Gathered) (e : Diagnostic) (s s₁ : State) → Gathers script g s → ¬ (current (s .left) .kind ≡ kEof) → Fails s s₁ → Ends (Turn s) (Reached script) (recover power script g e s₁)
@@ -216,19 +217,24 @@ module _ (power : ℕ → Option Powers) (eof : power kEof ≡ none) (script : L
           } in
           pure-ok _ s₂ (again h l))
 
-  -- where it is not ended by 10, collecting goes to the end, and meets each error after more tokens than the one before
-  pub parseRootsCollect-ends : Ends (Complete script) (Reached script) (parseRootsCollect power script (begin script))
-  unfolding parseRootsCollect
-  parseRootsCollect-ends = loop-out pending (Gathers script) _ (λ g s q. positive (q .reached)) _
-      (λ g s q. ifKind-else kEof _ _ s (λ e. pure-ok _ s (out (record { finished = record { reached = q .reached; atEof = e; fewRoots = q .fewRoots }; ascending = q .ascending; fewErrors = omega (arith, q .fewErrors, positive (q .reached)) }))) (λ n. go g s q (not-kind _ _ n) (readers power script maxLevels .prefix s) (root-ends 127 s (q .reached))))
-      (record { roots = []; errors = [] }) (begin script) (record { reached = begin-accounted script; ascending = asc[]; fewErrors = omega (arith, begin-pending script); fewRoots = omega arith; since = tokenTaken asc[] }) (begin-pending script)
-    where
-      positive : {s : State} → Reached script s → 0 < pending s
-      positive {s} q = omega (arith, not-empty (s .left) (q .ended))
+  -- a turn of the loop over roots
+  abbrev pub turn : Gathered → R.Rule (ControlFlow Gathered)
+  turn g = R.ifKind kEof (R.pure (R.break g)) (λ s. elim (readers power script maxLevels .prefix s) as (λ r′. Result (ControlFlow Gathered)) [
+    | ok m s₁ ↦ ok (continue (record { roots = g .roots ++ (m .0 ∷ []); errors = g .errors })) s₁
+    | err e s₁ ↦ recover power script g e s₁
+  ])
 
-      go : (g : Gathered) (s : State) → Gathers script g s → ¬ (current (s .left) .kind ≡ kEof) → (r : Result NodeId) → Ends (λ n s′. Accounted (budget s) 1 0 s′) (Fails s) r
+  pub some-pending : {s : State} → Reached script s → 0 < pending s
+  some-pending {s} q = omega (arith, not-empty (s .left) (q .ended))
+
+  pub turn-ends : (g : Gathered) (s : State) → Gathers script g s → Ends (Turn s) (Reached script) (turn g s)
+  turn-ends g s q = ifKind-else kEof _ _ s
+      (λ e. pure-ok _ s (out (record { finished = record { reached = q .reached; atEof = e; fewRoots = q .fewRoots }; ascending = q .ascending; fewErrors = omega (arith, q .fewErrors, some-pending (q .reached)) })))
+      (λ n. go (not-kind _ _ n) (readers power script maxLevels .prefix s) (root-ends 127 s (q .reached)))
+    where
+      go : ¬ (current (s .left) .kind ≡ kEof) → (r : Result NodeId) → Ends (λ n s′. Accounted (budget s) 1 0 s′) (Fails s) r
           → Ends (Turn s) (Reached script) (elim r as (λ r′. Result (ControlFlow Gathered)) [ ok m s₁ ↦ ok (continue (record { roots = g .roots ++ (m .0 ∷ []); errors = g .errors })) s₁ | err e s₁ ↦ recover power script g e s₁ ])
-      go g s q n r (holds {a = m} {s = s₁} z) =
+      go n r (holds {a = m} {s = s₁} z) =
           let h : Gathers script (record { roots = g .roots ++ (m .0 ∷ []); errors = g .errors }) s₁ = record {
             reached = forget (onward (q .reached) z);
             ascending = asc-mono (q .ascending) (omega (arith, z .tokens));
@@ -237,7 +243,15 @@ module _ (power : ℕ → Option Powers) (eof : power kEof ≡ none) (script : L
             since = tokenTaken (asc-mono (q .ascending) (omega (arith, z .tokens, q .reached .tokens)));
           } in
           holds (again h (omega (arith, z .pending)))
-      go g s q n r (fails {e} {s = s₁} f) = recover-ends g e s s₁ q n f
+      go n r (fails {e} {s = s₁} f) = recover-ends g e s s₁ q n f
+
+  pub begin-gathers : Gathers script (record { roots = []; errors = [] }) (begin script)
+  begin-gathers = record { reached = begin-accounted script; ascending = asc[]; fewErrors = omega (arith, begin-pending script); fewRoots = omega arith; since = tokenTaken asc[] }
+
+  -- where it is not ended by 10, collecting goes to the end, and meets each error after more tokens than the one before
+  pub parseRootsCollect-ends : Ends (Complete script) (Reached script) (parseRootsCollect power script (begin script))
+  unfolding parseRootsCollect
+  parseRootsCollect-ends = loop-out pending (Gathers script) (Complete script) (λ g s q. some-pending (q .reached)) turn turn-ends (record { roots = []; errors = [] }) (begin script) begin-gathers (begin-pending script)
 
   module _ (tree : Tree) (es : List Diagnostic) where
     abbrev Collects : Type 0
