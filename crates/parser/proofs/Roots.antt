@@ -12,6 +12,7 @@ use Rattle.lex.specs.Lex.{cut, tokensFrom, nextAt}
 use Rattle.lex.specs.declared.tok.Next.{Next}
 use Rattle.lex.specs.declared.tok.Token.{Token}
 use Rattle.lex.proofs.Steps.{tokens-le}
+use Rattle.lex.proofs.Passed.{stands-start, stands-next}
 use Rattle.rules.specs.Tree.{State, Result, ok, err}
 use Rattle.rules.specs.Combinators.{Rule, _>>=_, pure, current, ifKind, withDocs, loop, ControlFlow, continue, break}
 use Rattle.rules.specs.Rules.{maxLevels, stageOne}
@@ -67,7 +68,7 @@ dropping script nodes types types′ lists p g e = record {
           related = record {
             left = h .related .left;
             inRange = h .related .inRange;
-            inside = h .related .inside;
+            lexed = h .related .lexed;
             nodes = h .related .nodes;
             types = record {
               laid = new ∙ append-assoc front (zeros y) (zeros (3 * u .docs)) ∙ ap (λ (l : List ℕ). front ++ l) (replicate-append-replicate y (3 * u .docs) 0 ∙ ap zeros j ∙ sym (append-nil _));
@@ -136,7 +137,7 @@ module _ {script nodes types lists roots : List ℕ} (x : Next) (h : Blank scrip
         related = record {
           left = from-next script 0 e;
           inRange = inRange .0;
-          inside = inRange .1;
+          lexed = record { passed = 1; stands = stands-next stands-start e; counted = omega (arith, ap length (from-next script 0 e)) };
           nodes = record { laid = blank-as _ (h .blankNodes) (omega arith); counted = refl; valued = refl };
           types = record { laid = blank-as _ (h .blankTypes) (omega arith); counted = refl; docCounted = refl; allLow = tt };
           lists = record { laid = blank-as _ (h .blankLists) (omega arith); counted = refl; stacked = refl };

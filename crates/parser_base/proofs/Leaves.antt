@@ -15,6 +15,7 @@ use Rattle.lex.specs.declared.tok.Token.{Token}
 use Rattle.lex.specs.declared.tok.Step.{Step}
 use Rattle.lex.specs.declared.tok.Next.{Next}
 use Rattle.lex.proofs.Steps.{Forward, cut-ind, next-first}
+use Rattle.lex.proofs.Passed.{stands-next}
 use Rattle.rules.specs.Tree.{State}
 use Rattle.rules.specs.Combinators.{Rule, current, rest, advance, atToken}
 use Rattle.parser_base.specs.Represents.{lowToken, InRange, Code, code, going, isGoing, from, Related, Represents, FailedAt}
@@ -108,14 +109,14 @@ taking script p x g k e nodes types lists = record {
   simulates = λ R L stack m h.
       let l : m .left ≡ p .cur ∷ from script (x .token) (x .next) = h .related .left ∙ more in
       let l′ : rest (m .left) ≡ from script (x .token) (x .next) = ap rest l ∙ rest-from script (p .cur) (x .token) (x .next) in
-      let inRange = next-near script (p .pos) e (h .related .inside) in (
+      let inRange = next-near script (p .pos) e (h .related .lexed .stands .inside) in (
         current-represents (h .related),
         record {
           status = h .status;
           related = record {
             left = l′;
             inRange = inRange .0;
-            inside = inRange .1;
+            lexed = record { passed = suc (h .related .lexed .passed); stands = stands-next (h .related .lexed .stands) e; counted = omega (arith, h .related .lexed .counted, ap length more) };
             nodes = h .related .nodes;
             types = h .related .types;
             lists = h .related .lists;
@@ -148,7 +149,7 @@ pub failing-at : {script nodes types lists : List ℕ} {p : Parser} {R L : ℕ} 
 failing-at e e′ w h = record {
   status = ap Failed w;
   over = [];
-  related = rw append-nil (record { left = h .related .left; inRange = h .related .inRange; inside = h .related .inside; nodes = h .related .nodes; types = h .related .types; lists = h .related .lists; credit = h .related .credit; lent = h .related .lent });
+  related = rw append-nil (record { left = h .related .left; inRange = h .related .inRange; lexed = h .related .lexed; nodes = h .related .nodes; types = h .related .types; lists = h .related .lists; credit = h .related .credit; lent = h .related .lent });
 }
 
 module _ (script nodes types lists : List ℕ) (p q : Parser) (number wanted : ℕ) where

@@ -23,7 +23,7 @@ pub related-less : {script : List ℕ} {s : Code} {r l : ℕ} {stack : List ℕ}
 related-less r₀ l₀ p q h = record {
   left = h .left;
   inRange = h .inRange;
-  inside = h .inside;
+  lexed = h .lexed;
   nodes = h .nodes;
   types = h .types;
   lists = h .lists;
@@ -50,7 +50,7 @@ noted m n = record { left = m .left; docs = m .docs; arena = m .arena; notes = n
 pub represents-noted : {script : List ℕ} {s : Code} {r l : ℕ} {stack : List ℕ} {m : State} (n : Notes) → Represents script s r l stack m → Represents script s r l stack (noted m n)
 represents-noted n h = record {
   status = h .status;
-  related = record { left = h .related .left; inRange = h .related .inRange; inside = h .related .inside; nodes = h .related .nodes; types = h .related .types; lists = h .related .lists; credit = h .related .credit; lent = h .related .lent };
+  related = record { left = h .related .left; inRange = h .related .inRange; lexed = h .related .lexed; nodes = h .related .nodes; types = h .related .types; lists = h .related .lists; credit = h .related .credit; lent = h .related .lent };
 }
 
 -- a Bool is one of the two

@@ -2,11 +2,12 @@
 use mathlib.Core.Path.{_≡_}
 use mathlib.Core.Bool.{Bool, true, false}
 use mathlib.Core.List.{List, [], _∷_, _++_, map, flatten, reverse}
-use Prim.Native.Nat.{ℕ, _+_, _*_, _-_, _%_, _≤_}
+use Prim.Native.Nat.{ℕ, suc, _+_, _*_, _-_, _%_, _≤_}
 use lib.Dec.{eqb}
 use lib.ListN.{length}
 use Rattle.lex.specs.Kind.{kEof}
-use Rattle.lex.specs.Lex.{tokensFrom}
+use Rattle.lex.specs.Lex.{cut, tokensOf, tokensFrom}
+use Rattle.lex.specs.Passed.{StandsAfter}
 use Rattle.lex.specs.declared.diagnostic.Diagnostic.{Diagnostic}
 use Rattle.lex.specs.declared.tok.Token.{Token}
 use Rattle.rules.specs.Tree.{State}
@@ -81,6 +82,12 @@ going s = isGoing (s .parser .status)
 unfoldable pub from : List ℕ → Token → ℕ → List Token
 from script t pos = elim (eqb (t .kind) kEof) [ true ↦ t ∷ [] | false ↦ t ∷ tokensFrom script pos ]
 
+-- the lexer stands behind the token being read, after so many tokens
+pub record Lexed (script : List ℕ) (cur : Token) (pos : ℕ) : Type 0 where
+  pub passed : ℕ
+  pub stands : StandsAfter script passed pos
+  pub counted : length (from script cur pos) + passed ≡ suc (length (tokensOf (cut script)))
+
 -- the tokens that are left
 abbrev pub ahead : List ℕ → Code → List Token
 ahead script s = from script (s .parser .cur) (s .parser .pos)
@@ -129,7 +136,7 @@ pub record EnoughLent (script ns ts ls : List ℕ) : Type 0 where
 pub record Related (script : List ℕ) (s : Code) (r l : ℕ) (stack : List ℕ) (m : State) : Type 0 where
   pub left : m .left ≡ ahead script s
   pub inRange : InRange script (s .parser .cur)
-  pub inside : s .parser .pos ≤ length script
+  pub lexed : Lexed script (s .parser .cur) (s .parser .pos)
   pub nodes : NodesLaid (s .nodes) (s .parser .used .nodes) (s .parser .used .values) (m .arena .nodes) (m .arena .values)
   pub types : TypesLaid (s .types) (s .parser .used .types) (s .parser .used .docs) (m .arena .types) (m .docs)
   pub lists : ListsLaid (s .lists) (s .parser .used .cells) (s .parser .used .scratch) (m .arena .cells) stack
