@@ -35,7 +35,3 @@ cleared-end a from i h k =
 -- from the beginning on: all of it
 pub cleared-all : {a′ : List ℕ} (a : List ℕ) → a′ ≡ take 0 a ++ zeros (length a - 0) → a′ ≡ zeros (length a)
 cleared-all a e = e ∙ ap zeros {x = length a - 0} {y = length a} (omega arith)
-
--- another array of the same length
-pub cleared-again : {a′ : List ℕ} (a b : List ℕ) → a′ ≡ take 0 b ++ zeros (length b - 0) → length b ≡ length a → a′ ≡ zeros (length a)
-cleared-again a b e n = cleared-all b e ∙ ap zeros n

@@ -19,7 +19,7 @@ use Rattle.rules.specs.Rules.{maxLevels, stageOne}
 use Rattle.rules.specs.Parse.{begin, parseRoots}
 use Rattle.rules.specs.Layout.{zeros, nodeCells, typeCells}
 use Rattle.rules.specs.declared.NodeId.{NodeId}
-use Rattle.parser_base.specs.Represents.{Code, code, going, isGoing, ahead, docCells, Represents, FailedAt}
+use Rattle.parser_base.specs.Represents.{Code, code, going, isGoing, ahead, docCells, Related, Represents, FailedAt}
 use Rattle.parser_base.specs.Refines.{Ends, kept, Refines, deeper, wanted}
 use Rattle.parser_base.specs.declared.Parser.{Parser}
 use Rattle.parser_base.specs.declared.Used.{Used}
@@ -30,7 +30,7 @@ use Rattle.parser_base.proofs.Cells.{withUsed, zeros-length, types-length, node
 use Rattle.parser_base.proofs.Docs.{docs-length}
 use Rattle.parser_base.proofs.Rounds.{Again, Turned, LoopInvariant, round-start-at, round-out, ifKind-is-yes, ifKind-is-no}
 use Rattle.parser_base.proofs.Loops.{wanted-eof, unwanted}
-use Rattle.parser.specs.Whole.{Blank, rootStep, RootsAre, dropDocs, Holds, RootsEnd}
+use Rattle.parser.specs.Whole.{Blank, fresh, rootStep, RootsAre, dropDocs, Holds, RootsEnd}
 use Rattle.parser.specs.declared.RootsRead.{RootsRead}
 
 -- ---- docs that are dropped
@@ -86,6 +86,24 @@ dropping script nodes types types′ lists p g e = record {
 
 -- ---- one more root
 
+pub some-ahead : {script : List ℕ} {s : Code} {r l : ℕ} {stack : List ℕ} {m : State} → Related script s r l stack m → 1 ≤ length (ahead script s)
+some-ahead h = omega (arith, left-some h, ap length (h .left))
+
+-- its number stands behind the others
+pub root-pushed : (script : List ℕ) {roots roots′ : List ℕ} {n n′ : ℕ} {id : NodeId} (s s′ : Code) (xs : List ℕ) (a : NodeId) → a ≡ id → RootsAre script roots n s xs → length script ≤ 65536 → length script ≤ length roots → length (ahead script s′) + 1 ≤ length (ahead script s) → 1 ≤ length (ahead script s′)
+    → (n < length roots → n < 65536 → (roots′ ≡ set roots n (id .0)) × (n′ ≡ n + 1)) → RootsAre script roots′ n′ s′ (xs ++ (a .0 ∷ []))
+root-pushed script {roots} {roots′} {n} {n′} {id} s s′ xs a e q small long t some f =
+    let room : n < length script = omega (arith, q .1, q .2) in
+    let z = f (omega arith) (omega arith) in
+    let k : length roots - n ≡ suc (length roots - n - 1) = omega arith in
+    let same : length roots′ ≡ length roots = ap length (z .0) ∙ length-set roots n (id .0) in
+    let old : roots ≡ xs ++ (0 ∷ zeros (length roots - n - 1)) = q .0 ∙ ap (λ (j : ℕ). xs ++ zeros j) k in
+    let new : roots′ ≡ xs ++ (a .0 ∷ zeros (length roots - n - 1)) =
+    z .0 ∙ ap (λ (l : List ℕ). set l n (id .0)) old ∙ set-at xs 0 (zeros (length roots - n - 1)) (id .0) n (q .1) ∙ ap (λ (b : NodeId). xs ++ (b .0 ∷ zeros (length roots - n - 1))) (sym e) in
+    let more : length (xs ++ (a .0 ∷ [])) ≡ length xs + 1 = length-append xs (a .0 ∷ []) in
+    let j : length roots - n - 1 ≡ length roots′ - n′ = omega (arith, z .1) in
+    (new ∙ sym (append-assoc xs (a .0 ∷ []) (zeros (length roots - n - 1))) ∙ ap (λ (i : ℕ). (xs ++ (a .0 ∷ [])) ++ zeros i) j, omega (arith, q .1, z .1), omega (arith, q .2))
+
 module _ {script roots roots′ : List ℕ} {n n′ : ℕ} {id : NodeId} {s s′ : Code} where
   pub root-again : wanted (s .parser) kEof ≡ true → length script ≤ length roots → Refines script 0 0 (deeper script maxLevels .prefix) (λ a. a ≡ id) kept 1 0 8 s s′
       → (going s′ ≡ true → n < length roots → n < 65536 → (roots′ ≡ set roots n (id .0)) × (n′ ≡ n + 1))
@@ -104,86 +122,87 @@ module _ {script roots roots′ : List ℕ} {n n′ : ℕ} {id : NodeId} {s s′
           → Turned script (rootStep script) kept (RootsAre script roots′ n′ s′) s′ R L stack (elim r as (λ _. Result (ControlFlow (List ℕ))) [ ok a t ↦ ok (continue (xs ++ (a .0 ∷ []))) t | err e t ↦ err e t ])
       go R L stack xs q small (ok a m) h =
           let g : going s′ ≡ true = represents-going (h .1) in
-          let t : length (ahead script s′) + 1 ≤ length (ahead script s) = p .progress g in
-          let some : 1 ≤ length (ahead script s′) = omega (arith, left-some (h .1 .related), ap length (h .1 .related .left)) in
-          let room : n < length script = omega (arith, q .1, q .2) in
-          let z = f g (omega arith) (omega arith) in
-          let k : length roots - n ≡ suc (length roots - n - 1) = omega arith in
-          let same : length roots′ ≡ length roots = ap length (z .0) ∙ length-set roots n (id .0) in
-          let old : roots ≡ xs ++ (0 ∷ zeros (length roots - n - 1)) = q .0 ∙ ap (λ (j : ℕ). xs ++ zeros j) k in
-          let new : roots′ ≡ xs ++ (a .0 ∷ zeros (length roots - n - 1)) =
-          z .0 ∙ ap (λ (l : List ℕ). set l n (id .0)) old ∙ set-at xs 0 (zeros (length roots - n - 1)) (id .0) n (q .1) ∙ ap (λ (b : NodeId). xs ++ (b .0 ∷ zeros (length roots - n - 1))) (sym (h .0)) in
-          let more : length (xs ++ (a .0 ∷ [])) ≡ length xs + 1 = length-append xs (a .0 ∷ []) in
-          let j : length roots - n - 1 ≡ length roots′ - n′ = omega (arith, z .1) in
-          ((new ∙ sym (append-assoc xs (a .0 ∷ []) (zeros (length roots - n - 1))) ∙ ap (λ (i : ℕ). (xs ++ (a .0 ∷ [])) ++ zeros i) j, omega (arith, q .1, z .1), omega (arith, q .2)), represents-less _ _ (omega arith) (omega arith) (h .1))
+          (root-pushed script s s′ xs a (h .0) q small long (p .progress g) (some-ahead (h .1 .related)) (f g), represents-less _ _ (omega arith) (omega arith) (h .1))
       go R L stack xs q small (err e m) h = h
 
--- ---- the beginning and the end
+-- ---- the end
 
-abbrev pub fresh : Next → Parser
-fresh x = record { cur = x .token; pos = x .next; used = record { nodes = 0; values = 0; types = 0; docs = 0; cells = 0; scratch = 0 }; status = Going }
+-- a loop over roots that is left by a parser that goes on has come to Eof
+pub at-eof : {script nodes types lists stack : List ℕ} {r l : ℕ} {q : Parser} {m : State} → wanted q kEof ≡ false → Represents script (code nodes types lists q) r l stack m → eqb (current (m .left) .kind) kEof ≡ true
+at-eof {q = q} w g =
+    let cur : current _ ≡ q .cur = current-represents (g .related) in
+    either (eqb (q .cur .kind) kEof)
+    (λ z. rw cur z)
+    (λ z. absurd (true≢false (unwanted q kEof (represents-going g) w z) z))
+
+-- the arrays hold the tree once the docs that wait are dropped
+pub tree-held : {script nodes types types′ lists roots xs : List ℕ} {q : Parser} {r : RootsRead} {m : State}
+    → Represents script (code nodes types lists q) 0 0 [] m → RootsAre script roots (r .members) (code nodes types lists q) xs
+    → Refines script 0 0 dropDocs (λ n. n ≡ 0) kept 0 0 0 (code nodes types lists q) (code nodes types′ lists (r .parser))
+    → Holds nodes types′ lists roots r xs m
+unfolding dropDocs withDocs flatten
+tree-held {script} {nodes} {types′ = types′} {lists} {roots} {xs} {r = r} {m} h k p =
+    let d : Represents script (code nodes types′ lists (r .parser)) 0 0 [] (withDocs [] m) = p .simulates 0 0 [] m h .1 in
+    let u : Used = r .parser .used in
+    let ns = d .related .nodes in
+    let ts = d .related .types in
+    let ls = d .related .lists in
+    let a : length nodes - 16 * u .nodes ≡ length nodes - length (flatten (map nodeCells (m .arena .nodes))) = omega (arith, ns .counted, nodes-length (m .arena .nodes)) in
+    let b : length types′ - (8 * u .types + 3 * u .docs) ≡ length types′ - length (flatten (map typeCells (m .arena .types))) = omega (arith, ts .counted, ts .docCounted, types-length (m .arena .types)) in
+    let c : length lists - (u .cells + u .scratch) ≡ length lists - length (m .arena .cells) = omega (arith, ls .counted, ls .stacked) in
+    record {
+      going = d .status;
+      nodesHeld = ns .laid ∙ ap (λ (l : List ℕ). flatten (map nodeCells (m .arena .nodes)) ++ l) (append-nil _ ∙ ap zeros a);
+      typesHeld = ts .laid ∙ ap (λ (l : List ℕ). flatten (map typeCells (m .arena .types)) ++ l) (append-nil _ ∙ ap zeros b);
+      listsHeld = ls .laid ∙ ap (λ (l : List ℕ). m .arena .cells ++ l) (append-nil _ ∙ ap zeros c);
+      rootsHeld = k .0 ∙ ap (λ (j : ℕ). xs ++ zeros (length roots - j)) (sym (k .1));
+      nodeCount = ns .counted;
+      typeCount = ts .counted;
+      cellCount = ls .counted;
+      valueCount = ns .valued;
+      rootCount = sym (k .1);
+    }
+
+-- ---- a strict reading of the roots
+
 
 blank-as : {a : List ℕ} (n : ℕ) → a ≡ zeros (length a) → n ≡ 0 → a ≡ zeros (length a - n) ++ []
 blank-as {a} n e z = e ∙ ap zeros {x = length a} {y = length a - n} (omega arith) ∙ sym (append-nil (zeros (length a - n)))
 
-module _ {script nodes types lists roots : List ℕ} (x : Next) (h : Blank script nodes types lists roots) (e : x ≡ nextAt script 0) where
-  pub begun : Represents script (code nodes types lists (fresh x)) 0 0 [] (begin script)
+module _ {script nodes types lists roots : List ℕ} (p : Parser) (h : Blank script nodes types lists roots) (e : p ≡ fresh (nextAt script 0)) where
+  pub begun : Represents script (code nodes types lists p) 0 0 [] (begin script)
   unfolding begin cut tokensFrom flatten
   begun =
       let few : length (tokensFrom script 0) ≤ length script + 1 = omega (arith, tokens-le script 0 0) in
-      let inRange = next-near script 0 e (omega arith) in
-      record {
+      let inRange = next-near script 0 refl (omega arith) in
+      subst (λ (q : Parser). Represents script (code nodes types lists q) 0 0 [] (begin script)) (sym e) (record {
         status = refl;
         related = record {
-          left = from-next script 0 e;
+          left = from-next script 0 refl;
           inRange = inRange .0;
-          lexed = record { passed = 1; stands = stands-next stands-start e; counted = omega (arith, ap length (from-next script 0 e)) };
+          lexed = record { passed = 1; stands = stands-next stands-start refl; counted = omega (arith, ap length (from-next script 0 refl)) };
           nodes = record { laid = blank-as _ (h .blankNodes) (omega arith); counted = refl; valued = refl };
           types = record { laid = blank-as _ (h .blankTypes) (omega arith); counted = refl; docCounted = refl; allLow = tt };
           lists = record { laid = blank-as _ (h .blankLists) (omega arith); counted = refl; stacked = refl };
           credit = record { records = omega arith; numbers = omega arith; room = omega arith };
           lent = h .lent;
         };
-      }
+      })
 
-  pub roots-start : LoopInvariant script (rootStep script) kept [] (RootsAre script roots 0 (code nodes types lists (fresh x))) (code nodes types lists (fresh x)) (code nodes types lists (fresh x))
+  pub roots-start : LoopInvariant script (rootStep script) kept [] (RootsAre script roots 0 (code nodes types lists p)) (code nodes types lists p) (code nodes types lists p)
   roots-start = round-start-at (λ R L stack m k. (h .blankRoots ∙ ap zeros {x = length roots} {y = length roots - 0} (omega arith), refl, omega (arith, k .related .credit .records, ap length (k .related .left))))
 
   module _ {nodes′ types′ types″ lists′ roots′ : List ℕ} {q : Parser} {r : RootsRead} where
-    pub roots-end : LoopInvariant script (rootStep script) kept [] (RootsAre script roots′ (r .members) (code nodes′ types′ lists′ q)) (code nodes types lists (fresh x)) (code nodes′ types′ lists′ q)
+    pub roots-end : LoopInvariant script (rootStep script) kept [] (RootsAre script roots′ (r .members) (code nodes′ types′ lists′ q)) (code nodes types lists p) (code nodes′ types′ lists′ q)
         → wanted q kEof ≡ false
         → Refines script 0 0 dropDocs (λ n. n ≡ 0) kept 0 0 0 (code nodes′ types′ lists′ q) (code nodes′ types″ lists′ (r .parser))
         → RootsEnd nodes′ types″ lists′ roots′ r (parseRoots stageOne script (begin script))
-    unfolding parseRoots dropDocs withDocs pure flatten
-    roots-end i w p = go (loop (rootStep script) [] (begin script)) (round-out i (λ stack. refl) out .simulates 0 0 [] (begin script) begun)
+    unfolding parseRoots pure
+    roots-end i w d = go (loop (rootStep script) [] (begin script)) (round-out i (λ stack. refl) out .simulates 0 0 [] (begin script) begun)
       where
         out : (R L : ℕ) (stack xs : List ℕ) (m : State) → RootsAre script roots′ (r .members) (code nodes′ types′ lists′ q) xs → Represents script (code nodes′ types′ lists′ q) R L stack m → rootStep script xs m ≡ ok (break xs) m
-        out R L stack xs m k g =
-            let cur : current (m .left) ≡ q .cur = current-represents (g .related) in
-            either (eqb (q .cur .kind) kEof)
-            (λ z. ifKind-is-yes kEof _ _ m (rw cur z))
-            (λ z. absurd (true≢false (unwanted q kEof (represents-going g) w z) z))
+        out R L stack xs m k g = ifKind-is-yes kEof _ _ m (at-eof w g)
 
         go : (res : Result (List ℕ)) → Ends script (RootsAre script roots′ (r .members) (code nodes′ types′ lists′ q)) kept (code nodes′ types′ lists′ q) 0 0 0 0 [] res → RootsEnd nodes′ types″ lists′ roots′ r res
-        go (ok xs m) k =
-            let d : Represents script (code nodes′ types″ lists′ (r .parser)) 0 0 [] (withDocs [] m) = p .simulates 0 0 [] m (k .1) .1 in
-            let u : Used = r .parser .used in
-            let ns = d .related .nodes in
-            let ts = d .related .types in
-            let ls = d .related .lists in
-            let a : length nodes′ - 16 * u .nodes ≡ length nodes′ - length (flatten (map nodeCells (m .arena .nodes))) = omega (arith, ns .counted, nodes-length (m .arena .nodes)) in
-            let b : length types″ - (8 * u .types + 3 * u .docs) ≡ length types″ - length (flatten (map typeCells (m .arena .types))) = omega (arith, ts .counted, ts .docCounted, types-length (m .arena .types)) in
-            let c : length lists′ - (u .cells + u .scratch) ≡ length lists′ - length (m .arena .cells) = omega (arith, ls .counted, ls .stacked) in
-            record {
-              going = d .status;
-              nodesHeld = ns .laid ∙ ap (λ (l : List ℕ). flatten (map nodeCells (m .arena .nodes)) ++ l) (append-nil _ ∙ ap zeros a);
-              typesHeld = ts .laid ∙ ap (λ (l : List ℕ). flatten (map typeCells (m .arena .types)) ++ l) (append-nil _ ∙ ap zeros b);
-              listsHeld = ls .laid ∙ ap (λ (l : List ℕ). m .arena .cells ++ l) (append-nil _ ∙ ap zeros c);
-              rootsHeld = k .0 .0 ∙ ap (λ (j : ℕ). xs ++ zeros (length roots′ - j)) (sym (k .0 .1));
-              nodeCount = ns .counted;
-              typeCount = ts .counted;
-              cellCount = ls .counted;
-              valueCount = ns .valued;
-              rootCount = sym (k .0 .1);
-            }
-        go (err e m) k = ap (λ (t : Code). t .parser .status) (p .sticky (failed-fails k)) ∙ k .status
+        go (ok xs m) k = tree-held (k .1) (k .0) d
+        go (err e m) k = ap (λ (t : Code). t .parser .status) (d .sticky (failed-fails k)) ∙ k .status

@@ -4,6 +4,7 @@ use mathlib.Core.List.{List, [], _∷_, _++_, map, flatten}
 use Prim.Native.Nat.{ℕ, _+_, _-_, _≤_}
 use lib.ListN.{length}
 use Rattle.lex.specs.Kind.{kEof}
+use Rattle.lex.specs.declared.tok.Next.{Next}
 use Rattle.rules.specs.Tree.{State, Result, ok, err}
 use Rattle.rules.specs.Combinators.{Rule, _>>=_, pure, ifKind, withDocs, ControlFlow, continue, break, loop}
 use Rattle.rules.specs.Rules.{maxLevels}
@@ -11,6 +12,7 @@ use Rattle.rules.specs.Layout.{zeros, padded, nodeCells, typeCells}
 use Rattle.rules.specs.Promise.{Arrays}
 use Rattle.parser_base.specs.Represents.{Code, ahead, EnoughLent}
 use Rattle.parser_base.specs.Refines.{deeper}
+use Rattle.parser_base.specs.declared.Parser.{Parser}
 use Rattle.parser_base.specs.declared.Status.the-variants.{Going, Failed}
 use Rattle.parser.specs.declared.RootsRead.{RootsRead}
 
@@ -25,6 +27,10 @@ pub record Blank (script ns ts ls rs : List ℕ) : Type 0 where
   pub blankTypes : ts ≡ zeros (length ts)
   pub blankLists : ls ≡ zeros (length ls)
   pub blankRoots : rs ≡ zeros (length rs)
+
+-- a parser at the first token
+abbrev pub fresh : Next → Parser
+fresh x = record { cur = x .token; pos = x .next; used = record { nodes = 0; values = 0; types = 0; docs = 0; cells = 0; scratch = 0 }; status = Going }
 
 -- one more root
 abbrev pub rootStep : List ℕ → List ℕ → Rule (ControlFlow (List ℕ))

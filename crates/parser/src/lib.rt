@@ -17,13 +17,14 @@ ghost use Prim.Native.Nat.{ℕ, _+_, _*_, _-_, _<_, _≤_};
 ghost use lib.Dec.{ltb};
 ghost use lib.ListN.{length, take, set};
 ghost use Rattle.lex.specs.Bytes.{or};
+ghost use Rattle.lex.specs.Lex.{nextAt};
 ghost use Rattle.rules.specs.Layout.{zeros};
 ghost use Rattle.rules.specs.Rules.{stageOne};
 ghost use Rattle.rules.specs.Parse.{begin, parseRoots, parse};
 ghost use Rattle.rules.specs.Promise.{promised};
 ghost use Rattle.parser_base.specs.Represents.{code, isGoing};
 ghost use Rattle.parser_base.specs.Refines.{Refines, kept};
-ghost use Rattle.parser.specs.Whole.{arrays, Blank, RootsEnd, dropDocs};
+ghost use Rattle.parser.specs.Whole.{arrays, Blank, RootsEnd, dropDocs, fresh};
 
 // ---- arrays
 
@@ -37,6 +38,16 @@ fn clear_from(a: &mut [u32], from: usize)
         a[i] = 0;
         i += 1;
     }
+}
+
+// The four arrays of a tree are cleared.
+fn clear_tree(nodes: &mut [u32], types: &mut [u32], lists: &mut [u32], roots: &mut [u32])
+    ensures { λ r. ⌜ (now (nodes .exit) ≡ zeros (length (now (nodes .entry)))) × (now (types .exit) ≡ zeros (length (now (types .entry)))) × (now (lists .exit) ≡ zeros (length (now (lists .entry)))) × (now (roots .exit) ≡ zeros (length (now (roots .entry)))) ⌝ }
+{
+    clear_from(nodes, 0);
+    clear_from(types, 0);
+    clear_from(lists, 0);
+    clear_from(roots, 0);
 }
 
 // One of the arrays has fewer cells than `n` bytes ask for.
@@ -127,6 +138,28 @@ fn drop_docs(types: &mut [u32], p: Parser) -> Parser
     }
 }
 
+// A parser at the script's first token.
+fn first(script: &[u8]) -> Parser
+    ensures { λ r. ⌜ r ≡ fresh (nextAt (now (script .entry)) 0) ⌝ }
+{
+    let next = next_token(script, 0);
+    let cur = next.token;
+    let used = Used {
+        nodes: 0,
+        values: 0,
+        types: 0,
+        docs: 0,
+        cells: 0,
+        scratch: 0,
+    };
+    Parser {
+        cur,
+        pos: next.next,
+        used,
+        status: Status::Going,
+    }
+}
+
 fn parse_roots(
     script: &[u8],
     nodes: &mut [u32],
@@ -137,22 +170,7 @@ fn parse_roots(
     requires { ⌜ Blank (now script) (now nodes) (now types) (now lists) (now roots) ⌝ }
     ensures { λ r. ⌜ RootsEnd (now (nodes .exit)) (now (types .exit)) (now (lists .exit)) (now (roots .exit)) r (parseRoots stageOne (now (script .entry)) (begin (now (script .entry)))) ⌝ }
 {
-    let first = next_token(script, 0);
-    let cur = first.token;
-    let used = Used {
-        nodes: 0,
-        values: 0,
-        types: 0,
-        docs: 0,
-        cells: 0,
-        scratch: 0,
-    };
-    let mut q = Parser {
-        cur,
-        pos: first.next,
-        used,
-        status: Status::Going,
-    };
+    let mut q = first(script);
     let mut members: u32 = 0;
     while wants(q, Type::EOF) {
         let n = prefix(script, nodes, types, lists, q, Parser::MAX_LEVELS);
@@ -162,6 +180,8 @@ fn parse_roots(
     let parser = drop_docs(types, q);
     RootsRead { parser, members }
 }
+
+// ---- the two readings
 
 // program = prefix*, up to the first error.
 pub fn parse(
@@ -187,10 +207,7 @@ pub fn parse(
     ) {
         return Parsed::Refused(2);
     }
-    clear_from(nodes, 0);
-    clear_from(types, 0);
-    clear_from(lists, 0);
-    clear_from(roots, 0);
+    clear_tree(nodes, types, lists, roots);
     clear_from(diagnostics, 0);
     let r = parse_roots(script, nodes, types, lists, roots);
     let members = r.members;
@@ -207,10 +224,7 @@ pub fn parse(
             diagnostics: 0,
         }),
         Status::Failed(d) => {
-            clear_from(nodes, 0);
-            clear_from(types, 0);
-            clear_from(lists, 0);
-            clear_from(roots, 0);
+            clear_tree(nodes, types, lists, roots);
             Parsed::Error(d)
         }
     }

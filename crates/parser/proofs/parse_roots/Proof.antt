@@ -23,9 +23,9 @@ abbrev μ-loop : tie.MeasureT-loop
 
 loop-holds : tie.Need-loop-holds Inv-loop μ-loop
 loop-holds c =
-    let pre = c .before .before .before .before .before .before .before .pre in
-    let next-token = c .before .next-token in
-    (refl, refl, refl, refl, roots-start _ (pre) (next-token .ensures))
+    let pre = c .before .before .before .before .before .before .pre in
+    let first = c .first in
+    (refl, refl, refl, refl, roots-start _ (pre) (first .ensures))
 
 loop-less : tie.Need-loop-less Inv-loop μ-loop
 loop-less c =
@@ -37,23 +37,23 @@ loop-less c =
 
 loop-again : tie.Need-loop-again Inv-loop μ-loop
 loop-again c =
-    let pre = c .before .before .before .before .before .before .before .before .before .before .before .before .before .before .before .before .before .before .before .before .before .before .before .before .before .pre in
     let loop = c .before .before .before .before .before .before .before .before .before .before .before .before .before .before .before .before .before .loop in
     let wants = c .before .before .before .before .before .before .before .before .before .before .before .before .before .before .before .before .wants in
     let if1 = c .before .before .before .before .before .before .before .before .before .before .before .before .before .before .before .if1 in
+    let pre = c .before .before .before .before .before .before .before .before .before .before .before .before .before .before .before .before .before .before .before .before .before .before .before .before .pre in
     let prefix = c .before .before .before .before .before .before .before .before .before .before .before .prefix in
     let push-root = c .before .before .push-root in
     (omega arith, omega arith, omega arith, omega arith, round-again (loop .inv .4) (wanted-going (loop .q) kEof (sym (wants .ensures) ∙ if1 .taken)) (root-again (sym (wants .ensures) ∙ if1 .taken) (omega (arith, pre .roots, loop .inv .3)) (prefix .ensures) (push-root .ensures)))
 
 returns : tie.Need-returns Inv-loop μ-loop
 returns c =
-    let pre = c .before .before .before .before .before .before .before .before .before .before .before .before .before .before .pre in
-    let next-token = c .before .before .before .before .before .before .before .before .next-token in
+    let pre = c .before .before .before .before .before .before .before .before .before .before .before .before .before .pre in
+    let first = c .before .before .before .before .before .before .before .first in
     let loop = c .before .before .before .before .before .before .loop in
     let wants = c .before .before .before .before .before .wants in
     let if1 = c .before .before .before .before .if1 in
     let drop-docs = c .before .before .drop-docs in
-    roots-end _ (pre) (next-token .ensures) (loop .inv .4) (sym (wants .ensures) ∙ if1 .left) (drop-docs .ensures _ _ _)
+    roots-end _ (pre) (first .ensures) (loop .inv .4) (sym (wants .ensures) ∙ if1 .left) (drop-docs .ensures _ _ _)
 
 pub parse-roots-spec : {M : Type 1} → statement M
 parse-roots-spec =
@@ -74,3 +74,4 @@ parse-roots-spec =
     (λ c. search needs)
     (λ c. search needs)
     returns)
+

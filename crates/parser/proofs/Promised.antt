@@ -1,0 +1,156 @@
+-- What a reading promises, from how the roots end.
+use mathlib.Core.Path.{_≡_, refl, sym, ap, subst, _∙_}
+use mathlib.Core.Bool.{Bool, true, false}
+use mathlib.Core.List.{List, [], _++_, map, flatten}
+use Prim.Native.Nat.{ℕ, _*_, _-_, _≤_, _<_}
+use native.Mathlib.Omega.{arith}
+use lib.Dec.{ltb}
+use lib.ListN.{length, take}
+use borrow.Author.Tests.{lt-ltb, le-ltb, ltb-false}
+use Rattle.lex.specs.Bytes.{or}
+use Rattle.lex.specs.declared.diagnostic.Diagnostic.{Diagnostic}
+use Rattle.rules.specs.Tree.{State, Result, ok, err}
+use Rattle.rules.specs.Rules.{stageOne}
+use Rattle.rules.specs.Parse.{Reading, read, ended, begin, parse, parseRoots}
+use Rattle.rules.specs.Layout.{zeros, padded, nodeCells, typeCells, diagnosticCells}
+use Rattle.rules.specs.Promise.{maxBytes, Arrays, Outcome, tooShort, zeroed, holding, outcome, promised}
+use Rattle.rules.specs.declared.Parsed.{Parsed}
+use Rattle.rules.specs.declared.Parsed.the-variants as P
+use Rattle.parser_base.specs.Represents.{isGoing}
+use Rattle.parser_base.specs.declared.Status.the-variants.{Going, Failed}
+use Rattle.parser_base.proofs.Steps.{true≢false}
+use Rattle.parser_base.proofs.Cells.{zeros-length}
+use Rattle.parser.specs.Whole.{arrays, Blank, Holds, RootsEnd}
+use Rattle.parser.specs.declared.RootsRead.{RootsRead}
+use Rattle.parser.proofs.Clear.{cleared-all}
+
+-- ---- refusals
+
+-- by the tests for a refusal
+choosing : Bool → Bool → Outcome → Arrays → Outcome
+choosing long short o l = elim long [ true ↦ record { answer = P.Refused 1; arrays = l } | false ↦ elim short [ true ↦ record { answer = P.Refused 2; arrays = l } | false ↦ o ] ]
+
+module _ (how : List ℕ → Reading) (script : List ℕ) (l : Arrays) where
+  promised-by : promised how script l ≡ choosing (ltb maxBytes (length script)) (tooShort script l) (outcome (how script) l) l
+  unfolding promised choosing
+  promised-by = refl
+
+  pub refused-long : maxBytes < length script → promised how script l ≡ record { answer = P.Refused 1; arrays = l }
+  unfolding choosing
+  refused-long h = promised-by ∙ ap (λ (b : Bool). choosing b (tooShort script l) (outcome (how script) l) l) (lt-ltb maxBytes (length script) h)
+
+  by-short : length script ≤ maxBytes → (b : Bool) → b ≡ tooShort script l → promised how script l ≡ choosing false b (outcome (how script) l) l
+  by-short h b s = promised-by ∙ ap (λ (b : Bool). choosing b (tooShort script l) (outcome (how script) l) l) (le-ltb maxBytes (length script) h) ∙ ap (λ (b : Bool). choosing false b (outcome (how script) l) l) (sym s)
+
+  pub refused-short : length script ≤ maxBytes → true ≡ tooShort script l → promised how script l ≡ record { answer = P.Refused 2; arrays = l }
+  unfolding choosing
+  refused-short h s = by-short h true s
+
+  accepted : length script ≤ maxBytes → false ≡ tooShort script l → promised how script l ≡ outcome (how script) l
+  unfolding choosing
+  accepted h s = by-short h false s
+
+-- ---- trees and errors
+
+abbrev pub treeOf : RootsRead → ℕ → Parsed
+treeOf r n = P.Tree (record { nodes = r .parser .used .nodes; types = r .parser .used .types; cells = r .parser .used .cells; roots = r .members; values = r .parser .used .values; diagnostics = n })
+
+held-as : (a b f : List ℕ) → length b ≡ length a → b ≡ padded (length b) f → padded (length a) f ≡ b
+held-as a b f n e = ap (λ (k : ℕ). padded k f) (sym n) ∙ sym e
+
+module _ (how : List ℕ → Reading) (script ns ts ls rs ds ns′ ts′ ls′ rs′ ds′ : List ℕ) (small : length script ≤ maxBytes) (enough : false ≡ tooShort script (arrays ns ts ls rs ds)) where
+  by-reading : {x : Reading} {o : Outcome} → how script ≡ x → outcome x (arrays ns ts ls rs ds) ≡ o → promised how script (arrays ns ts ls rs ds) ≡ o
+  by-reading e f = accepted how script _ small enough ∙ ap (λ (x : Reading). outcome x (arrays ns ts ls rs ds)) e ∙ f
+
+  pub tree-promised : {xs : List ℕ} {m : State} (r : RootsRead) (es : List Diagnostic) (n : ℕ) → how script ≡ read (record { arena = m .arena; roots = xs }) es → Holds ns′ ts′ ls′ rs′ r xs m
+      → length ns′ ≡ length ns → length ts′ ≡ length ts → length ls′ ≡ length ls → length rs′ ≡ length rs → n ≡ length es → ds′ ≡ padded (length ds) (flatten (map diagnosticCells es))
+      → promised how script (arrays ns ts ls rs ds) ≡ record { answer = treeOf r n; arrays = arrays ns′ ts′ ls′ rs′ ds′ }
+  unfolding outcome holding flatten
+  tree-promised {xs} {m} r es n e h a b c d k z = by-reading e (λ i. record {
+    answer = P.Tree (record { nodes = sym (h .nodeCount) i; types = sym (h .typeCount) i; cells = sym (h .cellCount) i; roots = sym (h .rootCount) i; values = sym (h .valueCount) i; diagnostics = sym k i });
+    arrays = arrays (held-as ns ns′ (flatten (map nodeCells (m .arena .nodes))) a (h .nodesHeld) i) (held-as ts ts′ (flatten (map typeCells (m .arena .types))) b (h .typesHeld) i) (held-as ls ls′ (m .arena .cells) c (h .listsHeld) i) (held-as rs rs′ xs d (h .rootsHeld) i) (sym z i);
+  })
+
+  pub error-promised : (e : Diagnostic) → how script ≡ ended e → ns′ ≡ zeros (length ns) → ts′ ≡ zeros (length ts) → ls′ ≡ zeros (length ls) → rs′ ≡ zeros (length rs) → ds′ ≡ zeros (length ds)
+      → promised how script (arrays ns ts ls rs ds) ≡ record { answer = P.Error e; arrays = arrays ns′ ts′ ls′ rs′ ds′ }
+  unfolding outcome zeroed
+  error-promised e w a b c d z = by-reading w (λ i. record { answer = P.Error e; arrays = arrays (sym a i) (sym b i) (sym c i) (sym d i) (sym z i) })
+
+-- ---- strict
+
+-- the reading, by how the roots end
+ending : Result (List ℕ) → Reading
+ending res = elim res [ ok roots s ↦ read (record { arena = s .arena; roots = roots }) [] | err e s ↦ ended e ]
+
+parse-ending : (script : List ℕ) → parse stageOne script ≡ ending (parseRoots stageOne script (begin script))
+unfolding parse ending
+parse-ending script = refl
+
+module _ (script ns ts ls rs ds ns′ ts′ ls′ rs′ : List ℕ) (r : RootsRead) (small : length script ≤ maxBytes) (enough : false ≡ tooShort script (arrays ns ts ls rs ds))
+    (ends : RootsEnd ns′ ts′ ls′ rs′ r (parseRoots stageOne script (begin script)))
+    (n : length ns′ ≡ length ns) (t : length ts′ ≡ length ts) (c : length ls′ ≡ length ls) (o : length rs′ ≡ length rs) where
+  pub strict-tree : (ds′ : List ℕ) → ds′ ≡ zeros (length ds) → r .parser .status ≡ Going
+      → promised (parse stageOne) script (arrays ns ts ls rs ds) ≡ record { answer = treeOf r 0; arrays = arrays ns′ ts′ ls′ rs′ ds′ }
+  unfolding ending flatten
+  strict-tree ds′ blank g = go (parseRoots stageOne script (begin script)) (parse-ending script) ends
+    where
+      go : (res : Result (List ℕ)) → parse stageOne script ≡ ending res → RootsEnd ns′ ts′ ls′ rs′ r res → promised (parse stageOne) script (arrays ns ts ls rs ds) ≡ record { answer = treeOf r 0; arrays = arrays ns′ ts′ ls′ rs′ ds′ }
+      go (ok xs m) e h = tree-promised (parse stageOne) script ns ts ls rs ds ns′ ts′ ls′ rs′ ds′ small enough r [] 0 e h n t c o refl (blank ∙ ap zeros {x = length ds} {y = length ds - 0} (omega arith))
+      go (err x m) e h = absurd (true≢false (ap isGoing g) (ap isGoing h))
+
+  pub strict-error : (ns″ ts″ ls″ rs″ ds′ : List ℕ) (e : Diagnostic) → ns″ ≡ zeros (length ns′) → ts″ ≡ zeros (length ts′) → ls″ ≡ zeros (length ls′) → rs″ ≡ zeros (length rs′) → ds′ ≡ zeros (length ds) → r .parser .status ≡ Failed e
+      → promised (parse stageOne) script (arrays ns ts ls rs ds) ≡ record { answer = P.Error e; arrays = arrays ns″ ts″ ls″ rs″ ds′ }
+  unfolding ending
+  strict-error ns″ ts″ ls″ rs″ ds′ e a b l d z g = go (parseRoots stageOne script (begin script)) (parse-ending script) ends
+    where
+      go : (res : Result (List ℕ)) → parse stageOne script ≡ ending res → RootsEnd ns′ ts′ ls′ rs′ r res → promised (parse stageOne) script (arrays ns ts ls rs ds) ≡ record { answer = P.Error e; arrays = arrays ns″ ts″ ls″ rs″ ds′ }
+      go (ok xs m) w h = absurd (true≢false (ap isGoing (h .going)) (ap isGoing g))
+      go (err x m) w h =
+          let s : Failed x ≡ Failed e = sym h ∙ g in
+          let same : x ≡ e = cc in
+          error-promised (parse stageOne) script ns ts ls rs ds ns″ ts″ ls″ rs″ ds′ small enough e (w ∙ ap ended same) (a ∙ ap zeros n) (b ∙ ap zeros t) (l ∙ ap zeros c) (d ∙ ap zeros o) z
+
+-- ---- what is cleared is blank, and enough of it
+
+or-not : (a b : Bool) → false ≡ or a b → (a ≡ false) × (b ≡ false)
+unfolding or
+or-not true b e = absurd (true≢false e refl)
+or-not false b e = (refl, sym e)
+
+blank-length : (a a′ : List ℕ) → a′ ≡ zeros (length a) → length a′ ≡ length a
+blank-length a a′ e = ap length e ∙ zeros-length (length a)
+
+blank-again : (a a′ : List ℕ) → a′ ≡ zeros (length a) → a′ ≡ zeros (length a′)
+blank-again a a′ e = e ∙ ap zeros (sym (blank-length a a′ e))
+
+module _ (script ns ts ls rs ds : List ℕ) (long : false ≡ tooShort script (arrays ns ts ls rs ds)) where
+  pub blank-of : {ns′ ts′ ls′ rs′ : List ℕ} → length script ≤ maxBytes → ns′ ≡ zeros (length ns) → ts′ ≡ zeros (length ts) → ls′ ≡ zeros (length ls) → rs′ ≡ zeros (length rs) → Blank script ns′ ts′ ls′ rs′
+  unfolding tooShort
+  blank-of {ns′} {ts′} {ls′} {rs′} small a b c d =
+      let w₁ = or-not (ltb (length ns) (16 * length script)) _ long in
+      let w₂ = or-not (ltb (length ts) (8 * length script)) _ (sym (w₁ .1)) in
+      let w₃ = or-not (ltb (length ls) (8 * length script)) _ (sym (w₂ .1)) in
+      let w₄ = or-not (ltb (length rs) (length script)) _ (sym (w₃ .1)) in
+      record {
+        lent = record {
+          small = small;
+          nodes = omega (arith, ltb-false (length ns) (16 * length script) (w₁ .0), blank-length ns ns′ a);
+          types = omega (arith, ltb-false (length ts) (8 * length script) (w₂ .0), blank-length ts ts′ b);
+          lists = omega (arith, ltb-false (length ls) (8 * length script) (w₃ .0), blank-length ls ls′ c);
+        };
+        roots = omega (arith, ltb-false (length rs) (length script) (w₄ .0), blank-length rs rs′ d);
+        blankNodes = blank-again ns ns′ a;
+        blankTypes = blank-again ts ts′ b;
+        blankLists = blank-again ls ls′ c;
+        blankRoots = blank-again rs rs′ d;
+      }
+
+  -- the diagnostics have room for as many records as the script has bytes
+  pub room-of : 5 * length script ≤ length ds
+  unfolding tooShort
+  room-of =
+      let w₁ = or-not (ltb (length ns) (16 * length script)) _ long in
+      let w₂ = or-not (ltb (length ts) (8 * length script)) _ (sym (w₁ .1)) in
+      let w₃ = or-not (ltb (length ls) (8 * length script)) _ (sym (w₂ .1)) in
+      let w₄ = or-not (ltb (length rs) (length script)) _ (sym (w₃ .1)) in
+      ltb-false (length ds) (5 * length script) (w₄ .1)
