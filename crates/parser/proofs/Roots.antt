@@ -180,7 +180,7 @@ module _ {script nodes types lists roots : List ℕ} (p : Parser) (h : Blank scr
         related = record {
           left = from-next script 0 refl;
           inRange = inRange .0;
-          lexed = record { passed = 1; stands = stands-next stands-start refl; counted = omega (arith, ap length (from-next script 0 refl)) };
+          lexed = record { taken = 0; stands = stands-next stands-start refl; counted = omega (arith, ap length (from-next script 0 refl)) };
           nodes = record { laid = blank-as _ (h .blankNodes) (omega arith); counted = refl; valued = refl };
           types = record { laid = blank-as _ (h .blankTypes) (omega arith); counted = refl; docCounted = refl; allLow = tt };
           lists = record { laid = blank-as _ (h .blankLists) (omega arith); counted = refl; stacked = refl };

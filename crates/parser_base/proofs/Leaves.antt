@@ -116,7 +116,7 @@ taking script p x g k e nodes types lists = record {
           related = record {
             left = l′;
             inRange = inRange .0;
-            lexed = record { passed = suc (h .related .lexed .passed); stands = stands-next (h .related .lexed .stands) e; counted = omega (arith, h .related .lexed .counted, ap length more) };
+            lexed = record { taken = suc (h .related .lexed .taken); stands = stands-next (h .related .lexed .stands) e; counted = omega (arith, h .related .lexed .counted, ap length more) };
             nodes = h .related .nodes;
             types = h .related .types;
             lists = h .related .lists;

@@ -82,11 +82,11 @@ going s = isGoing (s .parser .status)
 unfoldable pub from : List ℕ → Token → ℕ → List Token
 from script t pos = elim (eqb (t .kind) kEof) [ true ↦ t ∷ [] | false ↦ t ∷ tokensFrom script pos ]
 
--- the lexer stands behind the token being read, after so many tokens
+-- the lexer stands behind the token being read, before which so many are taken
 pub record Lexed (script : List ℕ) (cur : Token) (pos : ℕ) : Type 0 where
-  pub passed : ℕ
-  pub stands : StandsAfter script passed pos
-  pub counted : length (from script cur pos) + passed ≡ suc (length (tokensOf (cut script)))
+  pub taken : ℕ
+  pub stands : StandsAfter script (suc taken) pos
+  pub counted : length (from script cur pos) + taken ≡ length (tokensOf (cut script))
 
 -- the tokens that are left
 abbrev pub ahead : List ℕ → Code → List Token
