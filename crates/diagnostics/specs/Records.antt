@@ -1,0 +1,31 @@
+-- The diagnostics array: a record is pushed behind those in use.
+use mathlib.Core.Bool.{true, false}
+use mathlib.Core.List.{List, _++_}
+use Prim.Native.Nat.{ℕ, _+_, _*_}
+use lib.Dec.{leb, ltb}
+use lib.ListN.{length, take, drop}
+use Rattle.lex.specs.declared.diagnostic.Diagnostic.{Diagnostic}
+use Rattle.rules.specs.Layout.{diagnosticCells}
+
+-- the array's cells, and how many of its records are in use
+pub record Diagnostics : Type 0 where
+  pub cells : List ℕ
+  pub count : ℕ
+
+abbrev pub diagnostics : List ℕ → ℕ → Diagnostics
+diagnostics cells n = record { cells = cells; count = n }
+
+-- the greatest count, for it has 32 bits
+abbrev pub maxCount : ℕ
+maxCount = 4294967295
+
+-- one record more, where it has room and can be counted
+unfoldable pub pushed : Diagnostics → Diagnostic → Diagnostics
+pushed a d =
+    elim (ltb (a .count) maxCount) [
+      | true ↦ elim (leb (5 * a .count + 5) (length (a .cells))) [
+        | true ↦ diagnostics (take (5 * a .count) (a .cells) ++ diagnosticCells d ++ drop (5 * a .count + 5) (a .cells)) (a .count + 1)
+        | false ↦ a
+      ]
+      | false ↦ a
+    ]
