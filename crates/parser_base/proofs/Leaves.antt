@@ -100,7 +100,7 @@ rest-from script c t pos = go (eqb (t .kind) kEof)
 abbrev pub moved : Parser → Next → Parser
 moved p x = record { cur = x .token; pos = x .next; used = p .used; status = p .status }
 
-pub taking : (script : List ℕ) (p : Parser) (x : Next) → isGoing (p .status) ≡ true → 1 < p .cur .kind → x ≡ nextAt script (p .pos) → Takes script advance p (moved p x)
+pub taking : (script : List ℕ) (p : Parser) (x : Next) → isGoing (p .status) ≡ true → (p .cur .kind ≡ kEof → ⊥) → x ≡ nextAt script (p .pos) → Takes script advance p (moved p x)
 unfolding advance
 taking script p x g k e nodes types lists = record {
   sticky = λ f. absurd (true≢false g f);
@@ -132,7 +132,7 @@ taking script p x g k e nodes types lists = record {
 }
   where
     more : from script (p .cur) (p .pos) ≡ p .cur ∷ from script (x .token) (x .next)
-    more = from-more script (p .cur) (p .pos) (ne-eqb (p .cur .kind) kEof (λ z. omega arith)) ∙ ap (λ (ts : List Token). p .cur ∷ ts) (from-next script (p .pos) e)
+    more = from-more script (p .cur) (p .pos) (ne-eqb (p .cur .kind) kEof k) ∙ ap (λ (ts : List Token). p .cur ∷ ts) (from-next script (p .pos) e)
 
 -- ---- failing
 

@@ -76,7 +76,7 @@ pub fn going(p: Parser) -> bool
 }
 
 pub fn advance(script: &[u8], p: Parser) -> Parser
-    requires { ⌜ 1 < p .cur .kind ⌝ }
+    requires { ⌜ (p .cur .kind ≡ 1 → ⊥) ⌝ }
     ensures { λ r. ⌜ Takes (now (script .entry)) advance p r ⌝ }
 {
     if !going(p) {
