@@ -68,6 +68,17 @@ module _ {A : Type 0} (script : List ℕ) (f : A → Rule (ControlFlow A)) (grow
     pub progress : going s′ ≡ true → length (ahead script s′) + 1 ≤ length (ahead script s)
     pub flowValue : (R L : ℕ) (stack : List ℕ) (a : A) (m : State) → Q a → Represents script s R L (grow a stack) m → Turned Q′ s′ R L stack (f a m)
 
+  -- a turn at which the loop is left
+  abbrev pub Stopped : (A → Type 0) → Code → ℕ → ℕ → List ℕ → Result (ControlFlow A) → Type 0
+  Stopped Q s′ r l stack (ok (continue b) m) = ⊥
+  Stopped Q s′ r l stack (ok (break b) m) = Q b × Represents script s′ r l (grow b stack) m
+  Stopped Q s′ r l stack (err e m) = FailedAt script s′ e r l stack m
+
+  pub record Last (Q Q′ : A → Type 0) (s s′ : Code) : Type 0 where
+    pub sticky : going s ≡ false → s′ ≡ s
+    pub monotone : length (ahead script s′) ≤ length (ahead script s)
+    pub flowValue : (R L : ℕ) (stack : List ℕ) (a : A) (m : State) → Q a → Represents script s R L (grow a stack) m → Stopped Q′ s′ R L stack (f a m)
+
 module _ {A : Type 0} {script : List ℕ} {f : A → Rule (ControlFlow A)} {grow : A → List ℕ → List ℕ} where
   pub round-start : {a₀ : A} {s : Code} → LoopInvariant script f grow a₀ (λ a. a ≡ a₀) s s
   unfolding loop
@@ -111,26 +122,38 @@ module _ {A : Type 0} {script : List ℕ} {f : A → Rule (ControlFlow A)} {grow
         go R L stack res (simulates w) = one R L stack (w .fuel) (w .a) (w .m) res (w .comes) (w .fuelled) (w .value) (w .represents)
         go R L stack res (lost w) = absurd (true≢false g (failed-fails (w .failedAt)))
 
-  -- the turn at which the loop is left changes nothing
-  module _ {a₀ : A} {Q : A → Type 0} {s₀ s : Code} where
-    pub round-out : LoopInvariant script f grow a₀ Q s₀ s → ((stack : List ℕ) → grow a₀ stack ≡ stack)
-        → ((R L : ℕ) (stack : List ℕ) (a : A) (m : State) → Q a → Represents script s R L stack m → f a m ≡ ok (break a) m) → Refines script 0 0 (loop f a₀) Q grow 0 0 0 s₀ s
+  module _ {a₀ : A} {Q Q′ : A → Type 0} {s₀ s s′ : Code} where
+    pub round-last : LoopInvariant script f grow a₀ Q s₀ s → ((stack : List ℕ) → grow a₀ stack ≡ stack) → Last script f grow Q Q′ s s′ → Refines script 0 0 (loop f a₀) Q′ grow 0 0 0 s₀ s′
     unfolding after
-    round-out i z p = record {
-      sticky = i .sticky;
-      monotone = i .monotone;
-      progress = λ e. omega (arith, i .monotone);
+    round-last i z p = record {
+      sticky = λ e. let e₁ : s ≡ s₀ = i .sticky e in p .sticky (ap going e₁ ∙ e) ∙ e₁;
+      monotone = omega (arith, i .monotone, p .monotone);
+      progress = λ e. omega (arith, i .monotone, p .monotone);
       simulates = λ R L stack m h. go R L stack (loop f a₀ m) (i .way R L stack m (rw (z stack) (represents-less _ _ (omega arith) (omega arith) h)));
     }
       where
-        one : (R L : ℕ) (stack : List ℕ) (n : ℕ) (a : A) (m : State) (res : Result A) → res ≡ iterate n f a m → length (m .left) ≤ n → Q a → Represents script s R L (grow a stack) m → Ends script Q grow s R L 0 0 stack res
-        one R L stack zero a m res e u v h = absurd (omega (arith, left-some (h .related)))
-        one R L stack (suc n) a m res e u v h =
-            subst (Ends script Q grow s R L 0 0 stack) (sym (e ∙ iterate-suc f n a m ∙ ap (after f n) (p R L (grow a stack) a m v h))) (v, represents-less _ _ (omega arith) (omega arith) h)
+        ends : (R L : ℕ) (stack : List ℕ) (n : ℕ) (r : Result (ControlFlow A)) → Stopped script f grow Q′ s′ R L stack r → Ends script Q′ grow s′ R L 0 0 stack (after f n r)
+        ends R L stack n (ok (continue b) m) d = absurd d
+        ends R L stack n (ok (break b) m) d = (d .0, represents-less _ _ (omega arith) (omega arith) (d .1))
+        ends R L stack n (err e m) d = d
 
-        go : (R L : ℕ) (stack : List ℕ) (res : Result A) → Way script f grow Q s R L stack res → Ends script Q grow s R L 0 0 stack res
+        one : (R L : ℕ) (stack : List ℕ) (n : ℕ) (a : A) (m : State) (res : Result A) → res ≡ iterate n f a m → length (m .left) ≤ n → Q a → Represents script s R L (grow a stack) m → Ends script Q′ grow s′ R L 0 0 stack res
+        one R L stack zero a m res e u v h = absurd (omega (arith, left-some (h .related)))
+        one R L stack (suc n) a m res e u v h = subst (Ends script Q′ grow s′ R L 0 0 stack) (sym (e ∙ iterate-suc f n a m)) (ends R L stack n (f a m) (p .flowValue R L stack a m v h))
+
+        go : (R L : ℕ) (stack : List ℕ) (res : Result A) → Way script f grow Q s R L stack res → Ends script Q′ grow s′ R L 0 0 stack res
         go R L stack res (simulates w) = one R L stack (w .fuel) (w .a) (w .m) res (w .comes) (w .fuelled) (w .value) (w .represents)
-        go R L stack res (lost w) = subst (Ends script Q grow s R L 0 0 stack) (sym (w .comes)) (w .failedAt)
+        go R L stack res (lost w) = subst (λ (t : Code). Ends script Q′ grow t R L 0 0 stack res) (sym (p .sticky (failed-fails (w .failedAt)))) (subst (Ends script Q′ grow s R L 0 0 stack) (sym (w .comes)) (w .failedAt))
+
+  -- a last turn that changes nothing
+  module _ {a₀ : A} {Q : A → Type 0} {s₀ s : Code} where
+    pub round-out : LoopInvariant script f grow a₀ Q s₀ s → ((stack : List ℕ) → grow a₀ stack ≡ stack)
+        → ((R L : ℕ) (stack : List ℕ) (a : A) (m : State) → Q a → Represents script s R L stack m → f a m ≡ ok (break a) m) → Refines script 0 0 (loop f a₀) Q grow 0 0 0 s₀ s
+    round-out i z p = round-last i z (record {
+      sticky = λ e. refl;
+      monotone = omega arith;
+      flowValue = λ R L stack a m v h. subst (Stopped script f grow Q s R L stack) (sym (p R L (grow a stack) a m v h)) (v, h);
+    })
 
 -- a turn from what a step of the code meets
 pub again-of : {A : Type 0} {script : List ℕ} {v w : A} {r′ l′ : ℕ} {s s′ : Code} (f : A → Rule (ControlFlow A)) → Refines script 0 0 (f v) (λ t. t ≡ continue w) kept 1 r′ l′ s s′
@@ -145,6 +168,21 @@ again-of {A} {script} {v} {w} {r′} {l′} {s} {s′} f p = record {
     go : (R L : ℕ) (stack : List ℕ) (r : Result (ControlFlow A)) → Ends script (λ t. t ≡ continue w) kept s′ R L r′ l′ stack r → Turned script f kept (λ b. b ≡ w) s′ R L stack r
     go R L stack (ok (continue b) m) h = (let e : continue b ≡ continue w = h .0 in cc, represents-less _ _ (omega arith) (omega arith) (h .1))
     go R L stack (ok (break b) m) h = let e : break b ≡ continue w = h .0 in let z : _≡_ {A = ℕ} 0 1 = cc in omega arith
+    go R L stack (err e m) h = h
+
+-- a last turn likewise
+pub last-of : {A : Type 0} {script : List ℕ} {v w : A} {d r′ l′ : ℕ} {s s′ : Code} (f : A → Rule (ControlFlow A)) → Refines script 0 0 (f v) (λ t. t ≡ break w) kept d r′ l′ s s′
+    → Last script f kept (λ a. a ≡ v) (λ b. b ≡ w) s s′
+last-of {A} {script} {v} {w} {d} {r′} {l′} {s} {s′} f p = record {
+  sticky = p .sticky;
+  monotone = p .monotone;
+  flowValue = λ R L stack a m e h.
+      subst (λ (x : A). Stopped script f kept (λ b. b ≡ w) s′ R L stack (f x m)) (sym e) (go R L stack (f v m) (p .simulates R L stack m (represents-less _ _ (omega arith) (omega arith) h)));
+}
+  where
+    go : (R L : ℕ) (stack : List ℕ) (r : Result (ControlFlow A)) → Ends script (λ t. t ≡ break w) kept s′ R L r′ l′ stack r → Stopped script f kept (λ b. b ≡ w) s′ R L stack r
+    go R L stack (ok (break b) m) h = (let e : break b ≡ break w = h .0 in cc, represents-less _ _ (omega arith) (omega arith) (h .1))
+    go R L stack (ok (continue b) m) h = let e : continue b ≡ break w = h .0 in let z : _≡_ {A = ℕ} 0 1 = cc in omega arith
     go R L stack (err e m) h = h
 
 -- what is struck out is in no array

@@ -21,12 +21,16 @@ pub data Reading : Type 0 where
 unfoldable pub begin : List ℕ → State
 begin script = record { left = tokensOf (cut script); docs = []; arena = emptyArena; notes = record { marks = []; afterDefault = 0 } }
 
--- to the next token that may begin a root, past it where it is `}`
-unfoldable pub synchronizeRoot : State → Result ℕ
-synchronizeRoot s = loop (λ n. byKind (choose
+-- a step: the loop is left before a token that may begin a root, before Eof and past `}`, and goes on past any other
+abbrev pub synchronizeStep : ℕ → Rule (ControlFlow ℕ)
+synchronizeStep n = byKind (choose
     ((kLet, pure (break n)) ∷ (kFn, pure (break n)) ∷ (kImport, pure (break n)) ∷ (kExtern, pure (break n)) ∷ (kMatch, pure (break n)) ∷ (kEof, pure (break n)) ∷
     (kCurlyRight, advance >> pure (break n)) ∷ [])
-    (advance >> pure (continue n)))) 0 (withDocs [] s)
+    (advance >> pure (continue n)))
+
+-- to the next token that may begin a root, past it where it is `}`
+unfoldable pub synchronizeRoot : State → Result ℕ
+synchronizeRoot s = loop synchronizeStep 0 (withDocs [] s)
 
 -- the roots so far, and the errors so far, each with the number of tokens read before it
 pub record Gathered : Type 0 where

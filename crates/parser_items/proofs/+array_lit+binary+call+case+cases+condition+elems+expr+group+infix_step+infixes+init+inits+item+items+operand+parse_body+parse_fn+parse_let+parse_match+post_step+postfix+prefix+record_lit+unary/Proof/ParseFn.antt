@@ -14,8 +14,7 @@ use Rattle.parser_base.proofs.push_node.Reads as push-node-reads
 use Rattle.parser_items.proofs.+array_lit+binary+call+case+cases+condition+elems+expr+group+infix_step+infixes+init+inits+item+items+operand+parse_body+parse_fn+parse_let+parse_match+post_step+postfix+prefix+record_lit+unary.Proof.Measures.{parse-fn-at, parse-body-below}
 use Rattle.parser_base.proofs.Steps.{seq, then, read, enough}
 use Rattle.rules.specs.Rules.{parseFn}
-use mathlib.Core.Path.{refl, sym, subst}
-use Prim.Native.Nat.{_<_}
+use mathlib.Core.Path.{_≡_, refl, sym, subst}
 use Rattle.lex.specs.declared.tok.Token.{Token}
 
 abbrev claims : ℕ → lts.Claims
@@ -25,7 +24,7 @@ advance-requires : (t : ℕ) → lts.Need-advance-requires (claims t) (parse-fn-
 advance-requires t c κs =
     let pre = c .before .before .before .before .before .before .before .before .before .before .before .before .before .pre in
     let take-docs = c .before .before .before .before .before .before .take-docs in
-    subst (λ (k : Token). 1 < k .kind) (sym (take-docs .ensures .1)) (pre .1)
+    subst (λ (k : Token). k .kind ≡ 1 → ⊥) (sym (take-docs .ensures .1)) (λ e. omega (arith, pre .1))
 
 push-node-requires : (t : ℕ) → lts.Need-push-node-requires (claims t) (parse-fn-at t) parse-fn.Post
 push-node-requires t c κs =
