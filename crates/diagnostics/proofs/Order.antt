@@ -37,7 +37,7 @@ error-first a k (cutFault e c) d more h =
 -- the faults before the `i`-th token come before an error that is met there, and the others after it
 error-after : (k i n : ℕ) (c : Cut) (d : Diagnostic) (more : List Occurrence) → k + i ≡ n → 0 < n
     → merged (length (faultsOf k c) + suc (length more)) (faultsOf k c) (occurrence (n - 1) d ∷ more)
-        ≡ faultsBefore i c ++ (d ∷ merged (length (faultsOf n (cutAfter i c)) + length more) (faultsOf n (cutAfter i c)) more)
+    ≡ faultsBefore i c ++ (d ∷ merged (length (faultsOf n (cutAfter i c)) + length more) (faultsOf n (cutAfter i c)) more)
 unfolding faultsOf merged faultsBefore cutAfter
 error-after k zero n c d more e h = let same : k ≡ n = omega arith in rw same (error-first (n - 1) n c d more (omega arith))
 error-after k (suc i) n (eof at) d more e h = rw (zero-add (suc (length more)), zero-add (length more))
@@ -99,7 +99,7 @@ pub record Ordered (script : List ℕ) (es : List Occurrence) (ds : List Diagnos
   pub stands : StandsAfter script j listed
   pub merges : (more : List Occurrence)
       → merged (length (faultsOf 0 (cut script)) + length (es ++ more)) (faultsOf 0 (cut script)) (es ++ more)
-          ≡ ds ++ merged (length (faultsOf j (cutAfter j (cut script))) + length more) (faultsOf j (cutAfter j (cut script))) more
+      ≡ ds ++ merged (length (faultsOf j (cutAfter j (cut script))) + length more) (faultsOf j (cutAfter j (cut script))) more
   pub few : length ds + length (faultsOf j (cutAfter j (cut script))) ≡ length es + length (faultsOf 0 (cut script))
 
 pub ordered-start : {script : List ℕ} → Ordered script [] [] 0 0
