@@ -179,7 +179,7 @@ module _ {script nodes types lists roots : List ℕ} (p : Parser) (h : Blank scr
         status = refl;
         related = record {
           left = from-next script 0 refl;
-          inRange = inRange .0;
+          inRange = inRange;
           lexed = record { taken = 0; stands = stands-next stands-start refl; counted = omega (arith, ap length (from-next script 0 refl)) };
           nodes = record { laid = blank-as _ (h .blankNodes) (omega arith); counted = refl; valued = refl };
           types = record { laid = blank-as _ (h .blankTypes) (omega arith); counted = refl; docCounted = refl; allLow = tt };

@@ -1,2 +1,3 @@
 -- What the contracts of the entry points are written in.
 pub mod Whole
+pub mod Collect

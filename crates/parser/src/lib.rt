@@ -183,6 +183,14 @@ fn parse_roots(
 
 // ---- the two readings
 
+// What is read of the roots, how many, how many diagnostics there are, and up to where the lexer's faults are among them.
+pub struct RootsCollected {
+    pub parser: Parser,
+    pub members: u32,
+    pub diagnostics: u32,
+    pub listed: usize,
+}
+
 // program = prefix*, up to the first error.
 pub fn parse(
     script: &[u8],

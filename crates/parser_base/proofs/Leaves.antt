@@ -73,15 +73,15 @@ from-next script pos {x} e =
 
 -- and it lies in the script
 abbrev Lies : List ℕ → ℕ → Cut → Type 0
-Lies script pos c = pos ≤ length script → InRange script (nextOf c .token) × (nextOf c .next ≤ length script)
+Lies script pos c = pos ≤ length script → InRange script (nextOf c .token)
 
 lies-step : (script : List ℕ) (pos : ℕ) (s : Step) → Forward script pos s → ((n : ℕ) → pos < n → n ≤ length script → Lies script n (cutAt script n)) → Lies script pos (L.extendCut (cutAt script) s)
 unfolding nextOf
-lies-step script pos (Step.Token t n) h r p = (record { start = omega arith; len = omega arith }, omega arith)
+lies-step script pos (Step.Token t n) h r p = record { start = omega arith; len = omega arith }
 lies-step script pos (Step.Fault e n) h r p = r n (omega arith) (omega arith) (omega arith)
-lies-step script pos (Step.End at) h r p = let e : at ≡ length script = h .1 p in (record { start = omega arith; len = omega arith }, omega arith)
+lies-step script pos (Step.End at) h r p = let e : at ≡ length script = h .1 p in record { start = omega arith; len = omega arith }
 
-pub next-near : (script : List ℕ) (pos : ℕ) {x : Next} → x ≡ nextAt script pos → pos ≤ length script → InRange script (x .token) × (x .next ≤ length script)
+pub next-near : (script : List ℕ) (pos : ℕ) {x : Next} → x ≡ nextAt script pos → pos ≤ length script → InRange script (x .token)
 unfolding nextAt
 next-near script pos e = rw e (cut-ind script (Lies script) (lies-step script) (suc (length script)) pos (omega arith))
 
@@ -115,7 +115,7 @@ taking script p x g k e nodes types lists = record {
           status = h .status;
           related = record {
             left = l′;
-            inRange = inRange .0;
+            inRange = inRange;
             lexed = record { taken = suc (h .related .lexed .taken); stands = stands-next (h .related .lexed .stands) e; counted = omega (arith, h .related .lexed .counted, ap length more) };
             nodes = h .related .nodes;
             types = h .related .types;

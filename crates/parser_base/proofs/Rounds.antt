@@ -16,12 +16,12 @@ use Rattle.parser_base.specs.declared.Parser.{Parser}
 use Rattle.parser_base.proofs.Steps.{represents-noted, either, true≢false, represents-going, represents-less, failed-fails, left-some}
 
 -- after a turn
-after : {A : Type 0} → (A → Rule (ControlFlow A)) → ℕ → Result (ControlFlow A) → Result A
+unfoldable pub after : {A : Type 0} → (A → Rule (ControlFlow A)) → ℕ → Result (ControlFlow A) → Result A
 after f n (ok (continue b) m) = iterate n f b m
 after f n (ok (break b) m) = ok b m
 after f n (err e m) = err e m
 
-iterate-suc : {A : Type 0} (f : A → Rule (ControlFlow A)) (n : ℕ) (a : A) (m : State) → iterate (suc n) f a m ≡ after f n (f a m)
+pub iterate-suc : {A : Type 0} (f : A → Rule (ControlFlow A)) (n : ℕ) (a : A) (m : State) → iterate (suc n) f a m ≡ after f n (f a m)
 unfolding iterate after
 iterate-suc {A} f n a m = go (f a m)
   where

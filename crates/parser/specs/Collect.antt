@@ -1,0 +1,63 @@
+-- What reading the roots of a whole script comes to where errors are gathered.
+use mathlib.Core.Path.{_≡_}
+use mathlib.Core.List.{List, [], _∷_, _++_, map, flatten}
+use Prim.Native.Nat.{ℕ, suc, _+_, _*_, _≤_}
+use lib.ListN.{length}
+use Rattle.lex.specs.Kind.{kEof}
+use Rattle.lex.specs.Lex.{Occurrence, cut, tokensOf, faultsOf}
+use Rattle.lex.specs.declared.diagnostic.Diagnostic.{Diagnostic}
+use Rattle.rules.specs.Tree.{State, Result, ok, err}
+use Rattle.rules.specs.Combinators.{Rule, pure, ifKind, ControlFlow, continue, break}
+use Rattle.rules.specs.Rules.{stageOne, maxLevels}
+use Rattle.rules.specs.Parse.{Gathered, merged, recover}
+use Rattle.rules.specs.Layout.{padded, diagnosticCells}
+use Rattle.diagnostics.specs.Records.{diagnostics, holding}
+use Rattle.diagnostics.proofs.Order.{Ordered}
+use Rattle.parser_base.specs.Represents.{Code, code, ahead, Represents, FailedAt}
+use Rattle.parser_base.specs.Refines.{deeper, wanted}
+use Rattle.parser_base.specs.declared.Status.the-variants.{Failed}
+use Rattle.parser.specs.Whole.{Blank, RootsAre, Holds}
+use Rattle.parser.specs.declared.RootsRead.{RootsRead}
+use Rattle.parser.specs.declared.RootsCollected.{RootsCollected}
+
+-- one more root, or one more error
+abbrev pub collectStep : List ℕ → Gathered → Rule (ControlFlow Gathered)
+collectStep script g = ifKind kEof (pure (break g)) (λ s. elim (deeper script maxLevels .prefix s) as (λ _. Result (ControlFlow Gathered)) [
+  | ok n s₁ ↦ ok (continue (record { roots = g .roots ++ (n .0 ∷ []); errors = g .errors })) s₁
+  | err e s₁ ↦ recover stageOne script g e s₁
+])
+
+-- the array holds the errors and the faults before `listed`; no more tokens are passed there than all but the `left` that are left, and the one being read
+pub record DiagnosticsAre (script array : List ℕ) (n listed left : ℕ) (es : List Occurrence) : Type 0 where
+  pub ds : List Diagnostic
+  pub passed : ℕ
+  pub held : diagnostics array n ≡ holding (length array) ds
+  pub ordered : Ordered script es ds passed listed
+  pub behind : passed + left ≤ suc (length (tokensOf (cut script)))
+
+-- what is gathered is in the arrays
+pub record Gathers (script nodes types lists roots diagnostics : List ℕ) (c : RootsCollected) (g : Gathered) : Type 0 where
+  pub rootsHeld : RootsAre script roots (c .members) (code nodes types lists (c .parser)) (g .roots)
+  pub diagnosticsHeld : DiagnosticsAre script diagnostics (c .diagnostics) (c .listed) (length (ahead script (code nodes types lists (c .parser)))) (g .errors)
+
+-- and there is room for one error more
+pub record Room (script roots diagnostics : List ℕ) (g : Gathered) : Type 0 where
+  pub rootsLong : length script ≤ length roots
+  pub diagnosticsLong : 5 * length script ≤ length diagnostics
+  pub fewErrors : length (g .errors) + 2 ≤ length (tokensOf (cut script))
+
+-- how a turn of the loop over roots ends
+abbrev pub TurnEnds : (script nodes types lists roots diagnostics : List ℕ) → RootsCollected → Result (ControlFlow Gathered) → Type 0
+TurnEnds script nodes types lists roots diagnostics c (ok (continue g) m) = Represents script (code nodes types lists (c .parser)) 0 0 [] m × Gathers script nodes types lists roots diagnostics c g
+TurnEnds script nodes types lists roots diagnostics c (ok (break g) m) = ⊥
+TurnEnds script nodes types lists roots diagnostics c (err e m) = c .parser .status ≡ Failed e
+
+-- errors and faults in the order in which they are met
+abbrev pub inOrder : List ℕ → Gathered → List Diagnostic
+inOrder script g = let fs = faultsOf 0 (cut script) in merged (length fs + length (g .errors)) fs (g .errors)
+
+-- by how the rule ends
+abbrev pub CollectEnds : (script nodes types lists roots diagnostics : List ℕ) → RootsCollected → Result Gathered → Type 0
+CollectEnds script nodes types lists roots diagnostics c (ok g m) =
+    Holds nodes types lists roots (record { parser = c .parser; members = c .members }) (g .roots) m × (diagnostics ≡ padded (length diagnostics) (flatten (map diagnosticCells (inOrder script g)))) × (c .diagnostics ≡ length (inOrder script g))
+CollectEnds script nodes types lists roots diagnostics c (err e m) = c .parser .status ≡ Failed e
