@@ -4,7 +4,7 @@ use mathlib.Core.List.{List, [], _∷_, _++_, append-assoc, append-nil}
 use Prim.Native.Nat.{ℕ, suc, _+_, _-_, _≤_, _<_}
 use native.Mathlib.Omega.{arith}
 use lib.ListN.{length, take, drop, set, getD, length-append, length-take, take-append-drop, drop-of-length-le, replicate-append-replicate}
-use lib.Seq.{drop-cons, set-at}
+use lib.Seq.{drop-cons, set-at, take-at}
 use Rattle.rules.specs.Layout.{zeros}
 use Rattle.parser_base.proofs.Cells.{zeros-length}
 
@@ -35,3 +35,23 @@ cleared-end a from i h k =
 -- from the beginning on: all of it
 pub cleared-all : {a′ : List ℕ} (a : List ℕ) → a′ ≡ take 0 a ++ zeros (length a - 0) → a′ ≡ zeros (length a)
 cleared-all a e = e ∙ ap zeros {x = length a - 0} {y = length a} (omega arith)
+
+-- ---- what grows downward at the far end of an array is cleared
+
+-- `k` cells in front stay, and behind them are zeros
+pub record EndCleared (front array array′ : List ℕ) (k : ℕ) : Type 0 where
+  pub same : length array′ ≡ length array
+  pub laid : array′ ≡ front ++ (zeros (length array′ - k) ++ [])
+
+pub end-cleared : {array array′ : List ℕ} (front back : List ℕ) (z n k : ℕ) → array ≡ front ++ (zeros z ++ back) → length back ≡ n → length front ≡ k → array′ ≡ take (length array - n) array ++ zeros (length array - (length array - n)) → EndCleared front array array′ k
+end-cleared {array} {array′} front back z n k e b f w =
+    let old : array ≡ (front ++ zeros z) ++ back = e ∙ sym (append-assoc front (zeros z) back) in
+    let all : length array ≡ length front + (z + n) = omega (arith, ap length e ∙ length-append front _, length-append (zeros z) back, zeros-length z) in
+    let at : length (front ++ zeros z) ≡ length array - n = omega (arith, length-append front (zeros z), zeros-length z) in
+    let stays : take (length array - n) array ≡ front ++ zeros z = ap (take (length array - n)) old ∙ take-at (front ++ zeros z) back (length array - n) at in
+    let new : array′ ≡ (front ++ zeros z) ++ zeros n = w ∙ ap (λ (l : List ℕ). l ++ zeros (length array - (length array - n))) stays ∙ ap (λ (j : ℕ). (front ++ zeros z) ++ zeros j) {x = length array - (length array - n)} {y = n} (omega arith) in
+    let same : length array′ ≡ length array = omega (arith, ap length new ∙ length-append (front ++ zeros z) (zeros n), zeros-length n) in
+    record {
+      same = same;
+      laid = new ∙ append-assoc front (zeros z) (zeros n) ∙ ap (λ (l : List ℕ). front ++ l) (replicate-append-replicate z n 0 ∙ ap zeros {x = z + n} {y = length array′ - k} (omega arith) ∙ sym (append-nil _));
+    }

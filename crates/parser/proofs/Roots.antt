@@ -5,8 +5,8 @@ use mathlib.Core.List.{List, [], _∷_, _++_, map, flatten, reverse, append-asso
 use Prim.Native.Nat.{ℕ, suc, _+_, _*_, _-_, _≤_, _<_}
 use native.Mathlib.Omega.{arith}
 use lib.Dec.{eqb}
-use lib.ListN.{length, take, set, length-append, length-reverse, length-set, replicate-append-replicate}
-use lib.Seq.{take-at, set-at}
+use lib.ListN.{length, take, set, length-append, length-reverse, length-set}
+use lib.Seq.{set-at}
 use Rattle.lex.specs.Kind.{kEof}
 use Rattle.lex.specs.Lex.{cut, tokensFrom, nextAt}
 use Rattle.lex.specs.declared.tok.Next.{Next}
@@ -26,12 +26,13 @@ use Rattle.parser_base.specs.declared.Used.{Used}
 use Rattle.parser_base.specs.declared.Status.the-variants.{Going, Failed}
 use Rattle.parser_base.proofs.Steps.{either, true≢false, left-some, current-represents, represents-less, represents-going, failed-fails}
 use Rattle.parser_base.proofs.Leaves.{from-next, next-near}
-use Rattle.parser_base.proofs.Cells.{withUsed, zeros-length, types-length, nodes-length}
+use Rattle.parser_base.proofs.Cells.{withUsed, types-length, nodes-length}
 use Rattle.parser_base.proofs.Docs.{docs-length}
 use Rattle.parser_base.proofs.Rounds.{Again, Turned, LoopInvariant, round-start-at, round-out, ifKind-is-yes, ifKind-is-no}
 use Rattle.parser_base.proofs.Loops.{wanted-eof, unwanted}
 use Rattle.parser.specs.Whole.{Blank, fresh, rootStep, RootsAre, dropDocs, Holds, RootsEnd}
 use Rattle.parser.specs.declared.RootsRead.{RootsRead}
+use Rattle.parser.proofs.Clear.{end-cleared}
 
 -- ---- docs that are dropped
 
@@ -48,20 +49,13 @@ dropping script nodes types types′ lists p g e = record {
   progress = λ _. omega arith;
   simulates = λ R L stack m h.
       let u : Used = p .used in
-      let laid = h .related .types in
+      let old = h .related .types in
       let credit = h .related .credit in
-      let top : List ℕ = docCells (m .docs) in
       let front : List ℕ = flatten (map typeCells (m .arena .types)) in
-      let y : ℕ = length types - (8 * u .types + 3 * u .docs) in
-      let n : length top ≡ 3 * u .docs = omega (arith, docs-length (m .docs), laid .docCounted) in
-      let k : length front ≡ 8 * u .types = omega (arith, types-length (m .arena .types), laid .counted) in
-      let old : types ≡ (front ++ zeros y) ++ reverse top = laid .laid ∙ sym (append-assoc front (zeros y) (reverse top)) in
-      let both : length types ≡ length front + (y + 3 * u .docs) = omega (arith, ap length (laid .laid) ∙ length-append front _, length-append (zeros y) (reverse top), zeros-length y, length-reverse top) in
-      let at : length (front ++ zeros y) ≡ length types - 3 * u .docs = omega (arith, length-append front (zeros y), zeros-length y) in
-      let kept-front : take (length types - 3 * u .docs) types ≡ front ++ zeros y = ap (take (length types - 3 * u .docs)) old ∙ take-at (front ++ zeros y) (reverse top) (length types - 3 * u .docs) at in
-      let new : types′ ≡ (front ++ zeros y) ++ zeros (3 * u .docs) = e ∙ ap (λ (l : List ℕ). l ++ zeros (length types - (length types - 3 * u .docs))) kept-front ∙ ap (λ (j : ℕ). (front ++ zeros y) ++ zeros j) {x = length types - (length types - 3 * u .docs)} {y = 3 * u .docs} (omega arith) in
-      let same : length types′ ≡ length types = omega (arith, ap length new ∙ length-append (front ++ zeros y) (zeros (3 * u .docs)), zeros-length (3 * u .docs)) in
-      let j : y + 3 * u .docs ≡ length types′ - (8 * u .types + 3 * 0) = omega arith in (
+      let back : List ℕ = reverse (docCells (m .docs)) in
+      let docs : length back ≡ 3 * u .docs = omega (arith, length-reverse (docCells (m .docs)), docs-length (m .docs), old .docCounted) in
+      let records : length front ≡ 8 * u .types + 3 * 0 = omega (arith, types-length (m .arena .types), old .counted) in
+      let new = end-cleared front back (length types - (8 * u .types + 3 * u .docs)) (3 * u .docs) (8 * u .types + 3 * 0) (old .laid) docs records e in (
         refl,
         record {
           status = h .status;
@@ -70,15 +64,10 @@ dropping script nodes types types′ lists p g e = record {
             inRange = h .related .inRange;
             lexed = h .related .lexed;
             nodes = h .related .nodes;
-            types = record {
-              laid = new ∙ append-assoc front (zeros y) (zeros (3 * u .docs)) ∙ ap (λ (l : List ℕ). front ++ l) (replicate-append-replicate y (3 * u .docs) 0 ∙ ap zeros j ∙ sym (append-nil _));
-              counted = laid .counted;
-              docCounted = refl;
-              allLow = tt;
-            };
+            types = record { laid = new .laid; counted = old .counted; docCounted = refl; allLow = tt };
             lists = h .related .lists;
             credit = record { records = omega (arith, credit .records); numbers = omega (arith, credit .numbers); room = omega (arith, credit .room) };
-            lent = record { small = h .related .lent .small; nodes = h .related .lent .nodes; types = omega (arith, same, h .related .lent .types); lists = h .related .lent .lists };
+            lent = record { small = h .related .lent .small; nodes = h .related .lent .nodes; types = omega (arith, new .same, h .related .lent .types); lists = h .related .lent .lists };
           };
         },
       );

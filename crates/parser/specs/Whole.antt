@@ -1,16 +1,21 @@
 -- What reading the roots of a whole script comes to.
 use mathlib.Core.Path.{_≡_}
+use mathlib.Core.Bool.{Bool, not, _&&_}
 use mathlib.Core.List.{List, [], _∷_, _++_, map, flatten}
 use Prim.Native.Nat.{ℕ, _+_, _-_, _≤_}
+use lib.Dec.{eqb}
 use lib.ListN.{length}
-use Rattle.lex.specs.Kind.{kEof}
+use Rattle.lex.specs.Bytes.{or}
+use Rattle.lex.specs.Kind.{kEof, kImport, kExtern, kLet, kFn, kMatch, kCurlyRight}
+use Rattle.lex.specs.declared.diagnostic.Diagnostic.{Diagnostic}
 use Rattle.lex.specs.declared.tok.Next.{Next}
 use Rattle.rules.specs.Tree.{State, Result, ok, err}
 use Rattle.rules.specs.Combinators.{Rule, _>>=_, pure, ifKind, withDocs, ControlFlow, continue, break, loop}
 use Rattle.rules.specs.Rules.{maxLevels}
+use Rattle.rules.specs.Parse.{synchronizeStep}
 use Rattle.rules.specs.Layout.{zeros, padded, nodeCells, typeCells}
 use Rattle.rules.specs.Promise.{Arrays}
-use Rattle.parser_base.specs.Represents.{Code, ahead, EnoughLent}
+use Rattle.parser_base.specs.Represents.{Code, ahead, isGoing, EnoughLent, Represents, FailedAt}
 use Rattle.parser_base.specs.Refines.{deeper}
 use Rattle.parser_base.specs.declared.Parser.{Parser}
 use Rattle.parser_base.specs.declared.Status.the-variants.{Going, Failed}
@@ -61,3 +66,22 @@ pub record Holds (nodes types lists roots : List ℕ) (r : RootsRead) (xs : List
 abbrev pub RootsEnd : List ℕ → List ℕ → List ℕ → List ℕ → RootsRead → Result (List ℕ) → Type 0
 RootsEnd nodes types lists roots r (ok xs m) = Holds nodes types lists roots r xs m
 RootsEnd nodes types lists roots r (err e m) = r .parser .status ≡ Failed e
+
+-- ---- after an error
+
+-- a failed reading, whatever is under construction, goes on at the same token with nothing under construction and no docs that wait
+pub record Resumes (script : List ℕ) (s s′ : Code) : Type 0 where
+  pub same : ahead script s′ ≡ ahead script s
+  pub resumes : (e : Diagnostic) (R L : ℕ) (stack : List ℕ) (m : State) → FailedAt script s e R L stack m → Represents script s′ R L [] (withDocs [] m)
+
+-- what may begin a root, or ends a block or the script
+unfoldable pub rootBoundary : ℕ → Bool
+rootBoundary k = or (eqb k kLet) (or (eqb k kFn) (or (eqb k kImport) (or (eqb k kExtern) (or (eqb k kMatch) (or (eqb k kEof) (eqb k kCurlyRight))))))
+
+-- the token being read is passed over
+unfoldable pub skips : Parser → Bool
+skips p = isGoing (p .status) && not (rootBoundary (p .cur .kind))
+
+-- `synchronizeRoot` where no docs wait
+unfoldable pub synchronizing : Rule ℕ
+synchronizing = loop synchronizeStep 0

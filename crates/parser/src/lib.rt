@@ -1,4 +1,6 @@
 // The entry points of parser.rs.
+mod recovery;
+
 use lex::Type;
 use lex::next_token;
 use parser_base::Parser;
@@ -103,9 +105,9 @@ fn push_root(roots: &mut [u32], p: Parser, n: u32, id: NodeId) -> u32
     n + 1
 }
 
-// Docs that wait at the end are dropped.
+// Docs that wait are dropped.
 fn drop_docs(types: &mut [u32], p: Parser) -> Parser
-    ensures { λ r. ⌜ ((script nodes lists : List ℕ) → Refines script 0 0 dropDocs (λ n. n ≡ 0) kept 0 0 0 (code nodes (now (types .entry)) lists p) (code nodes (now (types .exit)) lists r)) ⌝ }
+    ensures { λ r. ⌜ ((script nodes lists : List ℕ) → Refines script 0 0 dropDocs (λ n. n ≡ 0) kept 0 0 0 (code nodes (now (types .entry)) lists p) (code nodes (now (types .exit)) lists r)) × (r .cur ≡ p .cur) × (r .pos ≡ p .pos) ⌝ }
 {
     if !going(p) {
         return p;

@@ -21,12 +21,15 @@ pub data Reading : Type 0 where
 unfoldable pub begin : List ℕ → State
 begin script = record { left = tokensOf (cut script); docs = []; arena = emptyArena; notes = record { marks = []; afterDefault = 0 } }
 
--- a step: the loop is left before a token that may begin a root, before Eof and past `}`, and goes on past any other
-abbrev pub synchronizeStep : ℕ → Rule (ControlFlow ℕ)
-synchronizeStep n = byKind (choose
+-- what may begin a root, and Eof, ends the loop before it, `}` past it; past any other it goes on
+abbrev pub synchronizeByKind : ℕ → ℕ → Rule (ControlFlow ℕ)
+synchronizeByKind n = choose
     ((kLet, pure (break n)) ∷ (kFn, pure (break n)) ∷ (kImport, pure (break n)) ∷ (kExtern, pure (break n)) ∷ (kMatch, pure (break n)) ∷ (kEof, pure (break n)) ∷
     (kCurlyRight, advance >> pure (break n)) ∷ [])
-    (advance >> pure (continue n)))
+    (advance >> pure (continue n))
+
+abbrev pub synchronizeStep : ℕ → Rule (ControlFlow ℕ)
+synchronizeStep n = byKind (synchronizeByKind n)
 
 -- to the next token that may begin a root, past it where it is `}`
 unfoldable pub synchronizeRoot : State → Result ℕ

@@ -1,7 +1,7 @@
 -- `parser::drop_docs` meets its contract.
 use borrow.Author.Needs.{needs}
 use native.Mathlib.Omega.{arith}
-use mathlib.Core.Path.{sym, _∙_}
+use mathlib.Core.Path.{refl, sym, _∙_}
 use borrow.Author.Tests.{not-true, not-false}
 use Rattle.parser_base.proofs.Leaves.{full, idle}
 use Rattle.parser_base.proofs.Steps.{left-some}
@@ -13,20 +13,20 @@ returns : tie.Need-returns
 returns c =
     let going = c .before .going in
     let if1 = c .if1 in
-    λ script nodes lists. idle (sym (going .ensures) ∙ not-true _ (if1 .taken))
+    (λ script nodes lists. idle (sym (going .ensures) ∙ not-true _ (if1 .taken)), refl, refl)
 
 returns-2 : tie.Need-returns-2
-returns-2 c = λ script nodes lists. full (λ R L stack m h. omega (arith, h .credit .records, h .lent .small, left-some h))
+returns-2 c = (λ script nodes lists. full (λ R L stack m h. omega (arith, h .credit .records, h .lent .small, left-some h)), refl, refl)
 
 returns-3 : tie.Need-returns-3
-returns-3 c = λ script nodes lists. full (λ R L stack m h. omega (arith, h .credit .records, h .lent .types, left-some h))
+returns-3 c = (λ script nodes lists. full (λ R L stack m h. omega (arith, h .credit .records, h .lent .types, left-some h)), refl, refl)
 
 returns-4 : tie.Need-returns-4
 returns-4 c =
     let going = c .before .before .before .before .before .before .before .before .before .going in
     let if1 = c .before .before .before .before .before .before .before .before .if1 in
     let clear-from = c .before .before .before .clear-from in
-    λ script nodes lists. dropping script nodes _ _ lists _ (sym (going .ensures) ∙ not-false _ (if1 .left)) (clear-from .ensures)
+    (λ script nodes lists. dropping script nodes _ _ lists _ (sym (going .ensures) ∙ not-false _ (if1 .left)) (clear-from .ensures), refl, refl)
 
 pub drop-docs-spec : {M : Type 1} → statement M
 drop-docs-spec =

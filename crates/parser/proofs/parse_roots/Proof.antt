@@ -53,7 +53,7 @@ returns c =
     let wants = c .before .before .before .before .before .wants in
     let if1 = c .before .before .before .before .if1 in
     let drop-docs = c .before .before .drop-docs in
-    roots-end _ (pre) (first .ensures) (loop .inv .4) (sym (wants .ensures) ∙ if1 .left) (drop-docs .ensures _ _ _)
+    roots-end _ (pre) (first .ensures) (loop .inv .4) (sym (wants .ensures) ∙ if1 .left) (drop-docs .ensures .0 _ _ _)
 
 pub parse-roots-spec : {M : Type 1} → statement M
 parse-roots-spec =
