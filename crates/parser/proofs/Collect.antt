@@ -22,7 +22,7 @@ use Rattle.rules.specs.Layout.{zeros, padded, diagnosticCells}
 use Rattle.rules.specs.declared.NodeId.{NodeId}
 use Rattle.rules.proofs.Results as Results
 use Rattle.rules.proofs.Counting.Step.{WellEnded, pending}
-use Rattle.rules.proofs.Counting.Whole.{begin-left, begin-pending}
+use Rattle.rules.proofs.Counting.Whole.{begin-left, begin-pending, Reached}
 use Rattle.rules.proofs.Counting.Collect as Counting
 use Rattle.diagnostics.specs.Records.{Diagnostics, diagnostics, holding, pushed}
 use Rattle.diagnostics.proofs.Records.{holding-pushed, holding-none, holding-padded}
@@ -36,10 +36,11 @@ use Rattle.parser_base.specs.declared.Status.the-variants.{Going, Failed}
 use Rattle.parser_base.proofs.Steps.{either, true≢false, left-some, current-represents, represents-less, represents-going, failed-fails}
 use Rattle.parser_base.proofs.Rounds.{after, iterate-suc, ifKind-is-yes, ifKind-is-no}
 use Rattle.parser_base.proofs.Loops.{wanted-going, wanted-eof}
-use Rattle.parser.specs.Whole.{Blank, fresh, RootsAre, dropDocs, Holds}
+use Rattle.parser.specs.Whole.{Blank, fresh, RootsAre, dropDocs, Holds, Resumes, synchronizing}
 use Rattle.parser.specs.Collect.{collectStep, DiagnosticsAre, Gathers, Room, TurnEnds, inOrder, CollectEnds}
 use Rattle.parser.specs.declared.RootsRead.{RootsRead}
 use Rattle.parser.specs.declared.RootsCollected.{RootsCollected}
+use Rattle.parser.proofs.Synchronize.{Recovered, recovered}
 use Rattle.parser.proofs.Roots.{some-ahead, root-pushed, at-eof, tree-held, begun}
 
 -- ---- diagnostics
@@ -121,9 +122,60 @@ collect-turn {script} {nodes′ = nodes′} {types′} {lists′} {roots} {diagn
     go (ok a m₁) z = f a m₁ (z .0) (represents-less _ _ (omega arith) (omega arith) (z .1))
     go (err e m₁) z = k e m₁ z
 
+-- 10 ends the reading
+pub ended-by-ten : {script nodes types lists : List ℕ} {d : Diagnostic} (roots array : List ℕ) (c : RootsCollected) (g : Gathered) (e : Diagnostic) (m : State) → c .parser .status ≡ Failed d → eqb (d .number) 10 ≡ true
+    → FailedAt script (code nodes types lists (c .parser)) e 0 0 [] m → TurnEnds script nodes types lists roots array c (recover stageOne script g e m)
+ended-by-ten {script} {nodes} {types} {lists} {d} roots array c g e m failed ten h =
+    let met : Failed d ≡ Failed e = sym failed ∙ h .status in
+    let named : d ≡ e = cc in
+    subst (TurnEnds script nodes types lists roots array c) (sym (recover-ends script g e m (ap (λ (x : Diagnostic). eqb (x .number) 10) (sym named) ∙ ten))) (h .status)
+
+-- an error is gathered, and the reading goes on
+pub gathered-error : {script nodes types lists roots array types′ lists′ array₁ array₂ : List ℕ} {c : RootsCollected} {n₁ n₂ : ℕ} {d : Diagnostic} {q₁ q₂ : Parser} (g : Gathered) (e : Diagnostic) (m : State) → c .parser .status ≡ Failed d → eqb (d .number) 10 ≡ false
+    → diagnostics array₁ n₁ ≡ foldl pushed (diagnostics array (c .diagnostics)) (map lowDiagnostic (faultsBetween script (c .listed) (c .parser .pos))) → diagnostics array₂ n₂ ≡ pushed (diagnostics array₁ n₁) d → length array₂ ≡ length array
+    → Resumes script (code nodes types lists (c .parser)) (code nodes types′ lists′ q₁) → Refines script 0 0 synchronizing (λ n. n ≡ 0) kept 0 0 0 (code nodes types′ lists′ q₁) (code nodes types′ lists′ q₂)
+    → Room script roots array g → FailedAt script (code nodes types lists (c .parser)) e 0 0 [] m → Gathers script nodes types lists roots array c g
+    → TurnEnds script nodes types′ lists′ roots array₂ (record { parser = q₂; members = c .members; diagnostics = n₂; listed = c .parser .pos }) (recover stageOne script g e m)
+gathered-error {script} {nodes} {types} {lists} {roots} {array} {types′} {lists′} {array₁} {array₂} {c} {n₁} {n₂} {d} {q₁} {q₂} g e m failed ten faults pushes same resumes goes room h z =
+    let met : Failed d ≡ Failed e = sym failed ∙ h .status in
+    let named : d ≡ e = cc in
+    let r = recovered h resumes goes in
+    let last : RootsCollected = record { parser = q₂; members = c .members; diagnostics = n₂; listed = c .parser .pos } in
+    let left : length (m .left) ≡ length (ahead script (code nodes types lists (c .parser))) = ap length (h .related .left) in
+    let left₂ : length (r .after .left) ≡ length (ahead script (code nodes types′ lists′ q₂)) = ap length (r .represents .related .left) in
+    let lexed = h .related .lexed in
+    let count : length (tokensOf (cut script)) - length (ahead script (code nodes types lists (c .parser))) ≡ length (begin script .left) - length (m .left) = omega (arith, begin-left script) in
+    let one = error-pushed (h .related .lent .small) (room .diagnosticsLong) (omega (arith, room .fewErrors)) (z .diagnosticsHeld) (lexed .stands) (lexed .counted) faults {left′ = length (ahead script (code nodes types′ lists′ q₂))} e (room .fewErrors) (pushes ∙ ap (pushed (diagnostics array₁ n₁)) named) same (omega (arith, r .fewer)) in
+    subst (TurnEnds script nodes types′ lists′ roots array₂ last) (sym (recover-goes-on script g e m (ap (λ (x : Diagnostic). eqb (x .number) 10) (sym named) ∙ ten) (r .comes))) (
+      r .represents,
+      record {
+        rootsHeld = (z .rootsHeld .0, z .rootsHeld .1, omega (arith, z .rootsHeld .2, r .fewer));
+        diagnosticsHeld = subst (λ (k : ℕ). DiagnosticsAre script array₂ n₂ (c .parser .pos) (length (ahead script (code nodes types′ lists′ q₂))) (g .errors ++ (record { after = k; diagnostic = e } ∷ []))) count one;
+      },
+    )
+
 -- what is gathered stays while tokens are taken
-pub diagnostics-on : {script array : List ℕ} {n listed left left′ : ℕ} {es : List Occurrence} → DiagnosticsAre script array n listed left es → left′ ≤ left → DiagnosticsAre script array n listed left′ es
+diagnostics-on : {script array : List ℕ} {n listed left left′ : ℕ} {es : List Occurrence} → DiagnosticsAre script array n listed left es → left′ ≤ left → DiagnosticsAre script array n listed left′ es
 diagnostics-on d h = record { ds = d .ds; passed = d .passed; held = d .held; ordered = d .ordered; behind = omega (arith, d .behind) }
+
+pub gathers-on : {script nodes types lists nodes′ types′ lists′ roots array : List ℕ} {c : RootsCollected} {q : Parser} {g : Gathered} → Gathers script nodes types lists roots array c g
+    → length (ahead script (code nodes′ types′ lists′ q)) ≤ length (ahead script (code nodes types lists (c .parser)))
+    → Gathers script nodes′ types′ lists′ roots array (record { parser = q; members = c .members; diagnostics = c .diagnostics; listed = c .listed }) g
+gathers-on z h = record { rootsHeld = (z .rootsHeld .0, z .rootsHeld .1, omega (arith, z .rootsHeld .2)); diagnosticsHeld = diagnostics-on (z .diagnosticsHeld) h }
+
+-- a root is read
+pub gathered-root : {script nodes types lists nodes′ types′ lists′ roots roots′ array : List ℕ} {c : RootsCollected} {q : Parser} {n : ℕ} {id : NodeId} {m : State} (g : Gathered) (a : NodeId) (m₁ : State) → a ≡ id → Room script roots array g
+    → Represents script (code nodes types lists (c .parser)) 0 0 [] m → Gathers script nodes types lists roots array c g
+    → Refines script 0 0 (deeper script maxLevels .prefix) (λ a. a ≡ id) kept 1 0 8 (code nodes types lists (c .parser)) (code nodes′ types′ lists′ q) → Represents script (code nodes′ types′ lists′ q) 0 0 [] m₁
+    → (c .members < length roots → c .members < 65536 → (roots′ ≡ set roots (c .members) (id .0)) × (n ≡ c .members + 1))
+    → TurnEnds script nodes′ types′ lists′ roots′ array (record { parser = q; members = n; diagnostics = c .diagnostics; listed = c .listed }) (ok (continue (record { roots = g .roots ++ (a .0 ∷ []); errors = g .errors })) m₁)
+gathered-root {script} {nodes} {types} {lists} {nodes′} {types′} {lists′} {c = c} {q} g a m₁ e room h z p k f = (
+  k,
+  record {
+    rootsHeld = root-pushed script (code nodes types lists (c .parser)) (code nodes′ types′ lists′ q) (g .roots) a e (z .rootsHeld) (h .related .lent .small) (room .rootsLong) (p .progress (represents-going k)) (some-ahead (k .related)) f;
+    diagnosticsHeld = diagnostics-on (z .diagnosticsHeld) (p .monotone);
+  },
+)
 
 -- ---- all turns
 
@@ -167,10 +219,14 @@ module _ (script : List ℕ) where
   toGo nodes types lists c = elim (isGoing (c .parser .status)) as (λ _. ℕ) [ true ↦ suc (c .parser .used .docs + length (ahead script (code nodes types lists (c .parser)))) | false ↦ 0 ]
 
   to-go-live : (nodes types lists : List ℕ) (c : RootsCollected) (m : State) → Represents script (code nodes types lists (c .parser)) 0 0 [] m → toGo nodes types lists c ≡ suc (pending m)
-  to-go-live nodes types lists c m h = rw (represents-going h) (omega (arith, h .related .types .docCounted, ap length (h .related .left)))
+  to-go-live nodes types lists c m h =
+      let all : ℕ = suc (c .parser .used .docs + length (ahead script (code nodes types lists (c .parser)))) in
+      ap (λ (b : Bool). elim b as (λ _. ℕ) [ true ↦ all | false ↦ 0 ]) (represents-going h) ∙ omega (arith, h .related .types .docCounted, ap length (h .related .left))
 
   to-go-over : (nodes types lists : List ℕ) (c : RootsCollected) (e : Diagnostic) → c .parser .status ≡ Failed e → toGo nodes types lists c ≡ 0
-  to-go-over nodes types lists c e h = rw (ap isGoing h) refl
+  to-go-over nodes types lists c e h =
+      let all : ℕ = suc (c .parser .used .docs + length (ahead script (code nodes types lists (c .parser)))) in
+      ap (λ (b : Bool). elim b as (λ _. ℕ) [ true ↦ all | false ↦ 0 ]) (ap isGoing h)
 
   pub record Turn (nodes types lists roots diagnostics nodes′ types′ lists′ roots′ diagnostics′ : List ℕ) (c c′ : RootsCollected) : Type 0 where
     pub progress : Progress nodes′ types′ lists′ roots′ diagnostics′ c′
@@ -184,7 +240,7 @@ module _ (script : List ℕ) where
   turn {nodes} {types} {lists} {roots} {diagnostics} {nodes′} {types′} {lists′} {roots′} {diagnostics′} {c} {c′} w long room i f = go i
     where
       next : (n : ℕ) (g : Gathered) (m : State) → pending m ≤ suc n → Represents script (code nodes types lists (c .parser)) 0 0 [] m → (r : Result (ControlFlow Gathered))
-          → parseRootsCollect stageOne script (begin script) ≡ after (collectStep script) n r → Results.Ends (Counting.Turn stageOne no-eof script m) (Counting.Reached script) r → TurnEnds script nodes′ types′ lists′ roots′ diagnostics′ c′ r
+          → parseRootsCollect stageOne script (begin script) ≡ after (collectStep script) n r → Results.Ends (Counting.Turn stageOne no-eof script m) (Reached script) r → TurnEnds script nodes′ types′ lists′ roots′ diagnostics′ c′ r
           → Turn nodes types lists roots diagnostics nodes′ types′ lists′ roots′ diagnostics′ c c′
       next n g m k h r e (Results.holds {a = continue b} {s = m₁} (Results.again counts l)) t = record {
         progress = live (record { fuel = n; g = b; m = m₁; comes = e; fuelled = omega arith; counts = counts; represents = t .0; gathers = t .1 });

@@ -154,7 +154,6 @@ tree-held {script} {nodes} {types′ = types′} {lists} {roots} {xs} {r = r} {m
 
 -- ---- a strict reading of the roots
 
-
 blank-as : {a : List ℕ} (n : ℕ) → a ≡ zeros (length a) → n ≡ 0 → a ≡ zeros (length a - n) ++ []
 blank-as {a} n e z = e ∙ ap zeros {x = length a} {y = length a - n} (omega arith) ∙ sym (append-nil (zeros (length a - n)))
 

@@ -1,6 +1,10 @@
 // The entry points of parser.rs.
 mod recovery;
 
+use crate::recovery::resume;
+use crate::recovery::synchronize_root;
+use diagnostics::push_diagnostic;
+use diagnostics::push_faults;
 use lex::Type;
 use lex::next_token;
 use parser_base::Parser;
@@ -14,19 +18,23 @@ use rules::NodeId;
 use rules::Parsed;
 ghost use mathlib.Core.Path.{_≡_};
 ghost use mathlib.Core.Bool.{true, false};
-ghost use mathlib.Core.List.{List, _++_};
+ghost use mathlib.Core.List.{List, [], _++_};
 ghost use Prim.Native.Nat.{ℕ, _+_, _*_, _-_, _<_, _≤_};
 ghost use lib.Dec.{ltb};
 ghost use lib.ListN.{length, take, set};
 ghost use Rattle.lex.specs.Bytes.{or};
+ghost use Rattle.lex.specs.Kind.{kEof};
 ghost use Rattle.lex.specs.Lex.{nextAt};
+ghost use Rattle.lex.specs.declared.diagnostic.Diagnostic.{Diagnostic};
+ghost use Rattle.rules.specs.Tree.{State};
 ghost use Rattle.rules.specs.Layout.{zeros};
 ghost use Rattle.rules.specs.Rules.{stageOne};
-ghost use Rattle.rules.specs.Parse.{begin, parseRoots, parse};
+ghost use Rattle.rules.specs.Parse.{Gathered, begin, parseRoots, parse, recover as recoverRule, parseRootsCollect, parseCollect};
 ghost use Rattle.rules.specs.Promise.{promised};
-ghost use Rattle.parser_base.specs.Represents.{code, isGoing};
-ghost use Rattle.parser_base.specs.Refines.{Refines, kept};
+ghost use Rattle.parser_base.specs.Represents.{code, isGoing, Represents, FailedAt};
+ghost use Rattle.parser_base.specs.Refines.{Refines, kept, wanted};
 ghost use Rattle.parser.specs.Whole.{arrays, Blank, RootsEnd, dropDocs, fresh};
+ghost use Rattle.parser.specs.Collect.{Gathers, Room, TurnEnds, collectStep, CollectEnds};
 
 // ---- arrays
 
@@ -183,7 +191,7 @@ fn parse_roots(
     RootsRead { parser, members }
 }
 
-// ---- the two readings
+// ---- roots and errors
 
 // What is read of the roots, how many, how many diagnostics there are, and up to where the lexer's faults are among them.
 pub struct RootsCollected {
@@ -192,6 +200,112 @@ pub struct RootsCollected {
     pub diagnostics: u32,
     pub listed: usize,
 }
+
+// An error is gathered, behind the faults that were met before it, and the reading goes on at the next token that may begin a root; 10 ends it.
+fn recover(
+    script: &[u8],
+    types: &mut [u32],
+    lists: &mut [u32],
+    diagnostics: &mut [u32],
+    c: RootsCollected,
+) -> RootsCollected
+    ensures { λ r. ⌜ ((nodes roots : List ℕ) (g : Gathered) (e : Diagnostic) (m : State) → Room (now (script .entry)) roots (now (diagnostics .entry)) g → FailedAt (now (script .entry)) (code nodes (now (types .entry)) (now (lists .entry)) (c .parser)) e 0 0 [] m → Gathers (now (script .entry)) nodes (now (types .entry)) (now (lists .entry)) roots (now (diagnostics .entry)) c g → TurnEnds (now (script .entry)) nodes (now (types .exit)) (now (lists .exit)) roots (now (diagnostics .exit)) r (recoverRule stageOne (now (script .entry)) g e m)) ⌝ }
+{
+    let p = c.parser;
+    let status = p.status;
+    let Status::Failed(d) = status else {
+        return c;
+    };
+    if d.number == 10 {
+        return c;
+    }
+    let faults = push_faults(script, diagnostics, c.diagnostics, c.listed, p.pos);
+    let n = push_diagnostic(diagnostics, faults, d);
+    let q = resume(types, lists, p);
+    let parser = synchronize_root(script, q);
+    RootsCollected {
+        parser,
+        members: c.members,
+        diagnostics: n,
+        listed: p.pos,
+    }
+}
+
+// One more root, or one more error.
+fn collect_root(
+    script: &[u8],
+    nodes: &mut [u32],
+    types: &mut [u32],
+    lists: &mut [u32],
+    roots: &mut [u32],
+    diagnostics: &mut [u32],
+    c: RootsCollected,
+) -> RootsCollected
+    requires { ⌜ wanted (c .parser) kEof ≡ true ⌝ }
+    ensures { λ r. ⌜ ((g : Gathered) (m : State) → Room (now (script .entry)) (now (roots .entry)) (now (diagnostics .entry)) g → Represents (now (script .entry)) (code (now (nodes .entry)) (now (types .entry)) (now (lists .entry)) (c .parser)) 0 0 [] m → Gathers (now (script .entry)) (now (nodes .entry)) (now (types .entry)) (now (lists .entry)) (now (roots .entry)) (now (diagnostics .entry)) c g → TurnEnds (now (script .entry)) (now (nodes .exit)) (now (types .exit)) (now (lists .exit)) (now (roots .exit)) (now (diagnostics .exit)) r (collectStep (now (script .entry)) g m)) ⌝ }
+{
+    let p = c.parser;
+    let n = prefix(script, nodes, types, lists, p, Parser::MAX_LEVELS);
+    let parser = n.parser;
+    if going(parser) {
+        let members = push_root(roots, parser, c.members, n.id);
+        return RootsCollected {
+            parser,
+            members,
+            diagnostics: c.diagnostics,
+            listed: c.listed,
+        };
+    }
+    recover(
+        script,
+        types,
+        lists,
+        diagnostics,
+        RootsCollected {
+            parser,
+            members: c.members,
+            diagnostics: c.diagnostics,
+            listed: c.listed,
+        },
+    )
+}
+
+fn parse_roots_collect(
+    script: &[u8],
+    nodes: &mut [u32],
+    types: &mut [u32],
+    lists: &mut [u32],
+    roots: &mut [u32],
+    diagnostics: &mut [u32],
+) -> RootsCollected
+    requires { ⌜ Blank (now script) (now nodes) (now types) (now lists) (now roots) × (now diagnostics ≡ zeros (length (now diagnostics))) × (5 * length (now script) ≤ length (now diagnostics)) ⌝ }
+    ensures { λ r. ⌜ CollectEnds (now (script .entry)) (now (nodes .exit)) (now (types .exit)) (now (lists .exit)) (now (roots .exit)) (now (diagnostics .exit)) r (parseRootsCollect stageOne (now (script .entry)) (begin (now (script .entry)))) ⌝ }
+{
+    let parser = first(script);
+    let mut c = RootsCollected {
+        parser,
+        members: 0,
+        diagnostics: 0,
+        listed: 0,
+    };
+    while wants(c.parser, Type::EOF) {
+        c = collect_root(script, nodes, types, lists, roots, diagnostics, c);
+    }
+    let q = c.parser;
+    if !going(q) {
+        return c;
+    }
+    let n = push_faults(script, diagnostics, c.diagnostics, c.listed, q.pos);
+    let parser = drop_docs(types, q);
+    RootsCollected {
+        parser,
+        members: c.members,
+        diagnostics: n,
+        listed: q.pos,
+    }
+}
+
+// ---- the two readings
 
 // program = prefix*, up to the first error.
 pub fn parse(
@@ -235,6 +349,53 @@ pub fn parse(
         }),
         Status::Failed(d) => {
             clear_tree(nodes, types, lists, roots);
+            Parsed::Error(d)
+        }
+    }
+}
+
+// The same, each error gathered with the faults of the lexer in the order in which they are met; 10 ends it.
+pub fn parse_collect(
+    script: &[u8],
+    nodes: &mut [u32],
+    types: &mut [u32],
+    lists: &mut [u32],
+    roots: &mut [u32],
+    diagnostics: &mut [u32],
+) -> Parsed
+    ensures { λ r. ⌜ promised (parseCollect stageOne) (now (script .entry)) (arrays (now (nodes .entry)) (now (types .entry)) (now (lists .entry)) (now (roots .entry)) (now (diagnostics .entry))) ≡ record { answer = r; arrays = arrays (now (nodes .exit)) (now (types .exit)) (now (lists .exit)) (now (roots .exit)) (now (diagnostics .exit)) } ⌝ }
+{
+    if Parser::MAX_BYTES < script.len() {
+        return Parsed::Refused(1);
+    }
+    if too_short(
+        script.len(),
+        nodes.len(),
+        types.len(),
+        lists.len(),
+        roots.len(),
+        diagnostics.len(),
+    ) {
+        return Parsed::Refused(2);
+    }
+    clear_tree(nodes, types, lists, roots);
+    clear_from(diagnostics, 0);
+    let c = parse_roots_collect(script, nodes, types, lists, roots, diagnostics);
+    let p = c.parser;
+    let u = p.used;
+    let status = p.status;
+    match status {
+        Status::Going => Parsed::Tree(Counts {
+            nodes: u.nodes,
+            types: u.types,
+            cells: u.cells,
+            roots: c.members,
+            values: u.values,
+            diagnostics: c.diagnostics,
+        }),
+        Status::Failed(d) => {
+            clear_tree(nodes, types, lists, roots);
+            clear_from(diagnostics, 0);
             Parsed::Error(d)
         }
     }

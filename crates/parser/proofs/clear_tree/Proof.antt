@@ -26,4 +26,3 @@ clear-tree-spec =
     (λ c. search needs)
     (λ c. search needs)
     returns)
-

@@ -12,4 +12,3 @@ returns c =
 
 pub first-spec : {M : Type 1} → statement M
 first-spec = tie.close (tie.spec (λ c κs. search needs) returns)
-

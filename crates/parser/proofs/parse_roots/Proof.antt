@@ -74,4 +74,3 @@ parse-roots-spec =
     (λ c. search needs)
     (λ c. search needs)
     returns)
-

@@ -1,7 +1,7 @@
 -- `parser::recovery::is_root_boundary` meets its contract.
 use native.Mathlib.Omega.{arith}
 use mathlib.Core.Logic.{inl, inr}
-use Rattle.parser.proofs.Recover.{boundary-outside, boundary-inside, boundary-end}
+use Rattle.parser.proofs.Synchronize.{boundary-outside, boundary-inside, boundary-end}
 use Rattle.parser.proofs.recovery.is_root_boundary.Statement.{statement}
 use Rattle.parser.proofs.recovery.is_root_boundary.Tie as tie
 

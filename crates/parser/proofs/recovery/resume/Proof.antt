@@ -5,7 +5,7 @@ use mathlib.Core.Path.{refl}
 use Rattle.parser_base.specs.Represents.{from}
 use Rattle.parser_base.proofs.Steps.{represents-less}
 use Rattle.parser.specs.Whole.{dropDocs}
-use Rattle.parser.proofs.Recover.{resuming, stack-fits}
+use Rattle.parser.proofs.Synchronize.{resuming, stack-fits}
 use Rattle.parser.proofs.recovery.resume.Statement.{statement}
 use Rattle.parser.proofs.recovery.resume.Tie as tie
 

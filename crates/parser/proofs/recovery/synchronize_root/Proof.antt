@@ -9,7 +9,7 @@ use Rattle.parser_base.specs.Represents.{code}
 use Rattle.parser_base.specs.Refines.{kept}
 use Rattle.parser_base.proofs.Rounds.{LoopInvariant, round-start, round-again, round-last, again-of, last-of, weight, lighter}
 use Rattle.parser.specs.Whole.{synchronizing}
-use Rattle.parser.proofs.Recover.{skips-both, skips-some, continues, breaks-past, breaks-before}
+use Rattle.parser.proofs.Synchronize.{skips-both, skips-some, continues, breaks-past, breaks-before}
 use Rattle.parser.proofs.recovery.synchronize_root.Statement.{statement}
 use Rattle.parser.proofs.recovery.synchronize_root.Tie as tie
 
