@@ -11,7 +11,7 @@ use Rattle.lex.specs.Bytes.{or}
 use Rattle.lex.specs.declared.diagnostic.Diagnostic.{Diagnostic}
 use Rattle.rules.specs.Tree.{State, Result, ok, err}
 use Rattle.rules.specs.Rules.{stageOne}
-use Rattle.rules.specs.Parse.{Reading, read, ended, begin, parse, parseRoots}
+use Rattle.rules.specs.Parse.{Reading, read, ended, Gathered, begin, parse, parseRoots, parseCollect, parseRootsCollect}
 use Rattle.rules.specs.Layout.{zeros, padded, nodeCells, typeCells, diagnosticCells}
 use Rattle.rules.specs.Promise.{maxBytes, Arrays, Outcome, tooShort, zeroed, holding, outcome, promised}
 use Rattle.rules.specs.declared.Parsed.{Parsed}
@@ -21,7 +21,9 @@ use Rattle.parser_base.specs.declared.Status.the-variants.{Going, Failed}
 use Rattle.parser_base.proofs.Steps.{true≢false}
 use Rattle.parser_base.proofs.Cells.{zeros-length}
 use Rattle.parser.specs.Whole.{arrays, Blank, Holds, RootsEnd}
+use Rattle.parser.specs.Collect.{inOrder, CollectEnds}
 use Rattle.parser.specs.declared.RootsRead.{RootsRead}
+use Rattle.parser.specs.declared.RootsCollected.{RootsCollected}
 use Rattle.parser.proofs.Clear.{cleared-all}
 
 -- ---- refusals
@@ -110,6 +112,41 @@ module _ (script ns ts ls rs ds ns′ ts′ ls′ rs′ : List ℕ) (r : RootsRe
           let same : x ≡ e = cc in
           error-promised (parse stageOne) script ns ts ls rs ds ns″ ts″ ls″ rs″ ds′ small enough e (w ∙ ap ended same) (a ∙ ap zeros n) (b ∙ ap zeros t) (l ∙ ap zeros c) (d ∙ ap zeros o) z
 
+-- ---- collecting
+
+collectEnding : List ℕ → Result Gathered → Reading
+collectEnding script res = elim res [ ok g s ↦ read (record { arena = s .arena; roots = g .roots }) (inOrder script g) | err e s ↦ ended e ]
+
+collect-ending : (script : List ℕ) → parseCollect stageOne script ≡ collectEnding script (parseRootsCollect stageOne script (begin script))
+unfolding parseCollect collectEnding
+collect-ending script = refl
+
+module _ (script ns ts ls rs ds ns′ ts′ ls′ rs′ ds′ : List ℕ) (r : RootsCollected) (small : length script ≤ maxBytes) (enough : false ≡ tooShort script (arrays ns ts ls rs ds))
+    (ends : CollectEnds script ns′ ts′ ls′ rs′ ds′ r (parseRootsCollect stageOne script (begin script)))
+    (n : length ns′ ≡ length ns) (t : length ts′ ≡ length ts) (c : length ls′ ≡ length ls) (o : length rs′ ≡ length rs) (k : length ds′ ≡ length ds) where
+  abbrev roots : RootsRead
+  roots = record { parser = r .parser; members = r .members }
+
+  pub collect-tree : r .parser .status ≡ Going → promised (parseCollect stageOne) script (arrays ns ts ls rs ds) ≡ record { answer = treeOf roots (r .diagnostics); arrays = arrays ns′ ts′ ls′ rs′ ds′ }
+  unfolding collectEnding
+  collect-tree g = go (parseRootsCollect stageOne script (begin script)) (collect-ending script) ends
+    where
+      go : (res : Result Gathered) → parseCollect stageOne script ≡ collectEnding script res → CollectEnds script ns′ ts′ ls′ rs′ ds′ r res → promised (parseCollect stageOne) script (arrays ns ts ls rs ds) ≡ record { answer = treeOf roots (r .diagnostics); arrays = arrays ns′ ts′ ls′ rs′ ds′ }
+      go (ok w m) e h = tree-promised (parseCollect stageOne) script ns ts ls rs ds ns′ ts′ ls′ rs′ ds′ small enough roots (inOrder script w) (r .diagnostics) e (h .0) n t c o (h .2) (h .1 ∙ ap (λ (j : ℕ). padded j (flatten (map diagnosticCells (inOrder script w)))) k)
+      go (err x m) e h = absurd (true≢false (ap isGoing g) (ap isGoing h))
+
+  pub collect-error : (ns″ ts″ ls″ rs″ ds″ : List ℕ) (e : Diagnostic) → ns″ ≡ zeros (length ns′) → ts″ ≡ zeros (length ts′) → ls″ ≡ zeros (length ls′) → rs″ ≡ zeros (length rs′) → ds″ ≡ take 0 ds′ ++ zeros (length ds′ - 0) → r .parser .status ≡ Failed e
+      → promised (parseCollect stageOne) script (arrays ns ts ls rs ds) ≡ record { answer = P.Error e; arrays = arrays ns″ ts″ ls″ rs″ ds″ }
+  unfolding collectEnding
+  collect-error ns″ ts″ ls″ rs″ ds″ e a b l d z g = go (parseRootsCollect stageOne script (begin script)) (collect-ending script) ends
+    where
+      go : (res : Result Gathered) → parseCollect stageOne script ≡ collectEnding script res → CollectEnds script ns′ ts′ ls′ rs′ ds′ r res → promised (parseCollect stageOne) script (arrays ns ts ls rs ds) ≡ record { answer = P.Error e; arrays = arrays ns″ ts″ ls″ rs″ ds″ }
+      go (ok w m) v h = absurd (true≢false (ap isGoing (h .0 .going)) (ap isGoing g))
+      go (err x m) v h =
+          let s : Failed x ≡ Failed e = sym h ∙ g in
+          let same : x ≡ e = cc in
+          error-promised (parseCollect stageOne) script ns ts ls rs ds ns″ ts″ ls″ rs″ ds″ small enough e (v ∙ ap ended same) (a ∙ ap zeros n) (b ∙ ap zeros t) (l ∙ ap zeros c) (d ∙ ap zeros o) (cleared-all ds′ z ∙ ap zeros k)
+
 -- ---- what is cleared is blank, and enough of it
 
 or-not : (a b : Bool) → false ≡ or a b → (a ≡ false) × (b ≡ false)
@@ -120,7 +157,7 @@ or-not false b e = (refl, sym e)
 blank-length : (a a′ : List ℕ) → a′ ≡ zeros (length a) → length a′ ≡ length a
 blank-length a a′ e = ap length e ∙ zeros-length (length a)
 
-blank-again : (a a′ : List ℕ) → a′ ≡ zeros (length a) → a′ ≡ zeros (length a′)
+pub blank-again : (a a′ : List ℕ) → a′ ≡ zeros (length a) → a′ ≡ zeros (length a′)
 blank-again a a′ e = e ∙ ap zeros (sym (blank-length a a′ e))
 
 module _ (script ns ts ls rs ds : List ℕ) (long : false ≡ tooShort script (arrays ns ts ls rs ds)) where

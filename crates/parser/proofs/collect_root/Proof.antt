@@ -1,7 +1,6 @@
 -- `parser::collect_root` meets its contract.
 use borrow.Author.Needs.{needs}
-use native.Mathlib.Omega.{arith}
-use mathlib.Core.Path.{sym, ap, _∙_}
+use mathlib.Core.Path.{sym, _∙_}
 use Rattle.parser_base.proofs.Steps.{true≢false, represents-going, failed-fails}
 use Rattle.parser.proofs.Collect.{collect-turn, gathered-root, gathers-on}
 use Rattle.parser.proofs.collect_root.Statement.{statement}
@@ -43,4 +42,3 @@ collect-root-spec =
     (λ c. search needs)
     (λ c. search needs)
     returns-2)
-

@@ -91,4 +91,3 @@ parse-roots-collect-spec =
     (λ c. search needs)
     (λ c. search needs)
     returns-2)
-

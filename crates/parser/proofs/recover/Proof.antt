@@ -1,12 +1,9 @@
 -- `parser::recover` meets its contract.
 use borrow.Author.Needs.{needs}
 use native.Mathlib.Omega.{arith}
-use mathlib.Core.Path.{_≡_, refl, sym, ap, subst, _∙_}
+use mathlib.Core.Path.{ap}
 use borrow.Author.Tests.{eq-eqb, ne-eqb}
-use lib.Dec.{eqb}
-use Rattle.lex.specs.declared.diagnostic.Diagnostic.{Diagnostic}
 use Rattle.parser_base.specs.Represents.{isGoing}
-use Rattle.parser_base.specs.declared.Status.the-variants.{Failed}
 use Rattle.parser_base.proofs.Steps.{true≢false}
 use Rattle.parser.proofs.Collect.{ended-by-ten, gathered-error}
 use Rattle.parser.proofs.recover.Statement.{statement}
@@ -49,4 +46,3 @@ recover-spec =
     (λ c. search needs)
     (λ c. search needs)
     returns-3)
-
