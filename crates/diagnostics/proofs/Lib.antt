@@ -2,3 +2,4 @@
 pub mod Records
 pub mod Faults
 pub mod Order
+pub mod Examples

@@ -1,13 +1,11 @@
 -- Laws of the diagnostics array: what the code stores is a record pushed, and what it holds after many.
 -- Assumes nothing.
 use mathlib.Core.Path.{_≡_, refl, _∙_, sym, ap}
-use mathlib.Core.Bool.{true, false}
-use mathlib.Core.List.{List, [], _∷_, _++_, map, flatten, foldl, append-assoc, append-nil, map-append}
+use mathlib.Core.List.{List, [], _∷_, _++_, map, flatten, foldl, append-assoc, append-nil}
 use Prim.Native.Nat.{ℕ, suc, _+_, _*_, _-_, _≤_, _<_}
 use native.Mathlib.Omega.{arith}
-use lib.Dec.{leb, ltb}
 use lib.ListN.{length, take, drop, set, length-append, length-replicate, replicate-append-replicate}
-use lib.Seq.{sets-eq, take-at, drop-at, drop-append-add}
+use lib.Seq.{sets-eq, take-at, drop-append-add}
 use borrow.Author.Tests.{lt-ltb, le-ltb, le-leb, lt-leb}
 use Rattle.lex.specs.declared.diagnostic.Diagnostic.{Diagnostic}
 use Rattle.rules.specs.Layout.{zeros, padded, diagnosticCells}

@@ -34,6 +34,7 @@ fn low(n: usize) -> u32
     (n % 4294967296) as u32
 }
 
+// What the array holds of a fault.
 fn diagnostic_of(f: Fault) -> Diagnostic
     ensures { λ r. ⌜ r ≡ lowDiagnostic (diagnosticOf f) ⌝ }
 {

@@ -34,7 +34,7 @@ loop-again : tie.Need-loop-again Inv-loop μ-loop
 loop-again c =
     let c3 = c .before .before .before in
     let c5 = c3 .before .before in
-    (pushes-step _ _ _ _ (c3 .before .loop-test .taken) (sym (c3 .step .ensures) ∙ c .before .next .given .1) ∙ c5 .loop .inv .0, c5 .loop .inv .1)
+    (pushes-step _ _ _ _ (omega arith) (sym (c3 .step .ensures) ∙ c .before .next .given .1) ∙ c5 .loop .inv .0, c5 .loop .inv .1)
 
 loop-less-2 : tie.Need-loop-less-2 Inv-loop μ-loop
 loop-less-2 c =
@@ -49,7 +49,7 @@ loop-again-2 c =
     let c6 = c .before .before .before .before .before .before in
     let c8 = c6 .before .before in
     let c10 = c8 .before .before in (
-      pushes-fault _ _ _ _ (c8 .before .loop-test .taken) (sym (c8 .step .ensures) ∙ c6 .fault .given .1) (pushes .ensures) (c .before .before .before .diagnostic-of .ensures) ∙ c10 .loop .inv .0,
+      pushes-fault _ _ _ _ (omega (arith, c8 .before .loop-test .taken)) (sym (c8 .step .ensures) ∙ c6 .fault .given .1) (pushes .ensures) (c .before .before .before .diagnostic-of .ensures) ∙ c10 .loop .inv .0,
       omega (arith, pushes .kept),
     )
 
@@ -57,10 +57,10 @@ returns : tie.Need-returns Inv-loop μ-loop
 returns c =
     let c2 = c .before .before in
     let c4 = c2 .before .before in
-    pushes-step _ _ _ _ (c2 .before .loop-test .taken) (sym (c2 .step .ensures) ∙ c .enum-told .given .1) ∙ c4 .loop .inv .0
+    pushes-step _ _ _ _ (omega arith) (sym (c2 .step .ensures) ∙ c .enum-told .given .1) ∙ c4 .loop .inv .0
 
 returns-2 : tie.Need-returns-2 Inv-loop μ-loop
-returns-2 c = pushes-none _ _ _ _ (c .loop-test .left) ∙ c .before .loop .inv .0
+returns-2 c = pushes-none _ _ _ _ (omega arith) ∙ c .before .loop .inv .0
 
 pub push-faults-spec : {M : Type 1} → statement M
 push-faults-spec =
