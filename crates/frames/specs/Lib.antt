@@ -1,0 +1,2 @@
+-- What the numbers and frames of the input are held to.
+pub mod Frame
