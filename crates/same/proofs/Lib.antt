@@ -10,4 +10,3 @@ mod Nodes
 mod Roots
 pub mod Compare
 pub mod Held
-mod Examples

@@ -1,0 +1,607 @@
+-- What the definitions say of the cases that `tree_cases` reads, in their order: written by tools/cases, with the program's stdin and stdout.
+use mathlib.Core.Path.{_≡_, refl, ap}
+use mathlib.Core.Bool.{true, false}
+use mathlib.Core.Option.{none, some}
+use mathlib.Core.List.{List, [], _∷_}
+use Prim.Native.Nat.{ℕ}
+use native.Mathlib.Omega.{arith}
+use lib.ListN.{replicate}
+use Rattle.lex.specs.Bytes.{between}
+use Rattle.lex.specs.Lex.{leadingSpace}
+use Rattle.lex.specs.Kind.{keywords, fixedSpellings, fixedSpelling}
+use Rattle.lex.specs.Spelling.{spellingOffset, spellingStart}
+use Rattle.rules.specs.Layout.{padded}
+use Rattle.rules.specs.Shape as R
+use Rattle.rules.specs.Shape.{wellFormed, andThen, lookup, tabulate, map₁, map₂, map₃, map₄, map₅}
+use Rattle.rules.specs.declared.Counts.{Counts}
+use Rattle.ast.specs.Decode.{nodeOf, nodesByTag, nodeAt, typeOf, typesByTag, typeAt}
+use Rattle.ast.specs.Tabulate.{rows, entriesBelow, entryAt}
+use Rattle.ast.specs.Answer.{refused, answer, unless, unlessMalformed, lent, refusal, recordAsked}
+use Rattle.ast.specs.Lookup.{tokenStart, orElse, matchStart, startOf, nodeStart, wellFormedToken, typeTokenOf, typeToken}
+use Rattle.ast.specs.Span.{spanOf, tokenSpan}
+use Rattle.ast.specs.Position.{feeds, since, placeOf, placeAt}
+use Rattle.same.specs.Shapes.{typesBelow, nodesBelow, rootShapes}
+use Rattle.same.specs.Compare.{refusals, Compares, refusedLent, malformedLeft, malformedRight, sameShape, otherShape}
+
+abbrev counts : ℕ → ℕ → ℕ → ℕ → Counts
+counts n t c r = record { nodes = n; types = t; cells = c; roots = r; values = 0; diagnostics = 0 }
+
+-- something by which two shapes differ
+key : R.Shape → List ℕ
+key (R.atom a) = a .spelling
+key (R.ident a) = a .spelling
+key (R.bin op l r) = op .kind ∷ key r
+key (R.unary op r) = []
+key (R.letS a b c) = []
+key (R.fnS a b c d e) = []
+key (R.matchS a d c) = d .kind ∷ []
+key (R.call a b) = []
+key (R.field a b) = []
+key (R.cast a b c) = []
+key (R.importS a b) = []
+key (R.externS a b c d) = []
+key (R.recordS a b) = []
+key (R.array a b) = []
+
+keys : R.Shapes → List ℕ
+keys R.noShape = []
+keys (R.shape σ σs) = key σ
+
+-- `unfolding tokens`, .. opens all that a definition is made of
+unfoldable tokens : Unit {0}
+unfolding wellFormed between fixedSpelling fixedSpellings keywords spellingStart spellingOffset leadingSpace
+tokens = tt
+
+unfoldable records : Unit {0}
+unfolding tokens refusal recordAsked unless unlessMalformed entryAt entriesBelow lookup tabulate rows andThen nodeAt nodeOf nodesByTag typeAt typeOf typesByTag
+records = tt
+
+unfoldable start : Unit {0}
+unfolding records nodeStart startOf tokenStart orElse matchStart
+start = tt
+
+unfoldable type : Unit {0}
+unfolding records typeToken typeTokenOf wellFormedToken
+type = tt
+
+unfoldable span : Unit {0}
+unfolding tokens tokenSpan spanOf
+span = tt
+
+unfoldable place : Unit {0}
+unfolding placeAt placeOf feeds since
+place = tt
+
+unfoldable compare : Unit {0}
+unfolding records key keys refusals rootShapes nodesBelow typesBelow R.shapesOf R.nodeShape R.typeShape R.w R.word R.wordOf R.words R.wordIn R.params R.paramIn R.shapes R.fields R.fieldIn R.cases R.caseIn R.fns R.fnIn R.listAt R.items R.from R.chain R.resolve R.both R.number R.token R.run R.decoded map₁ map₂ map₃ map₄ map₅
+compare = tt
+
+-- []
+case-0 : nodeStart (lent (91 ∷ 93 ∷ []) (padded 32 (14 ∷ 0 ∷ 18 ∷ 0 ∷ 1 ∷ [])) (padded 16 ([])) (padded 16 ([])) (padded 2 ([])) (counts 1 0 0 0)) 0 ≡ answer none
+unfolding start
+case-0 = refl
+
+-- [].b
+case-1 : nodeStart (lent (91 ∷ 93 ∷ 46 ∷ 98 ∷ []) (padded 64 (14 ∷ 0 ∷ 18 ∷ 0 ∷ 1 ∷ 0 ∷ 0 ∷ 0 ∷ 0 ∷ 0 ∷ 0 ∷ 0 ∷ 0 ∷ 0 ∷ 0 ∷ 0 ∷ 9 ∷ 1 ∷ 0 ∷ 25 ∷ 3 ∷ 1 ∷ [])) (padded 32 ([])) (padded 32 ([])) (padded 4 ([])) (counts 2 0 0 0)) 1 ≡ answer none
+unfolding start
+case-1 = refl
+
+-- [[] 1]
+case-2 : nodeStart (lent (91 ∷ 91 ∷ 93 ∷ 32 ∷ 49 ∷ 93 ∷ []) (padded 96 (14 ∷ 0 ∷ 18 ∷ 1 ∷ 1 ∷ 0 ∷ 0 ∷ 0 ∷ 0 ∷ 0 ∷ 0 ∷ 0 ∷ 0 ∷ 0 ∷ 0 ∷ 0 ∷ 1 ∷ 1 ∷ 24 ∷ 4 ∷ 1 ∷ 0 ∷ 0 ∷ 0 ∷ 0 ∷ 0 ∷ 0 ∷ 0 ∷ 0 ∷ 0 ∷ 0 ∷ 0 ∷ 14 ∷ 0 ∷ 18 ∷ 0 ∷ 1 ∷ 0 ∷ 2 ∷ [])) (padded 48 ([])) (padded 48 (0 ∷ 1 ∷ [])) (padded 6 ([])) (counts 3 0 2 0)) 2 ≡ answer none
+unfolding start
+case-2 = refl
+
+-- [] * a
+case-3 : nodeStart (lent (91 ∷ 93 ∷ 32 ∷ 42 ∷ 32 ∷ 97 ∷ []) (padded 96 (14 ∷ 0 ∷ 18 ∷ 0 ∷ 1 ∷ 0 ∷ 0 ∷ 0 ∷ 0 ∷ 0 ∷ 0 ∷ 0 ∷ 0 ∷ 0 ∷ 0 ∷ 0 ∷ 2 ∷ 0 ∷ 25 ∷ 5 ∷ 1 ∷ 0 ∷ 0 ∷ 0 ∷ 0 ∷ 0 ∷ 0 ∷ 0 ∷ 0 ∷ 0 ∷ 0 ∷ 0 ∷ 3 ∷ 2 ∷ 6 ∷ 3 ∷ 1 ∷ 0 ∷ 1 ∷ [])) (padded 48 ([])) (padded 48 ([])) (padded 6 ([])) (counts 3 0 0 0)) 2 ≡ answer (some 3)
+unfolding start
+case-3 = refl
+
+-- match with a case
+case-4 : nodeStart (lent (109 ∷ 32 ∷ 97 ∷ 123 ∷ 98 ∷ 125 ∷ 32 ∷ 99 ∷ []) (padded 128 (7 ∷ 0 ∷ 0 ∷ 1 ∷ 20 ∷ 7 ∷ 1 ∷ [])) (padded 64 ([])) (padded 64 (25 ∷ 2 ∷ 1 ∷ [])) (padded 8 ([])) (counts 1 0 6 0)) 0 ≡ answer (some 2)
+unfolding start
+case-4 = refl
+
+-- match without cases
+case-5 : nodeStart (lent (109 ∷ 32 ∷ 97 ∷ 123 ∷ 98 ∷ 125 ∷ 32 ∷ 99 ∷ []) (padded 128 (7 ∷ 0 ∷ 0 ∷ 0 ∷ 20 ∷ 7 ∷ 1 ∷ [])) (padded 64 ([])) (padded 64 ([])) (padded 8 ([])) (counts 1 0 0 0)) 0 ≡ answer (some 7)
+unfolding start
+case-5 = refl
+
+-- call of a name
+case-6 : nodeStart (lent (102 ∷ 40 ∷ 41 ∷ []) (padded 48 (2 ∷ 0 ∷ 25 ∷ 0 ∷ 1 ∷ 0 ∷ 0 ∷ 0 ∷ 0 ∷ 0 ∷ 0 ∷ 0 ∷ 0 ∷ 0 ∷ 0 ∷ 0 ∷ 8 ∷ 1 ∷ [])) (padded 24 ([])) (padded 24 ([])) (padded 3 ([])) (counts 2 0 0 0)) 1 ≡ answer (some 0)
+unfolding start
+case-6 = refl
+
+-- cast at its word
+case-7 : nodeStart (lent (97 ∷ 32 ∷ 97 ∷ 115 ∷ 32 ∷ 73 ∷ []) (padded 96 (2 ∷ 0 ∷ 25 ∷ 0 ∷ 1 ∷ 0 ∷ 0 ∷ 0 ∷ 0 ∷ 0 ∷ 0 ∷ 0 ∷ 0 ∷ 0 ∷ 0 ∷ 0 ∷ 10 ∷ 1 ∷ 32 ∷ 2 ∷ 2 ∷ [])) (padded 48 ([])) (padded 48 ([])) (padded 6 ([])) (counts 2 0 0 0)) 1 ≡ answer (some 2)
+unfolding start
+case-7 = refl
+
+-- node of kind 0
+case-8 : nodeStart (lent (97 ∷ []) (padded 16 ([])) (padded 8 ([])) (padded 8 ([])) (padded 1 ([])) (counts 1 0 0 0)) 0 ≡ refused 4
+unfolding start
+case-8 = refl
+
+-- node of kind 15
+case-9 : nodeStart (lent (97 ∷ []) (padded 16 (15 ∷ 0 ∷ 25 ∷ 0 ∷ 1 ∷ [])) (padded 8 ([])) (padded 8 ([])) (padded 1 ([])) (counts 1 0 0 0)) 0 ≡ refused 4
+unfolding start
+case-9 = refl
+
+-- token of kind 0
+case-10 : nodeStart (lent (97 ∷ []) (padded 16 (2 ∷ 0 ∷ 0 ∷ 0 ∷ 1 ∷ [])) (padded 8 ([])) (padded 8 ([])) (padded 1 ([])) (counts 1 0 0 0)) 0 ≡ refused 4
+unfolding start
+case-10 = refl
+
+-- token of kind 44
+case-11 : nodeStart (lent (97 ∷ []) (padded 16 (4 ∷ 0 ∷ 44 ∷ 0 ∷ 1 ∷ [])) (padded 8 ([])) (padded 8 ([])) (padded 1 ([])) (counts 1 0 0 0)) 0 ≡ refused 4
+unfolding start
+case-11 = refl
+
+-- token with a fixed spelling past the script
+case-12 : nodeStart (lent (97 ∷ []) (padded 16 (4 ∷ 0 ∷ 43 ∷ 9 ∷ 1 ∷ [])) (padded 8 ([])) (padded 8 ([])) (padded 1 ([])) (counts 1 0 0 0)) 0 ≡ answer (some 9)
+unfolding start
+case-12 = refl
+
+-- spelling up to the end
+case-13 : nodeStart (lent (97 ∷ 98 ∷ []) (padded 32 (2 ∷ 0 ∷ 25 ∷ 1 ∷ 1 ∷ [])) (padded 16 ([])) (padded 16 ([])) (padded 2 ([])) (counts 1 0 0 0)) 0 ≡ answer (some 1)
+unfolding start
+case-13 = refl
+
+-- spelling past the end
+case-14 : nodeStart (lent (97 ∷ 98 ∷ []) (padded 32 (2 ∷ 0 ∷ 25 ∷ 1 ∷ 2 ∷ [])) (padded 16 ([])) (padded 16 ([])) (padded 2 ([])) (counts 1 0 0 0)) 0 ≡ refused 4
+unfolding start
+case-14 = refl
+
+-- string whose quote is the last byte
+case-15 : nodeStart (lent (97 ∷ 34 ∷ []) (padded 32 (1 ∷ 0 ∷ 22 ∷ 1 ∷ 1 ∷ [])) (padded 16 ([])) (padded 16 ([])) (padded 2 ([])) (counts 1 0 0 0)) 0 ≡ refused 4
+unfolding start
+case-15 = refl
+
+-- child that is itself
+case-16 : nodeStart (lent (97 ∷ []) (padded 16 (9 ∷ 0 ∷ 0 ∷ 25 ∷ 0 ∷ 1 ∷ [])) (padded 8 ([])) (padded 8 ([])) (padded 1 ([])) (counts 1 0 0 0)) 0 ≡ refused 4
+unfolding start
+case-16 = refl
+
+-- child above
+case-17 : nodeStart (lent (97 ∷ 97 ∷ []) (padded 32 (9 ∷ 0 ∷ 1 ∷ 25 ∷ 0 ∷ 1 ∷ 0 ∷ 0 ∷ 0 ∷ 0 ∷ 0 ∷ 0 ∷ 0 ∷ 0 ∷ 0 ∷ 0 ∷ 2 ∷ 0 ∷ 25 ∷ 0 ∷ 1 ∷ [])) (padded 16 ([])) (padded 16 ([])) (padded 2 ([])) (counts 2 0 0 0)) 0 ≡ refused 4
+unfolding start
+case-17 = refl
+
+-- member past the list cells in use
+case-18 : nodeStart (lent (97 ∷ 97 ∷ []) (padded 32 (2 ∷ 0 ∷ 25 ∷ 0 ∷ 1 ∷ 0 ∷ 0 ∷ 0 ∷ 0 ∷ 0 ∷ 0 ∷ 0 ∷ 0 ∷ 0 ∷ 0 ∷ 0 ∷ 14 ∷ 0 ∷ 18 ∷ 0 ∷ 1 ∷ 0 ∷ 1 ∷ [])) (padded 16 ([])) (padded 16 ([])) (padded 2 ([])) (counts 2 0 0 0)) 1 ≡ refused 4
+unfolding start
+case-18 = refl
+
+-- empty run past the list cells
+case-19 : nodeStart (lent (97 ∷ 97 ∷ []) (padded 32 (14 ∷ 0 ∷ 18 ∷ 0 ∷ 1 ∷ 1 ∷ [])) (padded 16 ([])) (padded 16 ([])) (padded 2 ([])) (counts 1 0 0 0)) 0 ≡ refused 4
+unfolding start
+case-19 = refl
+
+-- cases of six cells each
+case-20 : nodeStart (lent (97 ∷ 97 ∷ []) (padded 32 (7 ∷ 0 ∷ 0 ∷ 1 ∷ 25 ∷ 0 ∷ 1 ∷ [])) (padded 16 ([])) (padded 16 (25 ∷ 0 ∷ 1 ∷ [])) (padded 2 ([])) (counts 1 0 5 0)) 0 ≡ refused 4
+unfolding start
+case-20 = refl
+
+-- node at the count
+case-21 : nodeStart (lent (97 ∷ []) (padded 16 (2 ∷ 0 ∷ 25 ∷ 0 ∷ 1 ∷ [])) (padded 8 ([])) (padded 8 ([])) (padded 1 ([])) (counts 1 0 0 0)) 1 ≡ refused 3
+unfolding start
+case-21 = refl
+
+-- node before a count past the array
+case-22 : nodeStart (lent (97 ∷ []) (padded 16 (2 ∷ 0 ∷ 25 ∷ 0 ∷ 1 ∷ [])) (padded 8 ([])) (padded 8 ([])) (padded 1 ([])) (counts 9 0 0 0)) 0 ≡ answer (some 0)
+unfolding start
+case-22 = refl
+
+-- node past the array's whole records
+case-23 : nodeStart (lent (97 ∷ []) (padded 31 (2 ∷ 0 ∷ 25 ∷ 0 ∷ 1 ∷ 0 ∷ 0 ∷ 0 ∷ 0 ∷ 0 ∷ 0 ∷ 0 ∷ 0 ∷ 0 ∷ 0 ∷ 0 ∷ 2 ∷ 0 ∷ 25 ∷ [])) (padded 8 ([])) (padded 8 ([])) (padded 1 ([])) (counts 9 0 0 0)) 1 ≡ refused 3
+unfolding start
+case-23 = refl
+
+-- node, nodes one cell short
+case-24 : nodeStart (lent (97 ∷ 97 ∷ []) (padded 31 (2 ∷ 0 ∷ 25 ∷ 0 ∷ 1 ∷ [])) (padded 16 ([])) (padded 16 ([])) (padded 2 ([])) (counts 1 0 0 0)) 9 ≡ refused 2
+unfolding start
+case-24 = refl
+
+-- node, types one cell short
+case-25 : nodeStart (lent (97 ∷ 97 ∷ []) (padded 32 (2 ∷ 0 ∷ 25 ∷ 0 ∷ 1 ∷ [])) (padded 15 ([])) (padded 16 ([])) (padded 2 ([])) (counts 1 0 0 0)) 9 ≡ refused 2
+unfolding start
+case-25 = refl
+
+-- node, lists one cell short
+case-26 : nodeStart (lent (97 ∷ 97 ∷ []) (padded 32 (2 ∷ 0 ∷ 25 ∷ 0 ∷ 1 ∷ [])) (padded 16 ([])) (padded 15 ([])) (padded 2 ([])) (counts 1 0 0 0)) 9 ≡ refused 2
+unfolding start
+case-26 = refl
+
+-- node, roots one cell short
+case-27 : nodeStart (lent (97 ∷ 97 ∷ []) (padded 32 (2 ∷ 0 ∷ 25 ∷ 0 ∷ 1 ∷ [])) (padded 16 ([])) (padded 16 ([])) (padded 1 ([])) (counts 1 0 0 0)) 9 ≡ refused 2
+unfolding start
+case-27 = refl
+
+-- node, 65,537 bytes
+case-28 : nodeStart (lent (replicate 65537 32) (padded 1 ([])) (padded 1 ([])) (padded 1 ([])) (padded 1 ([])) (counts 0 0 0 0)) 0 ≡ refused 1
+unfolding start
+case-28 = refl
+
+-- node, 65,536 bytes and short arrays
+case-29 : nodeStart (lent (replicate 65536 32) (padded 1 ([])) (padded 1 ([])) (padded 1 ([])) (padded 1 ([])) (counts 0 0 0 0)) 0 ≡ refused 2
+unfolding start
+case-29 = refl
+
+-- option of an array of Int
+case-30 : typeToken (lent (63 ∷ 63 ∷ 91 ∷ 93 ∷ 73 ∷ 110 ∷ 116 ∷ 32 ∷ []) (padded 128 ([])) (padded 64 (1 ∷ 36 ∷ 4 ∷ 3 ∷ 0 ∷ 0 ∷ 0 ∷ 0 ∷ 4 ∷ 0 ∷ 0 ∷ 0 ∷ 0 ∷ 0 ∷ 0 ∷ 0 ∷ 3 ∷ 1 ∷ [])) (padded 64 ([])) (padded 8 ([])) (counts 0 3 0 0)) 2 ≡ answer (record { kind = 36; start = 4; len = 3 })
+unfolding type
+case-30 = refl
+
+-- record
+case-31 : typeToken (lent (82 ∷ 101 ∷ 99 ∷ 111 ∷ 114 ∷ 100 ∷ 60 ∷ 62 ∷ []) (padded 128 ([])) (padded 64 (5 ∷ 43 ∷ 0 ∷ 6 ∷ [])) (padded 64 ([])) (padded 8 ([])) (counts 0 1 0 0)) 0 ≡ answer (record { kind = 43; start = 0; len = 6 })
+unfolding type
+case-31 = refl
+
+-- Void past the script
+case-32 : typeToken (lent (97 ∷ []) (padded 16 ([])) (padded 8 (1 ∷ 39 ∷ 9 ∷ 4 ∷ [])) (padded 8 ([])) (padded 1 ([])) (counts 0 1 0 0)) 0 ≡ answer (record { kind = 39; start = 9; len = 4 })
+unfolding type
+case-32 = refl
+
+-- inner type that is itself
+case-33 : typeToken (lent (97 ∷ []) (padded 16 ([])) (padded 8 (3 ∷ [])) (padded 8 ([])) (padded 1 ([])) (counts 0 1 0 0)) 0 ≡ refused 4
+unfolding type
+case-33 = refl
+
+-- inner type above
+case-34 : typeToken (lent (97 ∷ 97 ∷ []) (padded 32 ([])) (padded 16 (4 ∷ 1 ∷ 0 ∷ 0 ∷ 0 ∷ 0 ∷ 0 ∷ 0 ∷ 1 ∷ 25 ∷ 0 ∷ 1 ∷ [])) (padded 16 ([])) (padded 2 ([])) (counts 0 2 0 0)) 0 ≡ refused 4
+unfolding type
+case-34 = refl
+
+-- type of kind 6
+case-35 : typeToken (lent (97 ∷ []) (padded 16 ([])) (padded 8 (6 ∷ 25 ∷ 0 ∷ 1 ∷ [])) (padded 8 ([])) (padded 1 ([])) (counts 0 1 0 0)) 0 ≡ refused 4
+unfolding type
+case-35 = refl
+
+-- foreign name past the end
+case-36 : typeToken (lent (97 ∷ []) (padded 16 ([])) (padded 8 (2 ∷ 25 ∷ 0 ∷ 2 ∷ [])) (padded 8 ([])) (padded 1 ([])) (counts 0 1 0 0)) 0 ≡ refused 4
+unfolding type
+case-36 = refl
+
+-- type at the count
+case-37 : typeToken (lent (97 ∷ []) (padded 16 ([])) (padded 8 (1 ∷ 36 ∷ 0 ∷ 3 ∷ [])) (padded 8 ([])) (padded 1 ([])) (counts 0 1 0 0)) 1 ≡ refused 3
+unfolding type
+case-37 = refl
+
+-- type past the array's whole records
+case-38 : typeToken (lent (97 ∷ []) (padded 16 ([])) (padded 15 (1 ∷ 36 ∷ 0 ∷ 3 ∷ 0 ∷ 0 ∷ 0 ∷ 0 ∷ 1 ∷ 36 ∷ [])) (padded 8 ([])) (padded 1 ([])) (counts 0 9 0 0)) 1 ≡ refused 3
+unfolding type
+case-38 = refl
+
+-- type, nodes one cell short
+case-39 : typeToken (lent (97 ∷ 97 ∷ []) (padded 31 ([])) (padded 16 (1 ∷ 36 ∷ 0 ∷ 3 ∷ [])) (padded 16 ([])) (padded 2 ([])) (counts 0 1 0 0)) 9 ≡ refused 2
+unfolding type
+case-39 = refl
+
+-- type, types one cell short
+case-40 : typeToken (lent (97 ∷ 97 ∷ []) (padded 32 ([])) (padded 15 (1 ∷ 36 ∷ 0 ∷ 3 ∷ [])) (padded 16 ([])) (padded 2 ([])) (counts 0 1 0 0)) 9 ≡ refused 2
+unfolding type
+case-40 = refl
+
+-- type, lists one cell short
+case-41 : typeToken (lent (97 ∷ 97 ∷ []) (padded 32 ([])) (padded 16 (1 ∷ 36 ∷ 0 ∷ 3 ∷ [])) (padded 15 ([])) (padded 2 ([])) (counts 0 1 0 0)) 9 ≡ refused 2
+unfolding type
+case-41 = refl
+
+-- type, roots one cell short
+case-42 : typeToken (lent (97 ∷ 97 ∷ []) (padded 32 ([])) (padded 16 (1 ∷ 36 ∷ 0 ∷ 3 ∷ [])) (padded 16 ([])) (padded 1 ([])) (counts 0 1 0 0)) 9 ≡ refused 2
+unfolding type
+case-42 = refl
+
+-- type, 65,537 bytes
+case-43 : typeToken (lent (replicate 65537 32) (padded 1 ([])) (padded 1 ([])) (padded 1 ([])) (padded 1 ([])) (counts 0 0 0 0)) 0 ≡ refused 1
+unfolding type
+case-43 = refl
+
+-- span of a name
+case-44 : tokenSpan (32 ∷ 97 ∷ 98 ∷ []) (record { kind = 25; start = 1; len = 2 }) ≡ answer (record { start = 1; len = 2 })
+unfolding span
+case-44 = refl
+
+-- span of a string
+case-45 : tokenSpan (34 ∷ 97 ∷ 98 ∷ 34 ∷ []) (record { kind = 22; start = 0; len = 2 }) ≡ answer (record { start = 1; len = 2 })
+unfolding span
+case-45 = refl
+
+-- span of a doc
+case-46 : tokenSpan (35 ∷ 33 ∷ 32 ∷ 100 ∷ []) (record { kind = 26; start = 0; len = 1 }) ≡ answer (record { start = 0; len = 1 })
+unfolding span
+case-46 = refl
+
+-- span of the end
+case-47 : tokenSpan (97 ∷ 98 ∷ []) (record { kind = 1; start = 2; len = 3 }) ≡ answer (record { start = 2; len = 3 })
+unfolding span
+case-47 = refl
+
+-- span of a fixed spelling, whatever its length
+case-48 : tokenSpan (43 ∷ []) (record { kind = 4; start = 0; len = 7 }) ≡ answer (record { start = 0; len = 1 })
+unfolding span
+case-48 = refl
+
+-- span of a Void past the script
+case-49 : tokenSpan (97 ∷ []) (record { kind = 39; start = 9; len = 4 }) ≡ answer (record { start = 9; len = 4 })
+unfolding span
+case-49 = refl
+
+-- span of a doc past the end
+case-50 : tokenSpan (35 ∷ 33 ∷ 32 ∷ 100 ∷ []) (record { kind = 26; start = 0; len = 2 }) ≡ refused 4
+unfolding span
+case-50 = refl
+
+-- span of kind 0
+case-51 : tokenSpan (97 ∷ []) (record { kind = 0; start = 0; len = 1 }) ≡ refused 4
+unfolding span
+case-51 = refl
+
+-- span of kind 44
+case-52 : tokenSpan (97 ∷ []) (record { kind = 44; start = 0; len = 1 }) ≡ refused 4
+unfolding span
+case-52 = refl
+
+-- span at the end of 65,536 bytes
+case-53 : tokenSpan (replicate 65536 32) (record { kind = 1; start = 65536; len = 3 }) ≡ answer (record { start = 65536; len = 3 })
+unfolding span
+case-53 = refl
+
+-- span of kind 44 in 65,537 bytes
+case-54 : tokenSpan (replicate 65537 32) (record { kind = 44; start = 0; len = 1 }) ≡ refused 1
+unfolding span
+case-54 = refl
+
+-- place in an empty script
+case-55 : placeAt ([]) 0 ≡ answer (record { line = 1; column = 1 })
+unfolding place
+case-55 = refl
+
+-- place of a line feed
+case-56 : placeAt (97 ∷ 10 ∷ 98 ∷ []) 1 ≡ answer (record { line = 1; column = 2 })
+unfolding place
+case-56 = refl
+
+-- place behind a line feed
+case-57 : placeAt (97 ∷ 10 ∷ 98 ∷ []) 2 ≡ answer (record { line = 2; column = 1 })
+unfolding place
+case-57 = refl
+
+-- place at the end
+case-58 : placeAt (97 ∷ 10 ∷ 10 ∷ 98 ∷ 99 ∷ []) 5 ≡ answer (record { line = 3; column = 3 })
+unfolding place
+case-58 = refl
+
+-- place past the end
+case-59 : placeAt (97 ∷ 10 ∷ 10 ∷ 98 ∷ 99 ∷ []) 6 ≡ refused 3
+unfolding place
+case-59 = refl
+
+-- place in 65,536 bytes
+case-60 : placeAt (replicate 65536 32) 3 ≡ answer (record { line = 1; column = 4 })
+unfolding place
+case-60 = refl
+
+-- place past the end of 65,536 bytes
+case-61 : placeAt (replicate 65536 32) 65537 ≡ refused 3
+unfolding place
+case-61 = refl
+
+-- place past the end of 65,537 bytes
+case-62 : placeAt (replicate 65537 32) 65538 ≡ refused 1
+unfolding place
+case-62 = refl
+
+-- a + b and a+b, its nodes in another order
+case-63 : Compares (lent (97 ∷ 32 ∷ 43 ∷ 32 ∷ 98 ∷ []) (padded 80 (2 ∷ 0 ∷ 25 ∷ 0 ∷ 1 ∷ 0 ∷ 0 ∷ 0 ∷ 0 ∷ 0 ∷ 0 ∷ 0 ∷ 0 ∷ 0 ∷ 0 ∷ 0 ∷ 2 ∷ 0 ∷ 25 ∷ 4 ∷ 1 ∷ 0 ∷ 0 ∷ 0 ∷ 0 ∷ 0 ∷ 0 ∷ 0 ∷ 0 ∷ 0 ∷ 0 ∷ 0 ∷ 3 ∷ 2 ∷ 4 ∷ 2 ∷ 1 ∷ 0 ∷ 1 ∷ [])) (padded 40 ([])) (padded 40 ([])) (padded 5 (2 ∷ [])) (counts 3 0 0 1)) (lent (97 ∷ 43 ∷ 98 ∷ []) (padded 48 (2 ∷ 0 ∷ 25 ∷ 2 ∷ 1 ∷ 0 ∷ 0 ∷ 0 ∷ 0 ∷ 0 ∷ 0 ∷ 0 ∷ 0 ∷ 0 ∷ 0 ∷ 0 ∷ 2 ∷ 0 ∷ 25 ∷ 0 ∷ 1 ∷ 0 ∷ 0 ∷ 0 ∷ 0 ∷ 0 ∷ 0 ∷ 0 ∷ 0 ∷ 0 ∷ 0 ∷ 0 ∷ 3 ∷ 9 ∷ 4 ∷ 1 ∷ 1 ∷ 1 ∷ [])) (padded 24 ([])) (padded 24 ([])) (padded 3 (2 ∷ [])) (counts 3 0 0 1)) (answer true)
+unfolding compare
+case-63 = sameShape refl refl refl
+
+-- a + b and a+c
+case-64 : Compares (lent (97 ∷ 32 ∷ 43 ∷ 32 ∷ 98 ∷ []) (padded 80 (2 ∷ 0 ∷ 25 ∷ 0 ∷ 1 ∷ 0 ∷ 0 ∷ 0 ∷ 0 ∷ 0 ∷ 0 ∷ 0 ∷ 0 ∷ 0 ∷ 0 ∷ 0 ∷ 2 ∷ 0 ∷ 25 ∷ 4 ∷ 1 ∷ 0 ∷ 0 ∷ 0 ∷ 0 ∷ 0 ∷ 0 ∷ 0 ∷ 0 ∷ 0 ∷ 0 ∷ 0 ∷ 3 ∷ 2 ∷ 4 ∷ 2 ∷ 1 ∷ 0 ∷ 1 ∷ [])) (padded 40 ([])) (padded 40 ([])) (padded 5 (2 ∷ [])) (counts 3 0 0 1)) (lent (97 ∷ 43 ∷ 99 ∷ []) (padded 48 (2 ∷ 0 ∷ 25 ∷ 0 ∷ 1 ∷ 0 ∷ 0 ∷ 0 ∷ 0 ∷ 0 ∷ 0 ∷ 0 ∷ 0 ∷ 0 ∷ 0 ∷ 0 ∷ 2 ∷ 0 ∷ 25 ∷ 2 ∷ 1 ∷ 0 ∷ 0 ∷ 0 ∷ 0 ∷ 0 ∷ 0 ∷ 0 ∷ 0 ∷ 0 ∷ 0 ∷ 0 ∷ 3 ∷ 2 ∷ 4 ∷ 1 ∷ 1 ∷ 0 ∷ 1 ∷ [])) (padded 24 ([])) (padded 24 ([])) (padded 3 (2 ∷ [])) (counts 3 0 0 1)) (answer false)
+unfolding compare
+case-64 = otherShape refl refl refl (λ e. let z : _≡_ {A = ℕ} 98 99 = cc (ap keys e) in omega arith)
+
+-- a + b and a*b
+case-65 : Compares (lent (97 ∷ 32 ∷ 43 ∷ 32 ∷ 98 ∷ []) (padded 80 (2 ∷ 0 ∷ 25 ∷ 0 ∷ 1 ∷ 0 ∷ 0 ∷ 0 ∷ 0 ∷ 0 ∷ 0 ∷ 0 ∷ 0 ∷ 0 ∷ 0 ∷ 0 ∷ 2 ∷ 0 ∷ 25 ∷ 4 ∷ 1 ∷ 0 ∷ 0 ∷ 0 ∷ 0 ∷ 0 ∷ 0 ∷ 0 ∷ 0 ∷ 0 ∷ 0 ∷ 0 ∷ 3 ∷ 2 ∷ 4 ∷ 2 ∷ 1 ∷ 0 ∷ 1 ∷ [])) (padded 40 ([])) (padded 40 ([])) (padded 5 (2 ∷ [])) (counts 3 0 0 1)) (lent (97 ∷ 42 ∷ 98 ∷ []) (padded 48 (2 ∷ 0 ∷ 25 ∷ 0 ∷ 1 ∷ 0 ∷ 0 ∷ 0 ∷ 0 ∷ 0 ∷ 0 ∷ 0 ∷ 0 ∷ 0 ∷ 0 ∷ 0 ∷ 2 ∷ 0 ∷ 25 ∷ 2 ∷ 1 ∷ 0 ∷ 0 ∷ 0 ∷ 0 ∷ 0 ∷ 0 ∷ 0 ∷ 0 ∷ 0 ∷ 0 ∷ 0 ∷ 3 ∷ 2 ∷ 6 ∷ 1 ∷ 1 ∷ 0 ∷ 1 ∷ [])) (padded 24 ([])) (padded 24 ([])) (padded 3 (2 ∷ [])) (counts 3 0 0 1)) (answer false)
+unfolding compare
+case-65 = otherShape refl refl refl (λ e. let z : _≡_ {A = ℕ} 4 6 = cc (ap keys e) in omega arith)
+
+-- one root more
+case-66 : Compares (lent (97 ∷ 32 ∷ 43 ∷ 32 ∷ 98 ∷ []) (padded 80 (2 ∷ 0 ∷ 25 ∷ 0 ∷ 1 ∷ 0 ∷ 0 ∷ 0 ∷ 0 ∷ 0 ∷ 0 ∷ 0 ∷ 0 ∷ 0 ∷ 0 ∷ 0 ∷ 2 ∷ 0 ∷ 25 ∷ 4 ∷ 1 ∷ 0 ∷ 0 ∷ 0 ∷ 0 ∷ 0 ∷ 0 ∷ 0 ∷ 0 ∷ 0 ∷ 0 ∷ 0 ∷ 3 ∷ 2 ∷ 4 ∷ 2 ∷ 1 ∷ 0 ∷ 1 ∷ [])) (padded 40 ([])) (padded 40 ([])) (padded 5 (2 ∷ [])) (counts 3 0 0 1)) (lent (97 ∷ 43 ∷ 98 ∷ []) (padded 48 (2 ∷ 0 ∷ 25 ∷ 0 ∷ 1 ∷ 0 ∷ 0 ∷ 0 ∷ 0 ∷ 0 ∷ 0 ∷ 0 ∷ 0 ∷ 0 ∷ 0 ∷ 0 ∷ 2 ∷ 0 ∷ 25 ∷ 2 ∷ 1 ∷ 0 ∷ 0 ∷ 0 ∷ 0 ∷ 0 ∷ 0 ∷ 0 ∷ 0 ∷ 0 ∷ 0 ∷ 0 ∷ 3 ∷ 2 ∷ 4 ∷ 1 ∷ 1 ∷ 0 ∷ 1 ∷ [])) (padded 24 ([])) (padded 24 ([])) (padded 3 (2 ∷ [])) (counts 3 0 0 2)) (answer false)
+unfolding compare
+case-66 = otherShape refl refl refl (λ e. let z : _≡_ {A = ℕ} 0 1 = cc in omega arith)
+
+-- no roots
+case-67 : Compares (lent ([]) (padded 0 ([])) (padded 0 ([])) (padded 0 ([])) (padded 0 ([])) (counts 0 0 0 0)) (lent (97 ∷ []) (padded 16 ([])) (padded 8 ([])) (padded 8 ([])) (padded 1 ([])) (counts 0 0 0 0)) (answer true)
+unfolding compare
+case-67 = sameShape refl refl refl
+
+-- a name and a number
+case-68 : Compares (lent (97 ∷ []) (padded 16 (2 ∷ 0 ∷ 25 ∷ 0 ∷ 1 ∷ [])) (padded 8 ([])) (padded 8 ([])) (padded 1 ([])) (counts 1 0 0 1)) (lent (49 ∷ []) (padded 16 (1 ∷ 0 ∷ 24 ∷ 0 ∷ 1 ∷ [])) (padded 8 ([])) (padded 8 ([])) (padded 1 ([])) (counts 1 0 0 1)) (answer false)
+unfolding compare
+case-68 = otherShape refl refl refl (λ e. let z : _≡_ {A = ℕ} 0 1 = cc in omega arith)
+
+-- a call with one argument more
+case-69 : Compares (lent (102 ∷ 32 ∷ 97 ∷ 32 ∷ []) (padded 64 (2 ∷ 0 ∷ 25 ∷ 0 ∷ 1 ∷ 0 ∷ 0 ∷ 0 ∷ 0 ∷ 0 ∷ 0 ∷ 0 ∷ 0 ∷ 0 ∷ 0 ∷ 0 ∷ 2 ∷ 0 ∷ 25 ∷ 2 ∷ 1 ∷ 0 ∷ 0 ∷ 0 ∷ 0 ∷ 0 ∷ 0 ∷ 0 ∷ 0 ∷ 0 ∷ 0 ∷ 0 ∷ 8 ∷ 2 ∷ [])) (padded 32 ([])) (padded 32 (1 ∷ [])) (padded 4 (2 ∷ [])) (counts 3 0 1 1)) (lent (102 ∷ 32 ∷ 97 ∷ 32 ∷ []) (padded 64 (2 ∷ 0 ∷ 25 ∷ 0 ∷ 1 ∷ 0 ∷ 0 ∷ 0 ∷ 0 ∷ 0 ∷ 0 ∷ 0 ∷ 0 ∷ 0 ∷ 0 ∷ 0 ∷ 2 ∷ 0 ∷ 25 ∷ 2 ∷ 1 ∷ 0 ∷ 0 ∷ 0 ∷ 0 ∷ 0 ∷ 0 ∷ 0 ∷ 0 ∷ 0 ∷ 0 ∷ 0 ∷ 8 ∷ 2 ∷ 0 ∷ 0 ∷ 1 ∷ [])) (padded 32 ([])) (padded 32 (1 ∷ [])) (padded 4 (2 ∷ [])) (counts 3 0 1 1)) (answer false)
+unfolding compare
+case-69 = otherShape refl refl refl (λ e. let z : _≡_ {A = ℕ} 0 1 = cc in omega arith)
+
+-- a let with a doc
+case-70 : Compares (lent (35 ∷ 33 ∷ 100 ∷ 32 ∷ 97 ∷ []) (padded 80 (2 ∷ 0 ∷ 25 ∷ 4 ∷ 1 ∷ 0 ∷ 0 ∷ 0 ∷ 0 ∷ 0 ∷ 0 ∷ 0 ∷ 0 ∷ 0 ∷ 0 ∷ 0 ∷ 5 ∷ 1 ∷ 0 ∷ 0 ∷ 25 ∷ 4 ∷ 1 ∷ [])) (padded 40 ([])) (padded 40 (26 ∷ 0 ∷ 1 ∷ [])) (padded 5 (1 ∷ [])) (counts 2 0 3 1)) (lent (35 ∷ 33 ∷ 100 ∷ 32 ∷ 97 ∷ []) (padded 80 (2 ∷ 0 ∷ 25 ∷ 4 ∷ 1 ∷ 0 ∷ 0 ∷ 0 ∷ 0 ∷ 0 ∷ 0 ∷ 0 ∷ 0 ∷ 0 ∷ 0 ∷ 0 ∷ 5 ∷ 1 ∷ 0 ∷ 1 ∷ 25 ∷ 4 ∷ 1 ∷ [])) (padded 40 ([])) (padded 40 (26 ∷ 0 ∷ 1 ∷ [])) (padded 5 (1 ∷ [])) (counts 2 0 3 1)) (answer false)
+unfolding compare
+case-70 = otherShape refl refl refl (λ e. let z : _≡_ {A = ℕ} 0 1 = cc in omega arith)
+
+-- a case's own token is left out
+case-71 : Compares (lent (97 ∷ 98 ∷ 99 ∷ []) (padded 48 (2 ∷ 0 ∷ 25 ∷ 0 ∷ 1 ∷ 0 ∷ 0 ∷ 0 ∷ 0 ∷ 0 ∷ 0 ∷ 0 ∷ 0 ∷ 0 ∷ 0 ∷ 0 ∷ 2 ∷ 0 ∷ 25 ∷ 1 ∷ 1 ∷ 0 ∷ 0 ∷ 0 ∷ 0 ∷ 0 ∷ 0 ∷ 0 ∷ 0 ∷ 0 ∷ 0 ∷ 0 ∷ 7 ∷ 2 ∷ 0 ∷ 1 ∷ 20 ∷ 0 ∷ 1 ∷ 7 ∷ 1 ∷ [])) (padded 24 ([])) (padded 24 (20 ∷ 0 ∷ 1 ∷ 0 ∷ 6 ∷ 1 ∷ 1 ∷ 1 ∷ [])) (padded 3 (2 ∷ [])) (counts 3 0 8 1)) (lent (97 ∷ 98 ∷ 99 ∷ []) (padded 48 (2 ∷ 0 ∷ 25 ∷ 0 ∷ 1 ∷ 0 ∷ 0 ∷ 0 ∷ 0 ∷ 0 ∷ 0 ∷ 0 ∷ 0 ∷ 0 ∷ 0 ∷ 0 ∷ 2 ∷ 0 ∷ 25 ∷ 1 ∷ 1 ∷ 0 ∷ 0 ∷ 0 ∷ 0 ∷ 0 ∷ 0 ∷ 0 ∷ 0 ∷ 0 ∷ 0 ∷ 0 ∷ 7 ∷ 2 ∷ 0 ∷ 1 ∷ 20 ∷ 0 ∷ 1 ∷ 7 ∷ 1 ∷ [])) (padded 24 ([])) (padded 24 (21 ∷ 0 ∷ 1 ∷ 0 ∷ 6 ∷ 1 ∷ 1 ∷ 1 ∷ [])) (padded 3 (2 ∷ [])) (counts 3 0 8 1)) (answer true)
+unfolding compare
+case-71 = sameShape refl refl refl
+
+-- a default's own token is not
+case-72 : Compares (lent (97 ∷ 98 ∷ 99 ∷ []) (padded 48 (2 ∷ 0 ∷ 25 ∷ 0 ∷ 1 ∷ 0 ∷ 0 ∷ 0 ∷ 0 ∷ 0 ∷ 0 ∷ 0 ∷ 0 ∷ 0 ∷ 0 ∷ 0 ∷ 2 ∷ 0 ∷ 25 ∷ 1 ∷ 1 ∷ 0 ∷ 0 ∷ 0 ∷ 0 ∷ 0 ∷ 0 ∷ 0 ∷ 0 ∷ 0 ∷ 0 ∷ 0 ∷ 7 ∷ 2 ∷ 0 ∷ 1 ∷ 20 ∷ 0 ∷ 1 ∷ 7 ∷ 1 ∷ [])) (padded 24 ([])) (padded 24 (20 ∷ 0 ∷ 1 ∷ 0 ∷ 6 ∷ 1 ∷ 1 ∷ 1 ∷ [])) (padded 3 (2 ∷ [])) (counts 3 0 8 1)) (lent (97 ∷ 98 ∷ 99 ∷ []) (padded 48 (2 ∷ 0 ∷ 25 ∷ 0 ∷ 1 ∷ 0 ∷ 0 ∷ 0 ∷ 0 ∷ 0 ∷ 0 ∷ 0 ∷ 0 ∷ 0 ∷ 0 ∷ 0 ∷ 2 ∷ 0 ∷ 25 ∷ 1 ∷ 1 ∷ 0 ∷ 0 ∷ 0 ∷ 0 ∷ 0 ∷ 0 ∷ 0 ∷ 0 ∷ 0 ∷ 0 ∷ 0 ∷ 7 ∷ 2 ∷ 0 ∷ 1 ∷ 21 ∷ 0 ∷ 1 ∷ 7 ∷ 1 ∷ [])) (padded 24 ([])) (padded 24 (20 ∷ 0 ∷ 1 ∷ 0 ∷ 6 ∷ 1 ∷ 1 ∷ 1 ∷ [])) (padded 3 (2 ∷ [])) (counts 3 0 8 1)) (answer false)
+unfolding compare
+case-72 = otherShape refl refl refl (λ e. let z : _≡_ {A = ℕ} 20 21 = cc (ap keys e) in omega arith)
+
+-- an orphan is not reached
+case-73 : Compares (lent (97 ∷ []) (padded 32 (99 ∷ 0 ∷ 0 ∷ 0 ∷ 0 ∷ 0 ∷ 0 ∷ 0 ∷ 0 ∷ 0 ∷ 0 ∷ 0 ∷ 0 ∷ 0 ∷ 0 ∷ 0 ∷ 2 ∷ 0 ∷ 25 ∷ 0 ∷ 1 ∷ [])) (padded 8 ([])) (padded 8 ([])) (padded 1 (1 ∷ [])) (counts 2 0 0 1)) (lent (97 ∷ []) (padded 16 (2 ∷ 0 ∷ 25 ∷ 0 ∷ 1 ∷ [])) (padded 8 ([])) (padded 8 ([])) (padded 1 ([])) (counts 1 0 0 1)) (answer true)
+unfolding compare
+case-73 = sameShape refl refl refl
+
+-- fn with docs, arguments, type and body
+case-74 : Compares (lent (35 ∷ 33 ∷ 32 ∷ 100 ∷ 32 ∷ 102 ∷ 58 ∷ 73 ∷ 97 ∷ []) (padded 144 (2 ∷ 0 ∷ 25 ∷ 7 ∷ 1 ∷ 0 ∷ 0 ∷ 0 ∷ 0 ∷ 0 ∷ 0 ∷ 0 ∷ 0 ∷ 0 ∷ 0 ∷ 0 ∷ 6 ∷ 1 ∷ 0 ∷ 1 ∷ 25 ∷ 5 ∷ 1 ∷ 3 ∷ 1 ∷ 0 ∷ 7 ∷ 1 ∷ [])) (padded 72 (1 ∷ 36 ∷ 7 ∷ 3 ∷ [])) (padded 72 (26 ∷ 0 ∷ 1 ∷ 25 ∷ 8 ∷ 1 ∷ [])) (padded 9 (1 ∷ [])) (counts 2 1 8 1)) (lent (35 ∷ 33 ∷ 100 ∷ 32 ∷ 102 ∷ 58 ∷ 73 ∷ 97 ∷ 97 ∷ []) (padded 144 (2 ∷ 0 ∷ 25 ∷ 6 ∷ 1 ∷ 0 ∷ 0 ∷ 0 ∷ 0 ∷ 0 ∷ 0 ∷ 0 ∷ 0 ∷ 0 ∷ 0 ∷ 0 ∷ 6 ∷ 1 ∷ 0 ∷ 1 ∷ 25 ∷ 4 ∷ 1 ∷ 3 ∷ 1 ∷ 0 ∷ 7 ∷ 1 ∷ [])) (padded 72 (1 ∷ 36 ∷ 6 ∷ 3 ∷ [])) (padded 72 (26 ∷ 0 ∷ 1 ∷ 25 ∷ 7 ∷ 1 ∷ [])) (padded 9 (1 ∷ [])) (counts 2 1 8 1)) (answer true)
+unfolding compare
+case-74 = sameShape refl refl refl
+
+-- root past the nodes, left
+case-75 : Compares (lent (97 ∷ []) (padded 16 (2 ∷ 0 ∷ 25 ∷ 0 ∷ 1 ∷ [])) (padded 8 ([])) (padded 8 ([])) (padded 1 (1 ∷ [])) (counts 1 0 0 1)) (lent (97 ∷ 32 ∷ 43 ∷ 32 ∷ 98 ∷ []) (padded 80 (2 ∷ 0 ∷ 25 ∷ 0 ∷ 1 ∷ 0 ∷ 0 ∷ 0 ∷ 0 ∷ 0 ∷ 0 ∷ 0 ∷ 0 ∷ 0 ∷ 0 ∷ 0 ∷ 2 ∷ 0 ∷ 25 ∷ 4 ∷ 1 ∷ 0 ∷ 0 ∷ 0 ∷ 0 ∷ 0 ∷ 0 ∷ 0 ∷ 0 ∷ 0 ∷ 0 ∷ 0 ∷ 3 ∷ 2 ∷ 4 ∷ 2 ∷ 1 ∷ 0 ∷ 1 ∷ [])) (padded 40 ([])) (padded 40 ([])) (padded 5 (2 ∷ [])) (counts 3 0 0 1)) (refused 4)
+unfolding compare
+case-75 = malformedLeft refl refl
+
+-- root past the nodes, right
+case-76 : Compares (lent (97 ∷ 32 ∷ 43 ∷ 32 ∷ 98 ∷ []) (padded 80 (2 ∷ 0 ∷ 25 ∷ 0 ∷ 1 ∷ 0 ∷ 0 ∷ 0 ∷ 0 ∷ 0 ∷ 0 ∷ 0 ∷ 0 ∷ 0 ∷ 0 ∷ 0 ∷ 2 ∷ 0 ∷ 25 ∷ 4 ∷ 1 ∷ 0 ∷ 0 ∷ 0 ∷ 0 ∷ 0 ∷ 0 ∷ 0 ∷ 0 ∷ 0 ∷ 0 ∷ 0 ∷ 3 ∷ 2 ∷ 4 ∷ 2 ∷ 1 ∷ 0 ∷ 1 ∷ [])) (padded 40 ([])) (padded 40 ([])) (padded 5 (2 ∷ [])) (counts 3 0 0 1)) (lent (97 ∷ []) (padded 16 (2 ∷ 0 ∷ 25 ∷ 0 ∷ 1 ∷ [])) (padded 8 ([])) (padded 8 ([])) (padded 1 (1 ∷ [])) (counts 1 0 0 1)) (refused 4)
+unfolding compare
+case-76 = malformedRight refl refl
+
+-- root past the array's whole records, left
+case-77 : Compares (lent (97 ∷ []) (padded 31 (2 ∷ 0 ∷ 25 ∷ 0 ∷ 1 ∷ 0 ∷ 0 ∷ 0 ∷ 0 ∷ 0 ∷ 0 ∷ 0 ∷ 0 ∷ 0 ∷ 0 ∷ 0 ∷ 2 ∷ 0 ∷ 25 ∷ [])) (padded 8 ([])) (padded 8 ([])) (padded 1 (1 ∷ [])) (counts 9 0 0 1)) (lent (97 ∷ 32 ∷ 43 ∷ 32 ∷ 98 ∷ []) (padded 80 (2 ∷ 0 ∷ 25 ∷ 0 ∷ 1 ∷ 0 ∷ 0 ∷ 0 ∷ 0 ∷ 0 ∷ 0 ∷ 0 ∷ 0 ∷ 0 ∷ 0 ∷ 0 ∷ 2 ∷ 0 ∷ 25 ∷ 4 ∷ 1 ∷ 0 ∷ 0 ∷ 0 ∷ 0 ∷ 0 ∷ 0 ∷ 0 ∷ 0 ∷ 0 ∷ 0 ∷ 0 ∷ 3 ∷ 2 ∷ 4 ∷ 2 ∷ 1 ∷ 0 ∷ 1 ∷ [])) (padded 40 ([])) (padded 40 ([])) (padded 5 (2 ∷ [])) (counts 3 0 0 1)) (refused 4)
+unfolding compare
+case-77 = malformedLeft refl refl
+
+-- root past the array's whole records, right
+case-78 : Compares (lent (97 ∷ 32 ∷ 43 ∷ 32 ∷ 98 ∷ []) (padded 80 (2 ∷ 0 ∷ 25 ∷ 0 ∷ 1 ∷ 0 ∷ 0 ∷ 0 ∷ 0 ∷ 0 ∷ 0 ∷ 0 ∷ 0 ∷ 0 ∷ 0 ∷ 0 ∷ 2 ∷ 0 ∷ 25 ∷ 4 ∷ 1 ∷ 0 ∷ 0 ∷ 0 ∷ 0 ∷ 0 ∷ 0 ∷ 0 ∷ 0 ∷ 0 ∷ 0 ∷ 0 ∷ 3 ∷ 2 ∷ 4 ∷ 2 ∷ 1 ∷ 0 ∷ 1 ∷ [])) (padded 40 ([])) (padded 40 ([])) (padded 5 (2 ∷ [])) (counts 3 0 0 1)) (lent (97 ∷ []) (padded 31 (2 ∷ 0 ∷ 25 ∷ 0 ∷ 1 ∷ 0 ∷ 0 ∷ 0 ∷ 0 ∷ 0 ∷ 0 ∷ 0 ∷ 0 ∷ 0 ∷ 0 ∷ 0 ∷ 2 ∷ 0 ∷ 25 ∷ [])) (padded 8 ([])) (padded 8 ([])) (padded 1 (1 ∷ [])) (counts 9 0 0 1)) (refused 4)
+unfolding compare
+case-78 = malformedRight refl refl
+
+-- count of roots past the array, left
+case-79 : Compares (lent (97 ∷ []) (padded 16 (2 ∷ 0 ∷ 25 ∷ 0 ∷ 1 ∷ [])) (padded 8 ([])) (padded 8 ([])) (padded 1 ([])) (counts 1 0 0 2)) (lent (97 ∷ 32 ∷ 43 ∷ 32 ∷ 98 ∷ []) (padded 80 (2 ∷ 0 ∷ 25 ∷ 0 ∷ 1 ∷ 0 ∷ 0 ∷ 0 ∷ 0 ∷ 0 ∷ 0 ∷ 0 ∷ 0 ∷ 0 ∷ 0 ∷ 0 ∷ 2 ∷ 0 ∷ 25 ∷ 4 ∷ 1 ∷ 0 ∷ 0 ∷ 0 ∷ 0 ∷ 0 ∷ 0 ∷ 0 ∷ 0 ∷ 0 ∷ 0 ∷ 0 ∷ 3 ∷ 2 ∷ 4 ∷ 2 ∷ 1 ∷ 0 ∷ 1 ∷ [])) (padded 40 ([])) (padded 40 ([])) (padded 5 (2 ∷ [])) (counts 3 0 0 1)) (refused 4)
+unfolding compare
+case-79 = malformedLeft refl refl
+
+-- count of roots past the array, right
+case-80 : Compares (lent (97 ∷ 32 ∷ 43 ∷ 32 ∷ 98 ∷ []) (padded 80 (2 ∷ 0 ∷ 25 ∷ 0 ∷ 1 ∷ 0 ∷ 0 ∷ 0 ∷ 0 ∷ 0 ∷ 0 ∷ 0 ∷ 0 ∷ 0 ∷ 0 ∷ 0 ∷ 2 ∷ 0 ∷ 25 ∷ 4 ∷ 1 ∷ 0 ∷ 0 ∷ 0 ∷ 0 ∷ 0 ∷ 0 ∷ 0 ∷ 0 ∷ 0 ∷ 0 ∷ 0 ∷ 3 ∷ 2 ∷ 4 ∷ 2 ∷ 1 ∷ 0 ∷ 1 ∷ [])) (padded 40 ([])) (padded 40 ([])) (padded 5 (2 ∷ [])) (counts 3 0 0 1)) (lent (97 ∷ []) (padded 16 (2 ∷ 0 ∷ 25 ∷ 0 ∷ 1 ∷ [])) (padded 8 ([])) (padded 8 ([])) (padded 1 ([])) (counts 1 0 0 2)) (refused 4)
+unfolding compare
+case-80 = malformedRight refl refl
+
+-- root of an unknown kind, left
+case-81 : Compares (lent (97 ∷ []) (padded 16 (15 ∷ [])) (padded 8 ([])) (padded 8 ([])) (padded 1 ([])) (counts 1 0 0 1)) (lent (97 ∷ 32 ∷ 43 ∷ 32 ∷ 98 ∷ []) (padded 80 (2 ∷ 0 ∷ 25 ∷ 0 ∷ 1 ∷ 0 ∷ 0 ∷ 0 ∷ 0 ∷ 0 ∷ 0 ∷ 0 ∷ 0 ∷ 0 ∷ 0 ∷ 0 ∷ 2 ∷ 0 ∷ 25 ∷ 4 ∷ 1 ∷ 0 ∷ 0 ∷ 0 ∷ 0 ∷ 0 ∷ 0 ∷ 0 ∷ 0 ∷ 0 ∷ 0 ∷ 0 ∷ 3 ∷ 2 ∷ 4 ∷ 2 ∷ 1 ∷ 0 ∷ 1 ∷ [])) (padded 40 ([])) (padded 40 ([])) (padded 5 (2 ∷ [])) (counts 3 0 0 1)) (refused 4)
+unfolding compare
+case-81 = malformedLeft refl refl
+
+-- root of an unknown kind, right
+case-82 : Compares (lent (97 ∷ 32 ∷ 43 ∷ 32 ∷ 98 ∷ []) (padded 80 (2 ∷ 0 ∷ 25 ∷ 0 ∷ 1 ∷ 0 ∷ 0 ∷ 0 ∷ 0 ∷ 0 ∷ 0 ∷ 0 ∷ 0 ∷ 0 ∷ 0 ∷ 0 ∷ 2 ∷ 0 ∷ 25 ∷ 4 ∷ 1 ∷ 0 ∷ 0 ∷ 0 ∷ 0 ∷ 0 ∷ 0 ∷ 0 ∷ 0 ∷ 0 ∷ 0 ∷ 0 ∷ 3 ∷ 2 ∷ 4 ∷ 2 ∷ 1 ∷ 0 ∷ 1 ∷ [])) (padded 40 ([])) (padded 40 ([])) (padded 5 (2 ∷ [])) (counts 3 0 0 1)) (lent (97 ∷ []) (padded 16 (15 ∷ [])) (padded 8 ([])) (padded 8 ([])) (padded 1 ([])) (counts 1 0 0 1)) (refused 4)
+unfolding compare
+case-82 = malformedRight refl refl
+
+-- right child not below, left
+case-83 : Compares (lent (97 ∷ 97 ∷ []) (padded 32 (2 ∷ 0 ∷ 25 ∷ 0 ∷ 1 ∷ 0 ∷ 0 ∷ 0 ∷ 0 ∷ 0 ∷ 0 ∷ 0 ∷ 0 ∷ 0 ∷ 0 ∷ 0 ∷ 3 ∷ 2 ∷ 4 ∷ 0 ∷ 1 ∷ 0 ∷ 1 ∷ [])) (padded 16 ([])) (padded 16 ([])) (padded 2 (1 ∷ [])) (counts 2 0 0 1)) (lent (97 ∷ 32 ∷ 43 ∷ 32 ∷ 98 ∷ []) (padded 80 (2 ∷ 0 ∷ 25 ∷ 0 ∷ 1 ∷ 0 ∷ 0 ∷ 0 ∷ 0 ∷ 0 ∷ 0 ∷ 0 ∷ 0 ∷ 0 ∷ 0 ∷ 0 ∷ 2 ∷ 0 ∷ 25 ∷ 4 ∷ 1 ∷ 0 ∷ 0 ∷ 0 ∷ 0 ∷ 0 ∷ 0 ∷ 0 ∷ 0 ∷ 0 ∷ 0 ∷ 0 ∷ 3 ∷ 2 ∷ 4 ∷ 2 ∷ 1 ∷ 0 ∷ 1 ∷ [])) (padded 40 ([])) (padded 40 ([])) (padded 5 (2 ∷ [])) (counts 3 0 0 1)) (refused 4)
+unfolding compare
+case-83 = malformedLeft refl refl
+
+-- right child not below, right
+case-84 : Compares (lent (97 ∷ 32 ∷ 43 ∷ 32 ∷ 98 ∷ []) (padded 80 (2 ∷ 0 ∷ 25 ∷ 0 ∷ 1 ∷ 0 ∷ 0 ∷ 0 ∷ 0 ∷ 0 ∷ 0 ∷ 0 ∷ 0 ∷ 0 ∷ 0 ∷ 0 ∷ 2 ∷ 0 ∷ 25 ∷ 4 ∷ 1 ∷ 0 ∷ 0 ∷ 0 ∷ 0 ∷ 0 ∷ 0 ∷ 0 ∷ 0 ∷ 0 ∷ 0 ∷ 0 ∷ 3 ∷ 2 ∷ 4 ∷ 2 ∷ 1 ∷ 0 ∷ 1 ∷ [])) (padded 40 ([])) (padded 40 ([])) (padded 5 (2 ∷ [])) (counts 3 0 0 1)) (lent (97 ∷ 97 ∷ []) (padded 32 (2 ∷ 0 ∷ 25 ∷ 0 ∷ 1 ∷ 0 ∷ 0 ∷ 0 ∷ 0 ∷ 0 ∷ 0 ∷ 0 ∷ 0 ∷ 0 ∷ 0 ∷ 0 ∷ 3 ∷ 2 ∷ 4 ∷ 0 ∷ 1 ∷ 0 ∷ 1 ∷ [])) (padded 16 ([])) (padded 16 ([])) (padded 2 (1 ∷ [])) (counts 2 0 0 1)) (refused 4)
+unfolding compare
+case-84 = malformedRight refl refl
+
+-- type past the types, left
+case-85 : Compares (lent (97 ∷ 97 ∷ []) (padded 32 (2 ∷ 0 ∷ 25 ∷ 0 ∷ 1 ∷ 0 ∷ 0 ∷ 0 ∷ 0 ∷ 0 ∷ 0 ∷ 0 ∷ 0 ∷ 0 ∷ 0 ∷ 0 ∷ 10 ∷ 1 ∷ 32 ∷ 0 ∷ 2 ∷ [])) (padded 16 ([])) (padded 16 ([])) (padded 2 (1 ∷ [])) (counts 2 0 0 1)) (lent (97 ∷ 32 ∷ 43 ∷ 32 ∷ 98 ∷ []) (padded 80 (2 ∷ 0 ∷ 25 ∷ 0 ∷ 1 ∷ 0 ∷ 0 ∷ 0 ∷ 0 ∷ 0 ∷ 0 ∷ 0 ∷ 0 ∷ 0 ∷ 0 ∷ 0 ∷ 2 ∷ 0 ∷ 25 ∷ 4 ∷ 1 ∷ 0 ∷ 0 ∷ 0 ∷ 0 ∷ 0 ∷ 0 ∷ 0 ∷ 0 ∷ 0 ∷ 0 ∷ 0 ∷ 3 ∷ 2 ∷ 4 ∷ 2 ∷ 1 ∷ 0 ∷ 1 ∷ [])) (padded 40 ([])) (padded 40 ([])) (padded 5 (2 ∷ [])) (counts 3 0 0 1)) (refused 4)
+unfolding compare
+case-85 = malformedLeft refl refl
+
+-- type past the types, right
+case-86 : Compares (lent (97 ∷ 32 ∷ 43 ∷ 32 ∷ 98 ∷ []) (padded 80 (2 ∷ 0 ∷ 25 ∷ 0 ∷ 1 ∷ 0 ∷ 0 ∷ 0 ∷ 0 ∷ 0 ∷ 0 ∷ 0 ∷ 0 ∷ 0 ∷ 0 ∷ 0 ∷ 2 ∷ 0 ∷ 25 ∷ 4 ∷ 1 ∷ 0 ∷ 0 ∷ 0 ∷ 0 ∷ 0 ∷ 0 ∷ 0 ∷ 0 ∷ 0 ∷ 0 ∷ 0 ∷ 3 ∷ 2 ∷ 4 ∷ 2 ∷ 1 ∷ 0 ∷ 1 ∷ [])) (padded 40 ([])) (padded 40 ([])) (padded 5 (2 ∷ [])) (counts 3 0 0 1)) (lent (97 ∷ 97 ∷ []) (padded 32 (2 ∷ 0 ∷ 25 ∷ 0 ∷ 1 ∷ 0 ∷ 0 ∷ 0 ∷ 0 ∷ 0 ∷ 0 ∷ 0 ∷ 0 ∷ 0 ∷ 0 ∷ 0 ∷ 10 ∷ 1 ∷ 32 ∷ 0 ∷ 2 ∷ [])) (padded 16 ([])) (padded 16 ([])) (padded 2 (1 ∷ [])) (counts 2 0 0 1)) (refused 4)
+unfolding compare
+case-86 = malformedRight refl refl
+
+-- type of an unknown kind, left
+case-87 : Compares (lent (97 ∷ 97 ∷ []) (padded 32 (2 ∷ 0 ∷ 25 ∷ 0 ∷ 1 ∷ 0 ∷ 0 ∷ 0 ∷ 0 ∷ 0 ∷ 0 ∷ 0 ∷ 0 ∷ 0 ∷ 0 ∷ 0 ∷ 10 ∷ 1 ∷ 32 ∷ 0 ∷ 2 ∷ [])) (padded 16 (6 ∷ 36 ∷ 0 ∷ 3 ∷ [])) (padded 16 ([])) (padded 2 (1 ∷ [])) (counts 2 1 0 1)) (lent (97 ∷ 32 ∷ 43 ∷ 32 ∷ 98 ∷ []) (padded 80 (2 ∷ 0 ∷ 25 ∷ 0 ∷ 1 ∷ 0 ∷ 0 ∷ 0 ∷ 0 ∷ 0 ∷ 0 ∷ 0 ∷ 0 ∷ 0 ∷ 0 ∷ 0 ∷ 2 ∷ 0 ∷ 25 ∷ 4 ∷ 1 ∷ 0 ∷ 0 ∷ 0 ∷ 0 ∷ 0 ∷ 0 ∷ 0 ∷ 0 ∷ 0 ∷ 0 ∷ 0 ∷ 3 ∷ 2 ∷ 4 ∷ 2 ∷ 1 ∷ 0 ∷ 1 ∷ [])) (padded 40 ([])) (padded 40 ([])) (padded 5 (2 ∷ [])) (counts 3 0 0 1)) (refused 4)
+unfolding compare
+case-87 = malformedLeft refl refl
+
+-- type of an unknown kind, right
+case-88 : Compares (lent (97 ∷ 32 ∷ 43 ∷ 32 ∷ 98 ∷ []) (padded 80 (2 ∷ 0 ∷ 25 ∷ 0 ∷ 1 ∷ 0 ∷ 0 ∷ 0 ∷ 0 ∷ 0 ∷ 0 ∷ 0 ∷ 0 ∷ 0 ∷ 0 ∷ 0 ∷ 2 ∷ 0 ∷ 25 ∷ 4 ∷ 1 ∷ 0 ∷ 0 ∷ 0 ∷ 0 ∷ 0 ∷ 0 ∷ 0 ∷ 0 ∷ 0 ∷ 0 ∷ 0 ∷ 3 ∷ 2 ∷ 4 ∷ 2 ∷ 1 ∷ 0 ∷ 1 ∷ [])) (padded 40 ([])) (padded 40 ([])) (padded 5 (2 ∷ [])) (counts 3 0 0 1)) (lent (97 ∷ 97 ∷ []) (padded 32 (2 ∷ 0 ∷ 25 ∷ 0 ∷ 1 ∷ 0 ∷ 0 ∷ 0 ∷ 0 ∷ 0 ∷ 0 ∷ 0 ∷ 0 ∷ 0 ∷ 0 ∷ 0 ∷ 10 ∷ 1 ∷ 32 ∷ 0 ∷ 2 ∷ [])) (padded 16 (6 ∷ 36 ∷ 0 ∷ 3 ∷ [])) (padded 16 ([])) (padded 2 (1 ∷ [])) (counts 2 1 0 1)) (refused 4)
+unfolding compare
+case-88 = malformedRight refl refl
+
+-- docs past the list cells, left
+case-89 : Compares (lent (97 ∷ 97 ∷ []) (padded 32 (2 ∷ 0 ∷ 25 ∷ 0 ∷ 1 ∷ 0 ∷ 0 ∷ 0 ∷ 0 ∷ 0 ∷ 0 ∷ 0 ∷ 0 ∷ 0 ∷ 0 ∷ 0 ∷ 5 ∷ 1 ∷ 0 ∷ 1 ∷ 25 ∷ 0 ∷ 1 ∷ [])) (padded 16 ([])) (padded 16 (26 ∷ [])) (padded 2 (1 ∷ [])) (counts 2 0 2 1)) (lent (97 ∷ 32 ∷ 43 ∷ 32 ∷ 98 ∷ []) (padded 80 (2 ∷ 0 ∷ 25 ∷ 0 ∷ 1 ∷ 0 ∷ 0 ∷ 0 ∷ 0 ∷ 0 ∷ 0 ∷ 0 ∷ 0 ∷ 0 ∷ 0 ∷ 0 ∷ 2 ∷ 0 ∷ 25 ∷ 4 ∷ 1 ∷ 0 ∷ 0 ∷ 0 ∷ 0 ∷ 0 ∷ 0 ∷ 0 ∷ 0 ∷ 0 ∷ 0 ∷ 0 ∷ 3 ∷ 2 ∷ 4 ∷ 2 ∷ 1 ∷ 0 ∷ 1 ∷ [])) (padded 40 ([])) (padded 40 ([])) (padded 5 (2 ∷ [])) (counts 3 0 0 1)) (refused 4)
+unfolding compare
+case-89 = malformedLeft refl refl
+
+-- docs past the list cells, right
+case-90 : Compares (lent (97 ∷ 32 ∷ 43 ∷ 32 ∷ 98 ∷ []) (padded 80 (2 ∷ 0 ∷ 25 ∷ 0 ∷ 1 ∷ 0 ∷ 0 ∷ 0 ∷ 0 ∷ 0 ∷ 0 ∷ 0 ∷ 0 ∷ 0 ∷ 0 ∷ 0 ∷ 2 ∷ 0 ∷ 25 ∷ 4 ∷ 1 ∷ 0 ∷ 0 ∷ 0 ∷ 0 ∷ 0 ∷ 0 ∷ 0 ∷ 0 ∷ 0 ∷ 0 ∷ 0 ∷ 3 ∷ 2 ∷ 4 ∷ 2 ∷ 1 ∷ 0 ∷ 1 ∷ [])) (padded 40 ([])) (padded 40 ([])) (padded 5 (2 ∷ [])) (counts 3 0 0 1)) (lent (97 ∷ 97 ∷ []) (padded 32 (2 ∷ 0 ∷ 25 ∷ 0 ∷ 1 ∷ 0 ∷ 0 ∷ 0 ∷ 0 ∷ 0 ∷ 0 ∷ 0 ∷ 0 ∷ 0 ∷ 0 ∷ 0 ∷ 5 ∷ 1 ∷ 0 ∷ 1 ∷ 25 ∷ 0 ∷ 1 ∷ [])) (padded 16 ([])) (padded 16 (26 ∷ [])) (padded 2 (1 ∷ [])) (counts 2 0 2 1)) (refused 4)
+unfolding compare
+case-90 = malformedRight refl refl
+
+-- spelling past the script, left
+case-91 : Compares (lent (97 ∷ 97 ∷ []) (padded 32 (2 ∷ 0 ∷ 25 ∷ 1 ∷ 2 ∷ [])) (padded 16 ([])) (padded 16 ([])) (padded 2 ([])) (counts 1 0 0 1)) (lent (97 ∷ 32 ∷ 43 ∷ 32 ∷ 98 ∷ []) (padded 80 (2 ∷ 0 ∷ 25 ∷ 0 ∷ 1 ∷ 0 ∷ 0 ∷ 0 ∷ 0 ∷ 0 ∷ 0 ∷ 0 ∷ 0 ∷ 0 ∷ 0 ∷ 0 ∷ 2 ∷ 0 ∷ 25 ∷ 4 ∷ 1 ∷ 0 ∷ 0 ∷ 0 ∷ 0 ∷ 0 ∷ 0 ∷ 0 ∷ 0 ∷ 0 ∷ 0 ∷ 0 ∷ 3 ∷ 2 ∷ 4 ∷ 2 ∷ 1 ∷ 0 ∷ 1 ∷ [])) (padded 40 ([])) (padded 40 ([])) (padded 5 (2 ∷ [])) (counts 3 0 0 1)) (refused 4)
+unfolding compare
+case-91 = malformedLeft refl refl
+
+-- spelling past the script, right
+case-92 : Compares (lent (97 ∷ 32 ∷ 43 ∷ 32 ∷ 98 ∷ []) (padded 80 (2 ∷ 0 ∷ 25 ∷ 0 ∷ 1 ∷ 0 ∷ 0 ∷ 0 ∷ 0 ∷ 0 ∷ 0 ∷ 0 ∷ 0 ∷ 0 ∷ 0 ∷ 0 ∷ 2 ∷ 0 ∷ 25 ∷ 4 ∷ 1 ∷ 0 ∷ 0 ∷ 0 ∷ 0 ∷ 0 ∷ 0 ∷ 0 ∷ 0 ∷ 0 ∷ 0 ∷ 0 ∷ 3 ∷ 2 ∷ 4 ∷ 2 ∷ 1 ∷ 0 ∷ 1 ∷ [])) (padded 40 ([])) (padded 40 ([])) (padded 5 (2 ∷ [])) (counts 3 0 0 1)) (lent (97 ∷ 97 ∷ []) (padded 32 (2 ∷ 0 ∷ 25 ∷ 1 ∷ 2 ∷ [])) (padded 16 ([])) (padded 16 ([])) (padded 2 ([])) (counts 1 0 0 1)) (refused 4)
+unfolding compare
+case-92 = malformedRight refl refl
+
+-- default's token of an unknown kind, left
+case-93 : Compares (lent (97 ∷ 97 ∷ []) (padded 32 (7 ∷ 0 ∷ 0 ∷ 0 ∷ 44 ∷ 0 ∷ 1 ∷ [])) (padded 16 ([])) (padded 16 ([])) (padded 2 ([])) (counts 1 0 0 1)) (lent (97 ∷ 32 ∷ 43 ∷ 32 ∷ 98 ∷ []) (padded 80 (2 ∷ 0 ∷ 25 ∷ 0 ∷ 1 ∷ 0 ∷ 0 ∷ 0 ∷ 0 ∷ 0 ∷ 0 ∷ 0 ∷ 0 ∷ 0 ∷ 0 ∷ 0 ∷ 2 ∷ 0 ∷ 25 ∷ 4 ∷ 1 ∷ 0 ∷ 0 ∷ 0 ∷ 0 ∷ 0 ∷ 0 ∷ 0 ∷ 0 ∷ 0 ∷ 0 ∷ 0 ∷ 3 ∷ 2 ∷ 4 ∷ 2 ∷ 1 ∷ 0 ∷ 1 ∷ [])) (padded 40 ([])) (padded 40 ([])) (padded 5 (2 ∷ [])) (counts 3 0 0 1)) (refused 4)
+unfolding compare
+case-93 = malformedLeft refl refl
+
+-- default's token of an unknown kind, right
+case-94 : Compares (lent (97 ∷ 32 ∷ 43 ∷ 32 ∷ 98 ∷ []) (padded 80 (2 ∷ 0 ∷ 25 ∷ 0 ∷ 1 ∷ 0 ∷ 0 ∷ 0 ∷ 0 ∷ 0 ∷ 0 ∷ 0 ∷ 0 ∷ 0 ∷ 0 ∷ 0 ∷ 2 ∷ 0 ∷ 25 ∷ 4 ∷ 1 ∷ 0 ∷ 0 ∷ 0 ∷ 0 ∷ 0 ∷ 0 ∷ 0 ∷ 0 ∷ 0 ∷ 0 ∷ 0 ∷ 3 ∷ 2 ∷ 4 ∷ 2 ∷ 1 ∷ 0 ∷ 1 ∷ [])) (padded 40 ([])) (padded 40 ([])) (padded 5 (2 ∷ [])) (counts 3 0 0 1)) (lent (97 ∷ 97 ∷ []) (padded 32 (7 ∷ 0 ∷ 0 ∷ 0 ∷ 44 ∷ 0 ∷ 1 ∷ [])) (padded 16 ([])) (padded 16 ([])) (padded 2 ([])) (counts 1 0 0 1)) (refused 4)
+unfolding compare
+case-94 = malformedRight refl refl
+
+-- nodes one cell short, left
+case-95 : Compares (lent (97 ∷ 97 ∷ []) (padded 31 (15 ∷ [])) (padded 16 ([])) (padded 16 ([])) (padded 2 ([])) (counts 1 0 0 1)) (lent (97 ∷ 32 ∷ 43 ∷ 32 ∷ 98 ∷ []) (padded 80 (2 ∷ 0 ∷ 25 ∷ 0 ∷ 1 ∷ 0 ∷ 0 ∷ 0 ∷ 0 ∷ 0 ∷ 0 ∷ 0 ∷ 0 ∷ 0 ∷ 0 ∷ 0 ∷ 2 ∷ 0 ∷ 25 ∷ 4 ∷ 1 ∷ 0 ∷ 0 ∷ 0 ∷ 0 ∷ 0 ∷ 0 ∷ 0 ∷ 0 ∷ 0 ∷ 0 ∷ 0 ∷ 3 ∷ 2 ∷ 4 ∷ 2 ∷ 1 ∷ 0 ∷ 1 ∷ [])) (padded 40 ([])) (padded 40 ([])) (padded 5 (2 ∷ [])) (counts 3 0 0 1)) (refused 2)
+unfolding compare
+case-95 = refusedLent refl
+
+-- nodes one cell short, right
+case-96 : Compares (lent (97 ∷ 32 ∷ 43 ∷ 32 ∷ 98 ∷ []) (padded 80 (2 ∷ 0 ∷ 25 ∷ 0 ∷ 1 ∷ 0 ∷ 0 ∷ 0 ∷ 0 ∷ 0 ∷ 0 ∷ 0 ∷ 0 ∷ 0 ∷ 0 ∷ 0 ∷ 2 ∷ 0 ∷ 25 ∷ 4 ∷ 1 ∷ 0 ∷ 0 ∷ 0 ∷ 0 ∷ 0 ∷ 0 ∷ 0 ∷ 0 ∷ 0 ∷ 0 ∷ 0 ∷ 3 ∷ 2 ∷ 4 ∷ 2 ∷ 1 ∷ 0 ∷ 1 ∷ [])) (padded 40 ([])) (padded 40 ([])) (padded 5 (2 ∷ [])) (counts 3 0 0 1)) (lent (97 ∷ 97 ∷ []) (padded 31 (15 ∷ [])) (padded 16 ([])) (padded 16 ([])) (padded 2 ([])) (counts 1 0 0 1)) (refused 2)
+unfolding compare
+case-96 = refusedLent refl
+
+-- types one cell short, left
+case-97 : Compares (lent (97 ∷ 97 ∷ []) (padded 32 (15 ∷ [])) (padded 15 ([])) (padded 16 ([])) (padded 2 ([])) (counts 1 0 0 1)) (lent (97 ∷ 32 ∷ 43 ∷ 32 ∷ 98 ∷ []) (padded 80 (2 ∷ 0 ∷ 25 ∷ 0 ∷ 1 ∷ 0 ∷ 0 ∷ 0 ∷ 0 ∷ 0 ∷ 0 ∷ 0 ∷ 0 ∷ 0 ∷ 0 ∷ 0 ∷ 2 ∷ 0 ∷ 25 ∷ 4 ∷ 1 ∷ 0 ∷ 0 ∷ 0 ∷ 0 ∷ 0 ∷ 0 ∷ 0 ∷ 0 ∷ 0 ∷ 0 ∷ 0 ∷ 3 ∷ 2 ∷ 4 ∷ 2 ∷ 1 ∷ 0 ∷ 1 ∷ [])) (padded 40 ([])) (padded 40 ([])) (padded 5 (2 ∷ [])) (counts 3 0 0 1)) (refused 2)
+unfolding compare
+case-97 = refusedLent refl
+
+-- types one cell short, right
+case-98 : Compares (lent (97 ∷ 32 ∷ 43 ∷ 32 ∷ 98 ∷ []) (padded 80 (2 ∷ 0 ∷ 25 ∷ 0 ∷ 1 ∷ 0 ∷ 0 ∷ 0 ∷ 0 ∷ 0 ∷ 0 ∷ 0 ∷ 0 ∷ 0 ∷ 0 ∷ 0 ∷ 2 ∷ 0 ∷ 25 ∷ 4 ∷ 1 ∷ 0 ∷ 0 ∷ 0 ∷ 0 ∷ 0 ∷ 0 ∷ 0 ∷ 0 ∷ 0 ∷ 0 ∷ 0 ∷ 3 ∷ 2 ∷ 4 ∷ 2 ∷ 1 ∷ 0 ∷ 1 ∷ [])) (padded 40 ([])) (padded 40 ([])) (padded 5 (2 ∷ [])) (counts 3 0 0 1)) (lent (97 ∷ 97 ∷ []) (padded 32 (15 ∷ [])) (padded 15 ([])) (padded 16 ([])) (padded 2 ([])) (counts 1 0 0 1)) (refused 2)
+unfolding compare
+case-98 = refusedLent refl
+
+-- lists one cell short, left
+case-99 : Compares (lent (97 ∷ 97 ∷ []) (padded 32 (15 ∷ [])) (padded 16 ([])) (padded 15 ([])) (padded 2 ([])) (counts 1 0 0 1)) (lent (97 ∷ 32 ∷ 43 ∷ 32 ∷ 98 ∷ []) (padded 80 (2 ∷ 0 ∷ 25 ∷ 0 ∷ 1 ∷ 0 ∷ 0 ∷ 0 ∷ 0 ∷ 0 ∷ 0 ∷ 0 ∷ 0 ∷ 0 ∷ 0 ∷ 0 ∷ 2 ∷ 0 ∷ 25 ∷ 4 ∷ 1 ∷ 0 ∷ 0 ∷ 0 ∷ 0 ∷ 0 ∷ 0 ∷ 0 ∷ 0 ∷ 0 ∷ 0 ∷ 0 ∷ 3 ∷ 2 ∷ 4 ∷ 2 ∷ 1 ∷ 0 ∷ 1 ∷ [])) (padded 40 ([])) (padded 40 ([])) (padded 5 (2 ∷ [])) (counts 3 0 0 1)) (refused 2)
+unfolding compare
+case-99 = refusedLent refl
+
+-- lists one cell short, right
+case-100 : Compares (lent (97 ∷ 32 ∷ 43 ∷ 32 ∷ 98 ∷ []) (padded 80 (2 ∷ 0 ∷ 25 ∷ 0 ∷ 1 ∷ 0 ∷ 0 ∷ 0 ∷ 0 ∷ 0 ∷ 0 ∷ 0 ∷ 0 ∷ 0 ∷ 0 ∷ 0 ∷ 2 ∷ 0 ∷ 25 ∷ 4 ∷ 1 ∷ 0 ∷ 0 ∷ 0 ∷ 0 ∷ 0 ∷ 0 ∷ 0 ∷ 0 ∷ 0 ∷ 0 ∷ 0 ∷ 3 ∷ 2 ∷ 4 ∷ 2 ∷ 1 ∷ 0 ∷ 1 ∷ [])) (padded 40 ([])) (padded 40 ([])) (padded 5 (2 ∷ [])) (counts 3 0 0 1)) (lent (97 ∷ 97 ∷ []) (padded 32 (15 ∷ [])) (padded 16 ([])) (padded 15 ([])) (padded 2 ([])) (counts 1 0 0 1)) (refused 2)
+unfolding compare
+case-100 = refusedLent refl
+
+-- roots one cell short, left
+case-101 : Compares (lent (97 ∷ 97 ∷ []) (padded 32 (15 ∷ [])) (padded 16 ([])) (padded 16 ([])) (padded 1 ([])) (counts 1 0 0 1)) (lent (97 ∷ 32 ∷ 43 ∷ 32 ∷ 98 ∷ []) (padded 80 (2 ∷ 0 ∷ 25 ∷ 0 ∷ 1 ∷ 0 ∷ 0 ∷ 0 ∷ 0 ∷ 0 ∷ 0 ∷ 0 ∷ 0 ∷ 0 ∷ 0 ∷ 0 ∷ 2 ∷ 0 ∷ 25 ∷ 4 ∷ 1 ∷ 0 ∷ 0 ∷ 0 ∷ 0 ∷ 0 ∷ 0 ∷ 0 ∷ 0 ∷ 0 ∷ 0 ∷ 0 ∷ 3 ∷ 2 ∷ 4 ∷ 2 ∷ 1 ∷ 0 ∷ 1 ∷ [])) (padded 40 ([])) (padded 40 ([])) (padded 5 (2 ∷ [])) (counts 3 0 0 1)) (refused 2)
+unfolding compare
+case-101 = refusedLent refl
+
+-- roots one cell short, right
+case-102 : Compares (lent (97 ∷ 32 ∷ 43 ∷ 32 ∷ 98 ∷ []) (padded 80 (2 ∷ 0 ∷ 25 ∷ 0 ∷ 1 ∷ 0 ∷ 0 ∷ 0 ∷ 0 ∷ 0 ∷ 0 ∷ 0 ∷ 0 ∷ 0 ∷ 0 ∷ 0 ∷ 2 ∷ 0 ∷ 25 ∷ 4 ∷ 1 ∷ 0 ∷ 0 ∷ 0 ∷ 0 ∷ 0 ∷ 0 ∷ 0 ∷ 0 ∷ 0 ∷ 0 ∷ 0 ∷ 3 ∷ 2 ∷ 4 ∷ 2 ∷ 1 ∷ 0 ∷ 1 ∷ [])) (padded 40 ([])) (padded 40 ([])) (padded 5 (2 ∷ [])) (counts 3 0 0 1)) (lent (97 ∷ 97 ∷ []) (padded 32 (15 ∷ [])) (padded 16 ([])) (padded 16 ([])) (padded 1 ([])) (counts 1 0 0 1)) (refused 2)
+unfolding compare
+case-102 = refusedLent refl
+
+-- 2 on the right before 4 on the left
+case-103 : Compares (lent (97 ∷ []) (padded 16 (15 ∷ [])) (padded 8 ([])) (padded 8 ([])) (padded 1 ([])) (counts 1 0 0 1)) (lent (97 ∷ 97 ∷ []) (padded 32 ([])) (padded 16 ([])) (padded 16 ([])) (padded 1 ([])) (counts 0 0 0 0)) (refused 2)
+unfolding compare
+case-103 = refusedLent refl
+
+-- 1 on the right before 2 on the left
+case-104 : Compares (lent (97 ∷ 97 ∷ []) (padded 1 ([])) (padded 1 ([])) (padded 1 ([])) (padded 1 ([])) (counts 0 0 0 0)) (lent (replicate 65537 32) (padded 1 ([])) (padded 1 ([])) (padded 1 ([])) (padded 1 ([])) (counts 0 0 0 0)) (refused 1)
+unfolding compare
+case-104 = refusedLent refl
+
+-- 65,536 bytes on the right
+case-105 : Compares (lent (97 ∷ 32 ∷ 43 ∷ 32 ∷ 98 ∷ []) (padded 80 (2 ∷ 0 ∷ 25 ∷ 0 ∷ 1 ∷ 0 ∷ 0 ∷ 0 ∷ 0 ∷ 0 ∷ 0 ∷ 0 ∷ 0 ∷ 0 ∷ 0 ∷ 0 ∷ 2 ∷ 0 ∷ 25 ∷ 4 ∷ 1 ∷ 0 ∷ 0 ∷ 0 ∷ 0 ∷ 0 ∷ 0 ∷ 0 ∷ 0 ∷ 0 ∷ 0 ∷ 0 ∷ 3 ∷ 2 ∷ 4 ∷ 2 ∷ 1 ∷ 0 ∷ 1 ∷ [])) (padded 40 ([])) (padded 40 ([])) (padded 5 (2 ∷ [])) (counts 3 0 0 1)) (lent (replicate 65536 32) (padded 1 ([])) (padded 1 ([])) (padded 1 ([])) (padded 1 ([])) (counts 0 0 0 0)) (refused 2)
+unfolding compare
+case-105 = refusedLent refl
