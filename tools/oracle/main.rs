@@ -3,6 +3,8 @@
 //! oracle [--limit] MODE          one script on standard input
 //! oracle [--limit] batch MODE    a framed list: for each script its length in decimal, LF, its bytes, LF
 //!
+//! MODE is one of these, or several with commas between them; then the line `(MODE)` stands before the answer of each.
+//!
 //! strict, collect   the listing; an error of strict mode or a refusal is its only line
 //! tokens            what the lexer yields in order, tokens and faults
 //! starts            of each node its start, of each type its token
@@ -383,19 +385,26 @@ fn answer(mode: &str, limit: bool, script: &[u8]) -> String {
     }
 }
 
-fn run(mode: &str, batch: bool, limit: bool) -> std::io::Result<()> {
+fn answers(modes: &[String], limit: bool, script: &[u8]) -> String {
+    match modes {
+        [mode] => answer(mode, limit, script),
+        _ => modes.iter().map(|mode| format!("({mode})\n{}", answer(mode, limit, script))).collect(),
+    }
+}
+
+fn run(modes: &[String], batch: bool, limit: bool) -> std::io::Result<()> {
     let mut input = Vec::new();
     std::io::stdin().read_to_end(&mut input)?;
     let mut out = std::io::BufWriter::new(std::io::stdout());
     if !batch {
-        out.write_all(answer(mode, limit, &input).as_bytes())?;
+        out.write_all(answers(modes, limit, &input).as_bytes())?;
         return out.flush();
     }
     let mut rest = &input[..];
     while !rest.is_empty() {
         let i = CURRENT.load(Ordering::Relaxed);
         let script = next_script(&mut rest).unwrap_or_else(|| die("the list is not framed"));
-        write!(out, "(script {i})\n{}", answer(mode, limit, script))?;
+        write!(out, "(script {i})\n{}", answers(modes, limit, script))?;
         CURRENT.store(i + 1, Ordering::Relaxed);
     }
     out.flush()
@@ -416,11 +425,11 @@ fn main() {
     let batch = words.first().is_some_and(|w| w == "batch");
     let rest = &words[usize::from(batch)..];
     let [mode] = rest else { usage() };
-    if !["strict", "collect", "tokens", "starts", "struck"].contains(&mode.as_str()) {
+    let modes: Vec<String> = mode.split(',').map(str::to_string).collect();
+    if modes.iter().any(|mode| !["strict", "collect", "tokens", "starts", "struck"].contains(&mode.as_str())) {
         usage()
     }
-    let mode = mode.clone();
-    let reader = std::thread::Builder::new().stack_size(STACK).spawn(move || run(&mode, batch, limit));
+    let reader = std::thread::Builder::new().stack_size(STACK).spawn(move || run(&modes, batch, limit));
     match reader.expect("a thread").join() {
         Ok(Ok(())) => {}
         Ok(Err(error)) => die(&error.to_string()),
@@ -429,6 +438,6 @@ fn main() {
 }
 
 fn usage() -> ! {
-    eprintln!("usage: oracle [--limit] [batch] strict|collect|tokens|starts|struck");
+    eprintln!("usage: oracle [--limit] [batch] MODE[,MODE..], each strict, collect, tokens, starts or struck");
     std::process::exit(2)
 }

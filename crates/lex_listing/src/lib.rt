@@ -76,12 +76,18 @@ fn print_number(n: u64) {
     io::print_decimal(STDOUT_FILENO, n);
 }
 
-fn print_token(t: Token) {
+// Kind, start and length in round brackets.
+pub fn print_token(t: Token) {
     io::write_all(STDOUT_FILENO, b"(");
     print_kind(t.kind);
     print_number(t.start as u64);
     print_number(t.len as u64);
-    io::write_all(STDOUT_FILENO, b")\n");
+    io::write_all(STDOUT_FILENO, b")");
+}
+
+fn print_token_line(t: Token) {
+    print_token(t);
+    io::write_all(STDOUT_FILENO, b"\n");
 }
 
 // A fault as an error of five numbers; a fault wants nothing.
@@ -101,7 +107,7 @@ pub fn print_script(script: &[u8]) {
     loop {
         match lex::step(script, p) {
             Step::Token { token, next } => {
-                print_token(token);
+                print_token_line(token);
                 p = next;
             }
             Step::Fault { fault, next } => {
@@ -109,7 +115,7 @@ pub fn print_script(script: &[u8]) {
                 p = next;
             }
             Step::End { at } => {
-                print_token(Token {
+                print_token_line(Token {
                     kind: Type::EOF,
                     start: at,
                     len: 3,

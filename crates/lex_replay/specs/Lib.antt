@@ -1,2 +1,0 @@
--- What the frames of the input are held to.
-pub mod Frame
