@@ -51,7 +51,7 @@ fn write_refused(n: u32) {
     write_number(n as u64);
 }
 
-// ---- what a case says. Where a number is missing or malformed, 0 is taken, and the answer differs from what is expected.
+// ---- what a case says. Where a number is missing or malformed, 0 is taken: what is written is held to `stdout`.
 
 fn read_up_to(limit: usize) -> usize
     ensures { λ r. ⌜ r ≤ limit ⌝ }
@@ -66,7 +66,7 @@ fn read_cell() -> u32 {
     read_up_to(4294967295) as u32
 }
 
-// A script: how many bytes are lent, and those that are no blanks behind the others.
+// A script: how many bytes are lent, and the first of them as a frame. The others are blanks.
 fn read_script(script: &mut [u8]) -> usize
     ensures { λ r. ⌜ Counted r (now (script .exit)) ⌝ }
 {
