@@ -1,0 +1,80 @@
+-- Answers as numbers: what is returned, and the cells that are written.
+use mathlib.Core.Path.{_≡_}
+use mathlib.Core.Bool.{Bool, true, false}
+use mathlib.Core.Option.{Option, none, some}
+use mathlib.Core.List.{List, [], _∷_, _++_}
+use Prim.Native.Nat.{ℕ}
+use lib.ListN.{getD}
+use Rattle.rules.specs.Layout.{diagnosticCells}
+use Rattle.rules.specs.Promise.{Arrays, Outcome, Numbers, numbersOf}
+use Rattle.rules.specs.declared.Counts.{Counts}
+use Rattle.rules.specs.declared.Parsed.{Parsed}
+use Rattle.rules.specs.declared.Parsed.the-variants as P
+use Rattle.ast.specs.Answer.{Answer, refused, answer, Lent}
+use Rattle.ast.specs.declared.diagnostic.Span.{Span}
+use Rattle.ast.specs.declared.diagnostic.Place.{Place}
+use Rattle.same.specs.Compare.{Compares}
+
+-- ---- a reading
+
+abbrev pub countCells : Counts → List ℕ
+countCells c = c .nodes ∷ c .types ∷ c .cells ∷ c .roots ∷ c .values ∷ c .diagnostics ∷ []
+
+abbrev pub countsAt : List ℕ → Counts
+countsAt cs = record { nodes = getD cs 0 0; types = getD cs 1 0; cells = getD cs 2 0; roots = getD cs 3 0; values = getD cs 4 0; diagnostics = getD cs 5 0 }
+
+-- the number, the five numbers of an error, the six counts
+unfoldable pub numberCells : Numbers → List ℕ
+numberCells n = n .number ∷ diagnosticCells (n .error) ++ countCells (n .counts)
+
+-- a refusal changes nothing that is lent
+unfoldable pub written : Parsed → List ℕ → List ℕ
+written (P.Tree c) out = numberCells (numbersOf (P.Tree c))
+written (P.Error e) out = numberCells (numbersOf (P.Error e))
+written (P.Refused n) out = out
+
+pub record Returned : Type 0 where
+  pub number : ℕ
+  pub numbers : List ℕ
+  pub arrays : Arrays
+
+unfoldable pub asNumbers : Outcome → List ℕ → Returned
+asNumbers o out = record { number = numbersOf (o .answer) .number; numbers = written (o .answer) out; arrays = o .arrays }
+
+-- ---- a lookup or a comparison
+
+-- 0 where there is an answer
+unfoldable pub numberOf : {A : Type 0} → Answer A → ℕ
+numberOf (refused n) = n
+numberOf (answer a) = 0
+
+-- the cells of the answer; a refusal changes nothing that is lent
+unfoldable pub told : {A : Type 0} → (A → List ℕ) → Answer A → List ℕ → List ℕ
+told cells (refused n) out = out
+told cells (answer a) out = cells a
+
+-- the number that is returned, and what is lent for the answer before and after
+abbrev pub Told : {A : Type 0} → (A → List ℕ) → Answer A → ℕ → List ℕ → List ℕ → Type 0
+Told cells a r out out′ = (r ≡ numberOf a) × (out′ ≡ told cells a out)
+
+-- whether there is a start, and the start
+unfoldable pub startCells : Option ℕ → List ℕ
+startCells none = 0 ∷ 0 ∷ []
+startCells (some p) = 1 ∷ p ∷ []
+
+unfoldable pub spanCells : Span → List ℕ
+spanCells s = s .start ∷ s .len ∷ []
+
+unfoldable pub placeCells : Place → List ℕ
+placeCells p = p .line ∷ p .column ∷ []
+
+-- 1 for yes, 0 for no
+unfoldable pub yesCells : Bool → List ℕ
+yesCells true = 1 ∷ []
+yesCells false = 0 ∷ []
+
+-- the right answer, told; `compares-once` has that there is only one
+pub record ComparisonTold (a b : Lent) (r : ℕ) (out out′ : List ℕ) : Type 0 where
+  pub is : Answer Bool
+  pub right : Compares a b is
+  pub told : Told yesCells is r out out′

@@ -1,0 +1,238 @@
+// The reader for programs in other languages: readings, lookups and comparison on numbers and slices.
+use ast::diagnostic::Position;
+use ast::diagnostic::Span;
+use ast::diagnostic::SpanRead;
+use ast::diagnostic::line_column;
+use ast::lookup::Start;
+use ast::lookup::TypeToken;
+use ast::lookup::node_start;
+use ast::lookup::type_token;
+use lex::Token;
+use parser::parse;
+use rules::Counts;
+use rules::NodeId;
+use rules::Parsed;
+use rules::TypeExprId;
+use same::Comparison;
+use same::same_shape;
+ghost use mathlib.Core.Path.{_≡_};
+ghost use Rattle.rules.specs.Rules.{stageOne};
+ghost use Rattle.rules.specs.Combinators.{tokenCells};
+ghost use Rattle.rules.specs.Parse.{parse};
+ghost use Rattle.rules.specs.Promise.{promised};
+ghost use Rattle.parser.specs.Whole.{arrays};
+ghost use Rattle.ast.specs.Answer.{lent};
+ghost use Rattle.ast.specs.Lookup.{nodeStart, typeToken};
+ghost use Rattle.ast.specs.Span.{tokenSpan};
+ghost use Rattle.ast.specs.Position.{placeAt};
+ghost use Rattle.reader_c.specs.Numbers.{countsAt, asNumbers, startCells, spanCells, placeCells, Told, ComparisonTold};
+
+// Strict reading. `numbers` gets its number, the five numbers of an error and the six counts, and keeps what it has where the call is refused.
+#[no_mangle]
+pub extern "C" fn purple_garden_parse(
+    script: &[u8],
+    nodes: &mut [u32],
+    types: &mut [u32],
+    lists: &mut [u32],
+    roots: &mut [u32],
+    diagnostics: &mut [u32],
+    numbers: &mut [u32; 12],
+) -> u32
+    ensures { λ r. ⌜ asNumbers (promised (parse stageOne) (now (script .entry)) (arrays (now (nodes .entry)) (now (types .entry)) (now (lists .entry)) (now (roots .entry)) (now (diagnostics .entry)))) (now (numbers .entry)) ≡ record { number = r; numbers = now (numbers .exit); arrays = arrays (now (nodes .exit)) (now (types .exit)) (now (lists .exit)) (now (roots .exit)) (now (diagnostics .exit)) } ⌝ }
+{
+    match parse(script, nodes, types, lists, roots, diagnostics) {
+        Parsed::Tree(c) => {
+            *numbers = [
+                0,
+                0,
+                0,
+                0,
+                0,
+                0,
+                c.nodes,
+                c.types,
+                c.cells,
+                c.roots,
+                c.values,
+                c.diagnostics,
+            ];
+            0
+        }
+        Parsed::Error(d) => {
+            *numbers = [
+                d.number,
+                d.number,
+                d.start,
+                d.len,
+                d.wanted,
+                d.seen,
+                0,
+                0,
+                0,
+                0,
+                0,
+                0,
+            ];
+            d.number
+        }
+        Parsed::Refused(n) => n,
+    }
+}
+
+fn counts_of(counts: &[u32; 6]) -> Counts
+    ensures { λ r. ⌜ r ≡ countsAt (now (counts .entry)) ⌝ }
+{
+    Counts {
+        nodes: counts[0],
+        types: counts[1],
+        cells: counts[2],
+        roots: counts[3],
+        values: counts[4],
+        diagnostics: counts[5],
+    }
+}
+
+// Where a node starts: `start` gets 1 and the start, or 0 and 0 where the node has none.
+#[no_mangle]
+pub extern "C" fn purple_garden_node_start(
+    script: &[u8],
+    nodes: &[u32],
+    types: &[u32],
+    lists: &[u32],
+    roots: &[u32],
+    counts: &[u32; 6],
+    node: u32,
+    start: &mut [u64; 2],
+) -> u32
+    ensures { λ r. ⌜ Told startCells (nodeStart (lent (now (script .entry)) (now (nodes .entry)) (now (types .entry)) (now (lists .entry)) (now (roots .entry)) (countsAt (now (counts .entry)))) node) r (now (start .entry)) (now (start .exit)) ⌝ }
+{
+    match node_start(
+        script,
+        nodes,
+        types,
+        lists,
+        roots,
+        counts_of(counts),
+        NodeId(node),
+    ) {
+        Start::At(p) => {
+            *start = [1, p as u64];
+            0
+        }
+        Start::Nothing => {
+            *start = [0, 0];
+            0
+        }
+        Start::Refused(n) => n,
+    }
+}
+
+// The token of a type: `token` gets its kind, start and length.
+#[no_mangle]
+pub extern "C" fn purple_garden_type_token(
+    script: &[u8],
+    nodes: &[u32],
+    types: &[u32],
+    lists: &[u32],
+    roots: &[u32],
+    counts: &[u32; 6],
+    ty: u32,
+    token: &mut [u64; 3],
+) -> u32
+    ensures { λ r. ⌜ Told tokenCells (typeToken (lent (now (script .entry)) (now (nodes .entry)) (now (types .entry)) (now (lists .entry)) (now (roots .entry)) (countsAt (now (counts .entry)))) ty) r (now (token .entry)) (now (token .exit)) ⌝ }
+{
+    match type_token(
+        script,
+        nodes,
+        types,
+        lists,
+        roots,
+        counts_of(counts),
+        TypeExprId(ty),
+    ) {
+        TypeToken::Found(t) => {
+            *token = [t.kind as u64, t.start as u64, t.len as u64];
+            0
+        }
+        TypeToken::Refused(n) => n,
+    }
+}
+
+// The span of a token: `span` gets its start and length.
+#[no_mangle]
+pub extern "C" fn purple_garden_token_span(
+    script: &[u8],
+    kind: u32,
+    start: usize,
+    len: usize,
+    span: &mut [u64; 2],
+) -> u32
+    ensures { λ r. ⌜ Told spanCells (tokenSpan (now (script .entry)) (record { kind = kind; start = start; len = len })) r (now (span .entry)) (now (span .exit)) ⌝ }
+{
+    match Span::from_token(script, Token { kind, start, len }) {
+        SpanRead::Found(s) => {
+            *span = [s.start as u64, s.len as u64];
+            0
+        }
+        SpanRead::Refused(n) => n,
+    }
+}
+
+// The line and column of a byte position: `place` gets both.
+#[no_mangle]
+pub extern "C" fn purple_garden_line_column(script: &[u8], at: u32, place: &mut [u64; 2]) -> u32
+    ensures { λ r. ⌜ Told placeCells (placeAt (now (script .entry)) at) r (now (place .entry)) (now (place .exit)) ⌝ }
+{
+    match line_column(script, at) {
+        Position::At(p) => {
+            *place = [p.line as u64, p.column as u64];
+            0
+        }
+        Position::Refused(n) => n,
+    }
+}
+
+// Two trees have the same shape: `same` gets 1 for yes and 0 for no.
+#[no_mangle]
+pub extern "C" fn purple_garden_same_shape(
+    script: &[u8],
+    nodes: &[u32],
+    types: &[u32],
+    lists: &[u32],
+    roots: &[u32],
+    counts: &[u32; 6],
+    script2: &[u8],
+    nodes2: &[u32],
+    types2: &[u32],
+    lists2: &[u32],
+    roots2: &[u32],
+    counts2: &[u32; 6],
+    same: &mut [u64; 1],
+) -> u32
+    ensures { λ r. ⌜ ComparisonTold (lent (now (script .entry)) (now (nodes .entry)) (now (types .entry)) (now (lists .entry)) (now (roots .entry)) (countsAt (now (counts .entry)))) (lent (now (script2 .entry)) (now (nodes2 .entry)) (now (types2 .entry)) (now (lists2 .entry)) (now (roots2 .entry)) (countsAt (now (counts2 .entry)))) r (now (same .entry)) (now (same .exit)) ⌝ }
+{
+    match same_shape(
+        script,
+        nodes,
+        types,
+        lists,
+        roots,
+        counts_of(counts),
+        script2,
+        nodes2,
+        types2,
+        lists2,
+        roots2,
+        counts_of(counts2),
+    ) {
+        Comparison::Same => {
+            *same = [1];
+            0
+        }
+        Comparison::Different => {
+            *same = [0];
+            0
+        }
+        Comparison::Refused(n) => n,
+    }
+}
