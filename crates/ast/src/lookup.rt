@@ -2,8 +2,10 @@
 use crate::layout::NodeRead;
 use crate::layout::TypeRead;
 use crate::layout::token_at;
+use lex::Found;
 use lex::Token;
 use lex::Type;
+use lex::spelling;
 use rules::Counts;
 use rules::Node;
 use rules::NodeId;
@@ -11,9 +13,8 @@ use rules::Run;
 use rules::TypeExpr;
 use rules::TypeExprId;
 ghost use mathlib.Core.Path.{_≡_};
-ghost use Prim.Native.Nat.{_+_, _<_, _≤_};
-ghost use lib.ListN.{length, take};
-ghost use Rattle.lex.specs.Spelling.{spellingStart};
+ghost use Prim.Native.Nat.{_≤_};
+ghost use lib.ListN.{take};
 ghost use Rattle.rules.specs.Shape.{wellFormed};
 ghost use Rattle.ast.specs.Decode.{nodeAt, typeAt};
 ghost use Rattle.ast.specs.Answer.{lent, refusal as refusalOf};
@@ -43,56 +44,14 @@ const NOTHING: u64 = 4294967296;
 // A script has at most so many bytes.
 pub const MAX_BYTES: usize = 65536;
 
-const BLANK: u8 = 32;
-
-// How far behind its start a token's spelling begins.
-pub fn spelling_offset(script: &[u8], t: Token) -> usize
-    ensures { λ r. ⌜ (t .start + r ≡ spellingStart (now (script .entry)) t) × (r ≤ 3) ⌝ }
-{
-    if t.kind == Type::S {
-        return 1;
-    }
-    if t.kind == Type::DOC {
-        let start = t.start;
-        if start < script.len() {
-            if 2 < script.len() - start {
-                if script[start + 2] == BLANK {
-                    return 3;
-                }
-            }
-        }
-        return 2;
-    }
-    0
-}
-
-// The kind is known, and a spelling from the script lies in it.
-pub fn well_formed(script: &[u8], t: Token) -> bool
+// The kind is known, and a spelling from the script lies in it. A known kind has one of these, or a fixed one.
+pub(crate) fn well_formed(script: &[u8], t: Token) -> bool
     ensures { λ r. ⌜ r ≡ wellFormed (now (script .entry)) t ⌝ }
 {
-    let kind = t.kind;
-    if kind < Type::EOF {
-        return false;
+    match spelling(script, t) {
+        Found::At(_) => true,
+        Found::Nothing => 0 < Type::spelling_len(t.kind),
     }
-    if Type::RECORD < kind {
-        return false;
-    }
-    if kind < Type::S {
-        return true;
-    }
-    if Type::DOC < kind {
-        return true;
-    }
-    let start = t.start;
-    if script.len() < start {
-        return false;
-    }
-    let left = script.len() - start;
-    let offset = spelling_offset(script, t);
-    if left < offset {
-        return false;
-    }
-    t.len <= left - offset
 }
 
 // 1 or 2 where the call is refused for what is lent, else 0.

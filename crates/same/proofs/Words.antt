@@ -3,98 +3,91 @@ use mathlib.Core.Path.{_≡_, refl, sym, _∙_, ap, ap₂}
 use mathlib.Core.Bool.{Bool, true, false}
 use mathlib.Core.Option.{Option, none, some}
 use mathlib.Core.List.{List, [], _∷_}
-use Prim.Native.Nat.{ℕ, zero, suc, _+_, _*_, _-_, _<_, _≤_}
+use Prim.Native.Nat.{ℕ}
 use native.Mathlib.Omega.{arith}
-use native.Mathlib.Nat.{add-sub-cancel-left}
-use lib.Dec.{leb, eqb}
-use lib.ListN.{length, getD, take, drop}
-use borrow.Author.Tests.{le-leb, lt-leb, leb-true, eq-eqb, eqb-true}
-use Rattle.lex.specs.Kind.{sameBytes}
-use Rattle.lex.specs.Spelling.{hasSpelling, spellingStart}
-use Rattle.rules.specs.Shape.{Word, wordOf, wellFormed, word}
+use lib.Dec.{ltb, eqb}
+use lib.ListN.{length, take, drop}
+use borrow.Author.Tests.{eq-eqb, eqb-true}
+use Rattle.lex.specs.Kind.{sameBytes, fixedSpelling}
+use Rattle.lex.specs.Spelling.{hasSpelling, spelling}
+use Rattle.lex.specs.declared.byte_search.Found.the-variants.{At, Nothing}
 use Rattle.lex.specs.declared.tok.Token.{Token}
-use Rattle.ast.specs.Decode.{if}
-use Rattle.ast.proofs.Tokens.{wellFormed-spelled, hasSpelling-below, hasSpelling-above, hasSpelling-inside}
+use Rattle.lex.proofs.Laws.{cases}
+use Rattle.lex.proofs.Spellings.{spelling-other, spelling-found}
+use Rattle.rules.specs.Shape.{Word, wordOf, wellFormed, word}
+use Rattle.ast.proofs.Tokens.{fixed-is, wellFormed-found, wellFormed-nothing}
 use Rattle.same.specs.Agree.{Agree, Decides}
 use Rattle.same.proofs.Agree.{decides-yes, decides-no, decides-by}
 
+abbrev spelled : ℕ → List ℕ → Word
+spelled k bs = record { kind = k; spelling = bs }
+
+hasFixed : ℕ → Bool
+hasFixed k = ltb 0 (length (fixedSpelling k))
+
 module _ (s : List ℕ) (t : Token) where
-  pub word-wellFormed : wellFormed s t ≡ true → word s t ≡ some (wordOf s t)
-  unfolding word
-  word-wellFormed e = rw (e, word)
+  -- a kind whose spelling is found has one of its own
+  found-own : (i : ℕ) → spelling s t ≡ At i → hasSpelling (t .kind) ≡ true
+  found-own i e = go (hasSpelling (t .kind)) refl
+    where
+      go : (b : Bool) → hasSpelling (t .kind) ≡ b → b ≡ true
+      go true h = refl
+      go false h = let n : spelling s t ≡ Nothing = spelling-other s t h in let z : _≡_ {A = ℕ} 0 1 = cc in absurd (omega arith)
 
-  pub word-not : wellFormed s t ≡ false → word s t ≡ none
-  unfolding word
-  word-not e = rw (e, word)
+  word-found : (i : ℕ) → spelling s t ≡ At i → word s t ≡ some (spelled (t .kind) (take (t .len) (drop i s)))
+  unfolding word wordOf
+  word-found i e = rw (wellFormed-found s t i e, word) (rw (found-own i e, spelling-found s t i e .0))
 
-  -- the spelling of a sound token lies in the script
-  pub spelling-inside : wellFormed s t ≡ true → 22 ≤ t .kind → t .kind ≤ 26 → spellingStart s t + t .len ≤ length s
-  spelling-inside e l h = leb-true (spellingStart s t + t .len) (length s) (wellFormed-spelled s t l h ∙ e)
+  word-fixed : hasFixed (t .kind) ≡ true → word s t ≡ some (spelled (t .kind) [])
+  unfolding word wordOf hasFixed
+  word-fixed h = go (hasSpelling (t .kind)) refl
+    where
+      go : (b : Bool) → hasSpelling (t .kind) ≡ b → word s t ≡ some (spelled (t .kind) [])
+      go true o = let z : false ≡ true = sym (rw o at (fixed-is (t .kind))) ∙ h in let n : _≡_ {A = ℕ} 0 1 = cc in absurd (omega arith)
+      go false o = rw (wellFormed-nothing s t (spelling-other s t o) ∙ h, word) (rw o)
 
-  pub wordOf-fixed : hasSpelling (t .kind) ≡ false → wordOf s t ≡ record { kind = t .kind; spelling = [] }
-  unfolding wordOf
-  wordOf-fixed e = rw e
+  word-none : spelling s t ≡ Nothing → hasFixed (t .kind) ≡ false → word s t ≡ none
+  unfolding word hasFixed
+  word-none e h = rw (wellFormed-nothing s t e ∙ h, word)
 
-  pub wordOf-spelled : hasSpelling (t .kind) ≡ true → wordOf s t ≡ record { kind = t .kind; spelling = take (t .len) (drop (spellingStart s t) s) }
-  unfolding wordOf
-  wordOf-spelled e = rw e
+  word-kind : (w : Word) → word s t ≡ some w → w .kind ≡ t .kind
+  unfolding word wordOf
+  word-kind w =
+      cases (λ (o : Option Word). o ≡ some w → w .kind ≡ t .kind) (wellFormed s t)
+      (λ e q. let z : wordOf s t ≡ w = cc in sym (ap (λ (x : Word). x .kind) z))
+      (λ e q. let z : _≡_ {A = ℕ} 0 1 = cc in absurd (omega arith))
 
-fixed : ℕ → Word
-fixed k = record { kind = k; spelling = [] }
-
-spelt : ℕ → List ℕ → Word
-spelt k bs = record { kind = k; spelling = bs }
-
-kindOf : Word → ℕ
-kindOf w = w .kind
-
-spellingOf : Word → List ℕ
-spellingOf w = w .spelling
+-- two that are there agree if they are equal
+agree-some : {A : Type 0} {x y : Option A} (a b : A) {r : Bool} → x ≡ some a → y ≡ some b → Decides r (a ≡ b) → Decides r (Agree x y)
+agree-some a b p q = decides-by (λ (e : a ≡ b). record { it = a; left = p; right = q ∙ ap some (sym e) }) (λ (g : Agree _ _). let l = g .left in let r = g .right in let z : a ≡ b = cc in z)
 
 module _ (s s′ : List ℕ) (t t′ : Token) where
-  -- two sound tokens
-  pub agree-wellFormed : {r : Bool} → wellFormed s t ≡ true → wellFormed s′ t′ ≡ true → Decides r (wordOf s t ≡ wordOf s′ t′) → Decides r (Agree (word s t) (word s′ t′))
-  agree-wellFormed e e′ d = decides-by
-      (λ (p : wordOf s t ≡ wordOf s′ t′). record { it = wordOf s t; left = word-wellFormed s t e; right = word-wellFormed s′ t′ e′ ∙ ap some (sym p) })
-      (λ (b : Agree (word s t) (word s′ t′)). let h = word-wellFormed s t e in let h′ = word-wellFormed s′ t′ e′ in let l = b .left in let r = b .right in cc) d
+  pub agree-kinds : Agree (word s t) (word s′ t′) → t .kind ≡ t′ .kind
+  agree-kinds g = sym (word-kind s t (g .it) (g .left)) ∙ word-kind s′ t′ (g .it) (g .right)
 
-  pub agree-words : wellFormed s t ≡ true → wellFormed s′ t′ ≡ true → Agree (word s t) (word s′ t′) → wordOf s t ≡ wordOf s′ t′
-  agree-words e e′ b = let h = word-wellFormed s t e in let h′ = word-wellFormed s′ t′ e′ in let l = b .left in let r = b .right in cc
+  module _ (k : t .kind ≡ t′ .kind) where
+    pub agree-fixed : spelling s t ≡ Nothing → Decides (ltb 0 (length (fixedSpelling (t .kind)))) (Agree (word s t) (word s′ t′))
+    unfolding hasFixed
+    agree-fixed e = go (hasFixed (t .kind)) refl
+      where
+        go : (b : Bool) → hasFixed (t .kind) ≡ b → Decides b (Agree (word s t) (word s′ t′))
+        go true h = agree-some _ _ (word-fixed s t h) (word-fixed s′ t′ (rw k at h)) (decides-yes (ap (λ (n : ℕ). spelled n []) k))
+        go false h = decides-no (λ g. let l = g .left in let n = word-none s t e h in let z : _≡_ {A = ℕ} 0 1 = cc in omega arith)
 
-  pub agree-left : wellFormed s t ≡ false → Agree (word s t) (word s′ t′) → ⊥
-  agree-left e b = let h = word-not s t e in let l = b .left in let z : _≡_ {A = ℕ} 0 1 = cc in omega arith
+    -- one spelling is found, and the other not
+    pub agree-lost : (i : ℕ) → spelling s t ≡ At i → spelling s′ t′ ≡ Nothing → Agree (word s t) (word s′ t′) → ⊥
+    unfolding hasFixed
+    agree-lost i e e′ g =
+        let o : hasSpelling (t′ .kind) ≡ true = rw k at (found-own s t i e) in
+        let r = g .right in
+        let n = word-none s′ t′ e′ (rw o at (fixed-is (t′ .kind))) in
+        let z : _≡_ {A = ℕ} 0 1 = cc in omega arith
 
-  pub agree-right : wellFormed s′ t′ ≡ false → Agree (word s t) (word s′ t′) → ⊥
-  agree-right e b = let h = word-not s′ t′ e in let l = b .right in let z : _≡_ {A = ℕ} 0 1 = cc in omega arith
-
-  pub wordOf-kind : wordOf s t ≡ wordOf s′ t′ → t .kind ≡ t′ .kind
-  unfolding wordOf kindOf
-  wordOf-kind p = ap kindOf p
-
-  pub wordOf-both-fixed : hasSpelling (t .kind) ≡ false → t .kind ≡ t′ .kind → wordOf s t ≡ wordOf s′ t′
-  unfolding fixed
-  wordOf-both-fixed e k =
-      let e′ : hasSpelling (t′ .kind) ≡ false = rw k at e in
-      wordOf-fixed s t e ∙ ap fixed k ∙ sym (wordOf-fixed s′ t′ e′)
-
-  -- two spellings of one kind
-  pub wordOf-both-spelled : {r : Bool} → hasSpelling (t .kind) ≡ true → t .kind ≡ t′ .kind
-      → (r ≡ true → take (t .len) (drop (spellingStart s t) s) ≡ take (t′ .len) (drop (spellingStart s′ t′) s′))
-      → (take (t .len) (drop (spellingStart s t) s) ≡ take (t′ .len) (drop (spellingStart s′ t′) s′) → r ≡ true)
-      → Decides r (wordOf s t ≡ wordOf s′ t′)
-  unfolding spellingOf spelt
-  wordOf-both-spelled e k f g =
-      let e′ : hasSpelling (t′ .kind) ≡ true = rw k at e in
-      let a = wordOf-spelled s t e in
-      let b = wordOf-spelled s′ t′ e′ in
-      record {
-        holds = λ z. a ∙ ap (λ (x : ℕ). spelt x (take (t .len) (drop (spellingStart s t) s))) k ∙ ap (spelt (t′ .kind)) (f z) ∙ sym b;
-        back = λ p. g (ap spellingOf (sym a ∙ p ∙ b));
-      }
-
--- the part of a slice that is lent
-pub part-is : (s : List ℕ) (a n b : ℕ) → a ≡ b → take (a + n - a) (drop a s) ≡ take n (drop b s)
-part-is s a n b e = rw (add-sub-cancel-left a n, e)
+    -- both are found
+    pub agree-spelled : {r : Bool} (i j : ℕ) → spelling s t ≡ At i → spelling s′ t′ ≡ At j → Decides r (take (t .len) (drop i s) ≡ take (t′ .len) (drop j s′))
+        → Decides r (Agree (word s t) (word s′ t′))
+    agree-spelled i j e e′ d = agree-some _ _ (word-found s t i e) (word-found s′ t′ j e′)
+        (decides-by (λ p. ap₂ spelled k p) (λ q. ap (λ (w : Word). w .spelling) q) d)
 
 -- ---- the comparison of bytes
 

@@ -1,48 +1,31 @@
 // When two tokens, or two lists of tokens, say the same.
 use ast::layout::token_at;
-use ast::lookup::spelling_offset;
-use ast::lookup::well_formed;
+use lex::Found;
 use lex::Token;
 use lex::Type;
 use lex::same_bytes;
+use lex::spelling;
 use rules::Run;
-ghost use mathlib.Core.Path.{_≡_};
-ghost use mathlib.Core.Bool.{true};
-ghost use Rattle.rules.specs.Shape.{wordOf, word, wellFormed, words};
+ghost use Rattle.rules.specs.Shape.{word, words};
 ghost use Rattle.same.specs.Agree.{Agree, Decides};
 ghost use Rattle.same.specs.Shapes.{wordEnv};
 
-// Two well-formed tokens of one kind have the same spelling.
-fn agree_spelling(s: &[u8], t: Token, s2: &[u8], t2: Token) -> bool
-    requires { ⌜ (wellFormed (now s) t ≡ true) × (wellFormed (now s2) t2 ≡ true) × (t .kind ≡ t2 .kind) ⌝ }
-    ensures { λ r. ⌜ Decides r (wordOf (now (s .entry)) t ≡ wordOf (now (s2 .entry)) t2) ⌝ }
-{
-    if t.kind < Type::S {
-        return true;
-    }
-    if Type::DOC < t.kind {
-        return true;
-    }
-    let a = t.start + spelling_offset(s, t);
-    let a_end = a + t.len;
-    let b = t2.start + spelling_offset(s2, t2);
-    let b_end = b + t2.len;
-    same_bytes(&s[a..a_end], &s2[b..b_end])
-}
-
+// Two tokens of one kind, with one spelling: a fixed one, or one of their own.
 pub fn agree_token(s: &[u8], t: Token, s2: &[u8], t2: Token) -> bool
     ensures { λ r. ⌜ Decides r (Agree (word (now (s .entry)) t) (word (now (s2 .entry)) t2)) ⌝ }
 {
-    if !well_formed(s, t) {
-        return false;
-    }
-    if !well_formed(s2, t2) {
-        return false;
-    }
     if t.kind != t2.kind {
         return false;
     }
-    agree_spelling(s, t, s2, t2)
+    let Found::At(a) = spelling(s, t) else {
+        return 0 < Type::spelling_len(t.kind);
+    };
+    let Found::At(b) = spelling(s2, t2) else {
+        return false;
+    };
+    let a_end = a + t.len;
+    let b_end = b + t2.len;
+    same_bytes(&s[a..a_end], &s2[b..b_end])
 }
 
 pub fn agree_words(s: &[u8], cells: &[u32], r: Run, s2: &[u8], cells2: &[u32], r2: Run) -> bool
