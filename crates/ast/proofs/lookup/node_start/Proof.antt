@@ -2,6 +2,7 @@
 use mathlib.Core.Path.{_∙_, ap}
 use mathlib.Core.List.{List}
 use Prim.Native.Nat.{ℕ}
+use native.Mathlib.Omega.{arith}
 use Rattle.ast.specs.Lookup.{startAnswer, nodeStart, startAt}
 use Rattle.ast.specs.Answer.{unlessMalformed}
 use Rattle.ast.proofs.Refusal.{refused-lent, refused-count, refused-array, found, start-answered}
@@ -18,7 +19,7 @@ returns c = refused-lent _ _ _ _ _ _ _ (c .before .refusal .ensures) (c .if1 .ta
 
 returns-2 : tie.Need-returns-2
 unfolding startAnswer nodeStart
-returns-2 c = refused-count _ _ _ _ _ _ _ (c .before .before .before .refusal .ensures) (c .before .before .if1 .left) (c .if2 .taken)
+returns-2 c = refused-count _ _ _ _ _ _ _ (c .before .before .before .refusal .ensures) (c .before .before .if1 .left) (omega arith)
 
 cast-if3 : tie.Need-cast-if3
 cast-if3 c = search needs

@@ -26,7 +26,7 @@ returns t c =
     let a = c .before .args in
     let v = view (a .s .now .now) (a .nodes .now .now) (a .types .now .now) (a .cells .now .now) (a .k) in
     let v2 = view (a .s2 .now .now) (a .nodes2 .now .now) (a .types2 .now .now) (a .cells2 .now .now) (a .k2) in
-    node-past-left v v2 (a .n) (a .i) (a .m) (a .j) (c .if1 .taken)
+    node-past-left v v2 (a .n) (a .i) (a .m) (a .j) (omega arith)
 
 returns-2 : (t : ℕ) → lts.Need-returns-2 (claims t) (agree-node-at t) agree-node.Post
 returns-2 t c =

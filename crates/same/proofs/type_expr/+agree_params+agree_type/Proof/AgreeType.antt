@@ -25,7 +25,7 @@ claims t = (type-tag-reads.Asked, type-tag-reads.Learnt, cell-reads.Asked, cell-
 returns : (t : ℕ) → lts.Need-returns (claims t) (agree-type-at t) agree-type.Post
 returns t c =
     let a = c .before .args in
-    type-past-left (a .s .now .now) (a .cells .now .now) (a .types .now .now) (a .s2 .now .now) (a .cells2 .now .now) (a .types2 .now .now) (a .n) (a .i) (a .m) (a .j) (c .if1 .taken)
+    type-past-left (a .s .now .now) (a .cells .now .now) (a .types .now .now) (a .s2 .now .now) (a .cells2 .now .now) (a .types2 .now .now) (a .n) (a .i) (a .m) (a .j) (omega arith)
 
 returns-2 : (t : ℕ) → lts.Need-returns-2 (claims t) (agree-type-at t) agree-type.Post
 returns-2 t c =
