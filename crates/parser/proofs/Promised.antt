@@ -2,11 +2,11 @@
 use mathlib.Core.Path.{_≡_, refl, sym, ap, subst, _∙_}
 use mathlib.Core.Bool.{Bool, true, false}
 use mathlib.Core.List.{List, [], _++_, map, flatten}
-use Prim.Native.Nat.{ℕ, _*_, _-_, _≤_, _<_}
+use Prim.Native.Nat.{ℕ, _*_, _-_, _≤_}
 use native.Mathlib.Omega.{arith}
 use lib.Dec.{ltb}
 use lib.ListN.{length, take}
-use borrow.Author.Tests.{lt-ltb, le-ltb, ltb-false}
+use borrow.Author.Tests.{ltb-false}
 use Rattle.lex.specs.Bytes.{or}
 use Rattle.lex.specs.declared.diagnostic.Diagnostic.{Diagnostic}
 use Rattle.rules.specs.Tree.{State, Result, ok, err}
@@ -20,7 +20,7 @@ use Rattle.parser_base.specs.Represents.{isGoing}
 use Rattle.parser_base.specs.declared.Status.the-variants.{Going, Failed}
 use Rattle.parser_base.proofs.Steps.{true≢false}
 use Rattle.parser_base.proofs.Cells.{zeros-length}
-use Rattle.parser.specs.Whole.{arrays, Blank, Holds, RootsEnd}
+use Rattle.parser.specs.Whole.{arrays, refusal, Blank, Holds, RootsEnd}
 use Rattle.parser.specs.Collect.{inOrder, CollectEnds}
 use Rattle.parser.specs.declared.RootsRead.{RootsRead}
 use Rattle.parser.specs.declared.RootsCollected.{RootsCollected}
@@ -28,29 +28,49 @@ use Rattle.parser.proofs.Clear.{cleared-all}
 
 -- ---- refusals
 
+abbrev refusalOf : List ℕ → Arrays → ℕ
+refusalOf script l = refusal (length script) (length (l .nodes)) (length (l .types)) (length (l .lists)) (length (l .roots)) (length (l .diagnostics))
+
 -- by the tests for a refusal
 choosing : Bool → Bool → Outcome → Arrays → Outcome
 choosing long short o l = elim long [ true ↦ record { answer = P.Refused 1; arrays = l } | false ↦ elim short [ true ↦ record { answer = P.Refused 2; arrays = l } | false ↦ o ] ]
+
+choosingNumber : Bool → Bool → ℕ
+choosingNumber long short = elim long [ true ↦ 1 | false ↦ elim short [ true ↦ 2 | false ↦ 0 ] ]
 
 module _ (how : List ℕ → Reading) (script : List ℕ) (l : Arrays) where
   promised-by : promised how script l ≡ choosing (ltb maxBytes (length script)) (tooShort script l) (outcome (how script) l) l
   unfolding promised choosing
   promised-by = refl
 
-  pub refused-long : maxBytes < length script → promised how script l ≡ record { answer = P.Refused 1; arrays = l }
-  unfolding choosing
-  refused-long h = promised-by ∙ ap (λ (b : Bool). choosing b (tooShort script l) (outcome (how script) l) l) (lt-ltb maxBytes (length script) h)
+  refusal-by : refusalOf script l ≡ choosingNumber (ltb maxBytes (length script)) (tooShort script l)
+  unfolding refusal tooShort choosingNumber
+  refusal-by = refl
 
-  by-short : length script ≤ maxBytes → (b : Bool) → b ≡ tooShort script l → promised how script l ≡ choosing false b (outcome (how script) l) l
-  by-short h b s = promised-by ∙ ap (λ (b : Bool). choosing b (tooShort script l) (outcome (how script) l) l) (le-ltb maxBytes (length script) h) ∙ ap (λ (b : Bool). choosing false b (outcome (how script) l) l) (sym s)
+  -- a script that is refused
+  pub refused : (n : ℕ) → n ≡ refusalOf script l → ¬ (n ≡ 0) → promised how script l ≡ record { answer = P.Refused n; arrays = l }
+  unfolding choosing choosingNumber
+  refused n e some = go (ltb maxBytes (length script)) (tooShort script l) promised-by (e ∙ refusal-by)
+    where
+      go : (long short : Bool) → promised how script l ≡ choosing long short (outcome (how script) l) l → n ≡ choosingNumber long short → promised how script l ≡ record { answer = P.Refused n; arrays = l }
+      go true short p q = p ∙ ap (λ (k : ℕ). record { answer = P.Refused k; arrays = l }) (sym q)
+      go false true p q = p ∙ ap (λ (k : ℕ). record { answer = P.Refused k; arrays = l }) (sym q)
+      go false false p q = absurd (some q)
 
-  pub refused-short : length script ≤ maxBytes → true ≡ tooShort script l → promised how script l ≡ record { answer = P.Refused 2; arrays = l }
-  unfolding choosing
-  refused-short h s = by-short h true s
+  -- and one that is read
+  pub record Accepted : Type 0 where
+    pub small : length script ≤ maxBytes
+    pub enough : false ≡ tooShort script l
+    pub outcome-is : promised how script l ≡ outcome (how script) l
 
-  accepted : length script ≤ maxBytes → false ≡ tooShort script l → promised how script l ≡ outcome (how script) l
-  unfolding choosing
-  accepted h s = by-short h false s
+  pub accepted : (n : ℕ) → n ≡ refusalOf script l → n ≡ 0 → Accepted
+  unfolding choosing choosingNumber
+  accepted n e none = go (ltb maxBytes (length script)) (tooShort script l) refl refl promised-by (sym none ∙ e ∙ refusal-by)
+    where
+      go : (long short : Bool) → ltb maxBytes (length script) ≡ long → short ≡ tooShort script l → promised how script l ≡ choosing long short (outcome (how script) l) l → 0 ≡ choosingNumber long short → Accepted
+      go true short a b p q = absurd (omega arith)
+      go false true a b p q = absurd (omega arith)
+      go false false a b p q = record { small = ltb-false maxBytes (length script) a; enough = b; outcome-is = p }
 
 -- ---- trees and errors
 
@@ -60,9 +80,9 @@ treeOf r n = P.Tree (record { nodes = r .parser .used .nodes; types = r .parser 
 held-as : (a b f : List ℕ) → length b ≡ length a → b ≡ padded (length b) f → padded (length a) f ≡ b
 held-as a b f n e = ap (λ (k : ℕ). padded k f) (sym n) ∙ sym e
 
-module _ (how : List ℕ → Reading) (script ns ts ls rs ds ns′ ts′ ls′ rs′ ds′ : List ℕ) (small : length script ≤ maxBytes) (enough : false ≡ tooShort script (arrays ns ts ls rs ds)) where
+module _ (how : List ℕ → Reading) (script ns ts ls rs ds ns′ ts′ ls′ rs′ ds′ : List ℕ) (taken : Accepted how script (arrays ns ts ls rs ds)) where
   by-reading : {x : Reading} {o : Outcome} → how script ≡ x → outcome x (arrays ns ts ls rs ds) ≡ o → promised how script (arrays ns ts ls rs ds) ≡ o
-  by-reading e f = accepted how script _ small enough ∙ ap (λ (x : Reading). outcome x (arrays ns ts ls rs ds)) e ∙ f
+  by-reading e f = taken .outcome-is ∙ ap (λ (x : Reading). outcome x (arrays ns ts ls rs ds)) e ∙ f
 
   pub tree-promised : {xs : List ℕ} {m : State} (r : RootsRead) (es : List Diagnostic) (n : ℕ) → how script ≡ read (record { arena = m .arena; roots = xs }) es → Holds ns′ ts′ ls′ rs′ r xs m
       → length ns′ ≡ length ns → length ts′ ≡ length ts → length ls′ ≡ length ls → length rs′ ≡ length rs → n ≡ length es → ds′ ≡ padded (length ds) (flatten (map diagnosticCells es))
@@ -88,7 +108,7 @@ parse-ending : (script : List ℕ) → parse stageOne script ≡ ending (parseRo
 unfolding parse ending
 parse-ending script = refl
 
-module _ (script ns ts ls rs ds ns′ ts′ ls′ rs′ : List ℕ) (r : RootsRead) (small : length script ≤ maxBytes) (enough : false ≡ tooShort script (arrays ns ts ls rs ds))
+module _ (script ns ts ls rs ds ns′ ts′ ls′ rs′ : List ℕ) (r : RootsRead) (taken : Accepted (parse stageOne) script (arrays ns ts ls rs ds))
     (ends : RootsEnd ns′ ts′ ls′ rs′ r (parseRoots stageOne script (begin script)))
     (n : length ns′ ≡ length ns) (t : length ts′ ≡ length ts) (c : length ls′ ≡ length ls) (o : length rs′ ≡ length rs) where
   pub strict-tree : (ds′ : List ℕ) → ds′ ≡ zeros (length ds) → r .parser .status ≡ Going
@@ -97,7 +117,7 @@ module _ (script ns ts ls rs ds ns′ ts′ ls′ rs′ : List ℕ) (r : RootsRe
   strict-tree ds′ blank g = go (parseRoots stageOne script (begin script)) (parse-ending script) ends
     where
       go : (res : Result (List ℕ)) → parse stageOne script ≡ ending res → RootsEnd ns′ ts′ ls′ rs′ r res → promised (parse stageOne) script (arrays ns ts ls rs ds) ≡ record { answer = treeOf r 0; arrays = arrays ns′ ts′ ls′ rs′ ds′ }
-      go (ok xs m) e h = tree-promised (parse stageOne) script ns ts ls rs ds ns′ ts′ ls′ rs′ ds′ small enough r [] 0 e h n t c o refl (blank ∙ ap zeros {x = length ds} {y = length ds - 0} (omega arith))
+      go (ok xs m) e h = tree-promised (parse stageOne) script ns ts ls rs ds ns′ ts′ ls′ rs′ ds′ taken r [] 0 e h n t c o refl (blank ∙ ap zeros {x = length ds} {y = length ds - 0} (omega arith))
       go (err x m) e h = absurd (true≢false (ap isGoing g) (ap isGoing h))
 
   pub strict-error : (ns″ ts″ ls″ rs″ ds′ : List ℕ) (e : Diagnostic) → ns″ ≡ zeros (length ns′) → ts″ ≡ zeros (length ts′) → ls″ ≡ zeros (length ls′) → rs″ ≡ zeros (length rs′) → ds′ ≡ zeros (length ds) → r .parser .status ≡ Failed e
@@ -110,7 +130,7 @@ module _ (script ns ts ls rs ds ns′ ts′ ls′ rs′ : List ℕ) (r : RootsRe
       go (err x m) w h =
           let s : Failed x ≡ Failed e = sym h ∙ g in
           let same : x ≡ e = cc in
-          error-promised (parse stageOne) script ns ts ls rs ds ns″ ts″ ls″ rs″ ds′ small enough e (w ∙ ap ended same) (a ∙ ap zeros n) (b ∙ ap zeros t) (l ∙ ap zeros c) (d ∙ ap zeros o) z
+          error-promised (parse stageOne) script ns ts ls rs ds ns″ ts″ ls″ rs″ ds′ taken e (w ∙ ap ended same) (a ∙ ap zeros n) (b ∙ ap zeros t) (l ∙ ap zeros c) (d ∙ ap zeros o) z
 
 -- ---- collecting
 
@@ -121,7 +141,7 @@ collect-ending : (script : List ℕ) → parseCollect stageOne script ≡ collec
 unfolding parseCollect collectEnding
 collect-ending script = refl
 
-module _ (script ns ts ls rs ds ns′ ts′ ls′ rs′ ds′ : List ℕ) (r : RootsCollected) (small : length script ≤ maxBytes) (enough : false ≡ tooShort script (arrays ns ts ls rs ds))
+module _ (script ns ts ls rs ds ns′ ts′ ls′ rs′ ds′ : List ℕ) (r : RootsCollected) (taken : Accepted (parseCollect stageOne) script (arrays ns ts ls rs ds))
     (ends : CollectEnds script ns′ ts′ ls′ rs′ ds′ r (parseRootsCollect stageOne script (begin script)))
     (n : length ns′ ≡ length ns) (t : length ts′ ≡ length ts) (c : length ls′ ≡ length ls) (o : length rs′ ≡ length rs) (k : length ds′ ≡ length ds) where
   abbrev roots : RootsRead
@@ -132,7 +152,7 @@ module _ (script ns ts ls rs ds ns′ ts′ ls′ rs′ ds′ : List ℕ) (r : R
   collect-tree g = go (parseRootsCollect stageOne script (begin script)) (collect-ending script) ends
     where
       go : (res : Result Gathered) → parseCollect stageOne script ≡ collectEnding script res → CollectEnds script ns′ ts′ ls′ rs′ ds′ r res → promised (parseCollect stageOne) script (arrays ns ts ls rs ds) ≡ record { answer = treeOf roots (r .diagnostics); arrays = arrays ns′ ts′ ls′ rs′ ds′ }
-      go (ok w m) e h = tree-promised (parseCollect stageOne) script ns ts ls rs ds ns′ ts′ ls′ rs′ ds′ small enough roots (inOrder script w) (r .diagnostics) e (h .0) n t c o (h .2) (h .1 ∙ ap (λ (j : ℕ). padded j (flatten (map diagnosticCells (inOrder script w)))) k)
+      go (ok w m) e h = tree-promised (parseCollect stageOne) script ns ts ls rs ds ns′ ts′ ls′ rs′ ds′ taken roots (inOrder script w) (r .diagnostics) e (h .0) n t c o (h .2) (h .1 ∙ ap (λ (j : ℕ). padded j (flatten (map diagnosticCells (inOrder script w)))) k)
       go (err x m) e h = absurd (true≢false (ap isGoing g) (ap isGoing h))
 
   pub collect-error : (ns″ ts″ ls″ rs″ ds″ : List ℕ) (e : Diagnostic) → ns″ ≡ zeros (length ns′) → ts″ ≡ zeros (length ts′) → ls″ ≡ zeros (length ls′) → rs″ ≡ zeros (length rs′) → ds″ ≡ take 0 ds′ ++ zeros (length ds′ - 0) → r .parser .status ≡ Failed e
@@ -145,7 +165,7 @@ module _ (script ns ts ls rs ds ns′ ts′ ls′ rs′ ds′ : List ℕ) (r : R
       go (err x m) v h =
           let s : Failed x ≡ Failed e = sym h ∙ g in
           let same : x ≡ e = cc in
-          error-promised (parseCollect stageOne) script ns ts ls rs ds ns″ ts″ ls″ rs″ ds″ small enough e (v ∙ ap ended same) (a ∙ ap zeros n) (b ∙ ap zeros t) (l ∙ ap zeros c) (d ∙ ap zeros o) (cleared-all ds′ z ∙ ap zeros k)
+          error-promised (parseCollect stageOne) script ns ts ls rs ds ns″ ts″ ls″ rs″ ds″ taken e (v ∙ ap ended same) (a ∙ ap zeros n) (b ∙ ap zeros t) (l ∙ ap zeros c) (d ∙ ap zeros o) (cleared-all ds′ z ∙ ap zeros k)
 
 -- ---- what is cleared is blank, and enough of it
 
@@ -160,22 +180,35 @@ blank-length a a′ e = ap length e ∙ zeros-length (length a)
 pub blank-again : (a a′ : List ℕ) → a′ ≡ zeros (length a) → a′ ≡ zeros (length a′)
 blank-again a a′ e = e ∙ ap zeros (sym (blank-length a a′ e))
 
-module _ (script ns ts ls rs ds : List ℕ) (long : false ≡ tooShort script (arrays ns ts ls rs ds)) where
-  pub blank-of : {ns′ ts′ ls′ rs′ : List ℕ} → length script ≤ maxBytes → ns′ ≡ zeros (length ns) → ts′ ≡ zeros (length ts) → ls′ ≡ zeros (length ls) → rs′ ≡ zeros (length rs) → Blank script ns′ ts′ ls′ rs′
+module _ (how : List ℕ → Reading) (script ns ts ls rs ds : List ℕ) (taken : Accepted how script (arrays ns ts ls rs ds)) where
+  record Enough : Type 0 where
+    pub nodes : 16 * length script ≤ length ns
+    pub types : 8 * length script ≤ length ts
+    pub lists : 8 * length script ≤ length ls
+    pub roots : length script ≤ length rs
+    pub diagnostics : 5 * length script ≤ length ds
+
+  enough-of : Enough
   unfolding tooShort
-  blank-of {ns′} {ts′} {ls′} {rs′} small a b c d =
-      let w₁ = or-not (ltb (length ns) (16 * length script)) _ long in
+  enough-of =
+      let w₁ = or-not (ltb (length ns) (16 * length script)) _ (taken .enough) in
       let w₂ = or-not (ltb (length ts) (8 * length script)) _ (sym (w₁ .1)) in
       let w₃ = or-not (ltb (length ls) (8 * length script)) _ (sym (w₂ .1)) in
       let w₄ = or-not (ltb (length rs) (length script)) _ (sym (w₃ .1)) in
       record {
-        lent = record {
-          small = small;
-          nodes = omega (arith, ltb-false (length ns) (16 * length script) (w₁ .0), blank-length ns ns′ a);
-          types = omega (arith, ltb-false (length ts) (8 * length script) (w₂ .0), blank-length ts ts′ b);
-          lists = omega (arith, ltb-false (length ls) (8 * length script) (w₃ .0), blank-length ls ls′ c);
-        };
-        roots = omega (arith, ltb-false (length rs) (length script) (w₄ .0), blank-length rs rs′ d);
+        nodes = ltb-false (length ns) (16 * length script) (w₁ .0);
+        types = ltb-false (length ts) (8 * length script) (w₂ .0);
+        lists = ltb-false (length ls) (8 * length script) (w₃ .0);
+        roots = ltb-false (length rs) (length script) (w₄ .0);
+        diagnostics = ltb-false (length ds) (5 * length script) (w₄ .1);
+      }
+
+  pub blank-of : {ns′ ts′ ls′ rs′ : List ℕ} → ns′ ≡ zeros (length ns) → ts′ ≡ zeros (length ts) → ls′ ≡ zeros (length ls) → rs′ ≡ zeros (length rs) → Blank script ns′ ts′ ls′ rs′
+  blank-of {ns′} {ts′} {ls′} {rs′} a b c d =
+      let w = enough-of in
+      record {
+        lent = record { small = taken .small; nodes = omega (arith, w .nodes, blank-length ns ns′ a); types = omega (arith, w .types, blank-length ts ts′ b); lists = omega (arith, w .lists, blank-length ls ls′ c) };
+        roots = omega (arith, w .roots, blank-length rs rs′ d);
         blankNodes = blank-again ns ns′ a;
         blankTypes = blank-again ts ts′ b;
         blankLists = blank-again ls ls′ c;
@@ -184,10 +217,4 @@ module _ (script ns ts ls rs ds : List ℕ) (long : false ≡ tooShort script (a
 
   -- the diagnostics have room for as many records as the script has bytes
   pub room-of : 5 * length script ≤ length ds
-  unfolding tooShort
-  room-of =
-      let w₁ = or-not (ltb (length ns) (16 * length script)) _ long in
-      let w₂ = or-not (ltb (length ts) (8 * length script)) _ (sym (w₁ .1)) in
-      let w₃ = or-not (ltb (length ls) (8 * length script)) _ (sym (w₂ .1)) in
-      let w₄ = or-not (ltb (length rs) (length script)) _ (sym (w₃ .1)) in
-      ltb-false (length ds) (5 * length script) (w₄ .1)
+  room-of = enough-of .diagnostics

@@ -1,9 +1,9 @@
 -- What reading the roots of a whole script comes to.
 use mathlib.Core.Path.{_≡_}
-use mathlib.Core.Bool.{Bool, not, _&&_}
+use mathlib.Core.Bool.{Bool, true, false, not, _&&_}
 use mathlib.Core.List.{List, [], _∷_, _++_, map, flatten}
-use Prim.Native.Nat.{ℕ, _+_, _-_, _≤_}
-use lib.Dec.{eqb}
+use Prim.Native.Nat.{ℕ, _+_, _*_, _-_, _≤_}
+use lib.Dec.{eqb, ltb}
 use lib.ListN.{length}
 use Rattle.lex.specs.Bytes.{or}
 use Rattle.lex.specs.Kind.{kEof, kImport, kExtern, kLet, kFn, kMatch, kCurlyRight}
@@ -13,8 +13,8 @@ use Rattle.rules.specs.Tree.{State, Result, ok, err}
 use Rattle.rules.specs.Combinators.{Rule, _>>=_, pure, ifKind, withDocs, ControlFlow, continue, break, loop}
 use Rattle.rules.specs.Rules.{maxLevels}
 use Rattle.rules.specs.Parse.{synchronizeStep}
-use Rattle.rules.specs.Layout.{zeros, padded, nodeCells, typeCells}
-use Rattle.rules.specs.Promise.{Arrays}
+use Rattle.rules.specs.Layout.{nodeWidth, typeWidth, zeros, padded, nodeCells, typeCells}
+use Rattle.rules.specs.Promise.{maxBytes, Arrays}
 use Rattle.parser_base.specs.Represents.{Code, ahead, isGoing, EnoughLent, Represents, FailedAt}
 use Rattle.parser_base.specs.Refines.{deeper}
 use Rattle.parser_base.specs.declared.Parser.{Parser}
@@ -23,6 +23,14 @@ use Rattle.parser.specs.declared.RootsRead.{RootsRead}
 
 abbrev pub arrays : List ℕ → List ℕ → List ℕ → List ℕ → List ℕ → Arrays
 arrays nodes types lists roots diagnostics = record { nodes = nodes; types = types; lists = lists; roots = roots; diagnostics = diagnostics }
+
+-- the number of a refusal, or 0, for a script of `n` bytes and the lengths of the arrays
+unfoldable pub refusal : ℕ → ℕ → ℕ → ℕ → ℕ → ℕ → ℕ
+refusal n nodes types lists roots diagnostics =
+    elim (ltb maxBytes n) [
+      | true ↦ 1
+      | false ↦ elim (or (ltb nodes (nodeWidth * n)) (or (ltb types (typeWidth * n)) (or (ltb lists (8 * n)) (or (ltb roots n) (ltb diagnostics (5 * n)))))) [ true ↦ 2 | false ↦ 0 ]
+    ]
 
 -- enough is lent, and it is blank
 pub record Blank (script ns ts ls rs : List ℕ) : Type 0 where

@@ -20,9 +20,7 @@ ghost use mathlib.Core.Path.{_≡_};
 ghost use mathlib.Core.Bool.{true, false};
 ghost use mathlib.Core.List.{List, [], _++_};
 ghost use Prim.Native.Nat.{ℕ, _+_, _*_, _-_, _<_, _≤_};
-ghost use lib.Dec.{ltb};
 ghost use lib.ListN.{length, take, set};
-ghost use Rattle.lex.specs.Bytes.{or};
 ghost use Rattle.lex.specs.Kind.{kEof};
 ghost use Rattle.lex.specs.Lex.{nextAt};
 ghost use Rattle.lex.specs.declared.diagnostic.Diagnostic.{Diagnostic};
@@ -33,7 +31,7 @@ ghost use Rattle.rules.specs.Parse.{Gathered, begin, parseRoots, parse, recover
 ghost use Rattle.rules.specs.Promise.{promised};
 ghost use Rattle.parser_base.specs.Represents.{code, isGoing, Represents, FailedAt};
 ghost use Rattle.parser_base.specs.Refines.{Refines, kept, wanted};
-ghost use Rattle.parser.specs.Whole.{arrays, Blank, RootsEnd, dropDocs, fresh};
+ghost use Rattle.parser.specs.Whole.{arrays, refusal, Blank, RootsEnd, dropDocs, fresh};
 ghost use Rattle.parser.specs.Collect.{Gathers, Room, TurnEnds, collectStep, CollectEnds};
 
 // ---- arrays
@@ -60,31 +58,36 @@ fn clear_tree(nodes: &mut [u32], types: &mut [u32], lists: &mut [u32], roots: &m
     clear_from(roots, 0);
 }
 
-// One of the arrays has fewer cells than `n` bytes ask for.
-fn too_short(
+// 1 for a script of `n` bytes that is too long, then 2 where an array has fewer cells than these ask for, and 0 where the script is read.
+fn refusal(
     n: usize,
     nodes: usize,
     types: usize,
     lists: usize,
     roots: usize,
     diagnostics: usize,
-) -> bool
-    requires { ⌜ n ≤ 65536 ⌝ }
-    ensures { λ r. ⌜ r ≡ or (ltb nodes (16 * n)) (or (ltb types (8 * n)) (or (ltb lists (8 * n)) (or (ltb roots n) (ltb diagnostics (5 * n))))) ⌝ }
+) -> u32
+    ensures { λ r. ⌜ r ≡ refusal n nodes types lists roots diagnostics ⌝ }
 {
+    if Parser::MAX_BYTES < n {
+        return 1;
+    }
     if nodes < 16 * n {
-        return true;
+        return 2;
     }
     if types < 8 * n {
-        return true;
+        return 2;
     }
     if lists < 8 * n {
-        return true;
+        return 2;
     }
     if roots < n {
-        return true;
+        return 2;
     }
-    diagnostics < 5 * n
+    if diagnostics < 5 * n {
+        return 2;
+    }
+    0
 }
 
 // ---- roots
@@ -318,18 +321,16 @@ pub fn parse(
 ) -> Parsed
     ensures { λ r. ⌜ promised (parse stageOne) (now (script .entry)) (arrays (now (nodes .entry)) (now (types .entry)) (now (lists .entry)) (now (roots .entry)) (now (diagnostics .entry))) ≡ record { answer = r; arrays = arrays (now (nodes .exit)) (now (types .exit)) (now (lists .exit)) (now (roots .exit)) (now (diagnostics .exit)) } ⌝ }
 {
-    if Parser::MAX_BYTES < script.len() {
-        return Parsed::Refused(1);
-    }
-    if too_short(
+    let refused = refusal(
         script.len(),
         nodes.len(),
         types.len(),
         lists.len(),
         roots.len(),
         diagnostics.len(),
-    ) {
-        return Parsed::Refused(2);
+    );
+    if refused != 0 {
+        return Parsed::Refused(refused);
     }
     clear_tree(nodes, types, lists, roots);
     clear_from(diagnostics, 0);
@@ -365,18 +366,16 @@ pub fn parse_collect(
 ) -> Parsed
     ensures { λ r. ⌜ promised (parseCollect stageOne) (now (script .entry)) (arrays (now (nodes .entry)) (now (types .entry)) (now (lists .entry)) (now (roots .entry)) (now (diagnostics .entry))) ≡ record { answer = r; arrays = arrays (now (nodes .exit)) (now (types .exit)) (now (lists .exit)) (now (roots .exit)) (now (diagnostics .exit)) } ⌝ }
 {
-    if Parser::MAX_BYTES < script.len() {
-        return Parsed::Refused(1);
-    }
-    if too_short(
+    let refused = refusal(
         script.len(),
         nodes.len(),
         types.len(),
         lists.len(),
         roots.len(),
         diagnostics.len(),
-    ) {
-        return Parsed::Refused(2);
+    );
+    if refused != 0 {
+        return Parsed::Refused(refused);
     }
     clear_tree(nodes, types, lists, roots);
     clear_from(diagnostics, 0);

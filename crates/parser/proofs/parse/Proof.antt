@@ -1,62 +1,49 @@
 -- `parser::parse` meets its contract.
 use borrow.Author.Needs.{needs}
 use native.Mathlib.Omega.{arith}
-use mathlib.Core.Path.{sym, _∙_}
-use Rattle.rules.specs.Promise.{tooShort}
+use Rattle.rules.specs.Rules.{stageOne}
+use Rattle.rules.specs.Parse.{parse}
 use Rattle.parser.proofs.Clear.{cleared-all}
-use Rattle.parser.proofs.Promised.{blank-of, refused-long, refused-short, strict-tree, strict-error}
+use Rattle.parser.proofs.Promised.{refused, accepted, blank-of, strict-tree, strict-error}
 use Rattle.parser.proofs.parse.Statement.{statement}
 use Rattle.parser.proofs.parse.Tie as tie
 
 returns : tie.Need-returns
 returns c =
+    let refusal = c .before .refusal in
     let if1 = c .if1 in
-    refused-long _ _ _ (if1 .taken)
-
-returns-2 : tie.Need-returns-2
-unfolding tooShort
-returns-2 c =
-    let if1 = c .before .before .if1 in
-    let if2 = c .if2 in
-    let too-short = c .before .too-short in
-    refused-short _ _ _ (omega (arith, if1 .left)) (sym (if2 .taken) ∙ too-short .ensures)
+    refused (parse stageOne) _ _ _ (refusal .ensures) (if1 .taken)
 
 parse-roots-requires : tie.Need-parse-roots-requires
-unfolding tooShort
 parse-roots-requires c κs =
-    let args = c .before .before .before .before .before .before .before .before .before .before .before .before .before .before .before .before .before .before .before .before .before .before .before .before .before .before .before .before .before .before .args in
-    let if2 = c .before .before .before .before .before .before .before .before .before .before .before .before .before .before .before .before .before .before .before .before .before .if2 in
-    let too-short = c .before .before .before .before .before .before .before .before .before .before .before .before .before .before .before .before .before .before .before .before .before .before .too-short in
-    let if1 = c .before .before .before .before .before .before .before .before .before .before .before .before .before .before .before .before .before .before .before .before .before .before .before .if1 in
+    let args = c .before .before .before .before .before .before .before .before .before .before .before .before .before .before .before .before .before .before .before .before .before .before .before .before .before .before .before .before .before .args in
+    let refusal = c .before .before .before .before .before .before .before .before .before .before .before .before .before .before .before .before .before .before .before .before .before .before .refusal in
+    let if1 = c .before .before .before .before .before .before .before .before .before .before .before .before .before .before .before .before .before .before .before .before .before .if1 in
     let clear-tree = c .before .before .before .before .before .before .before .before .before .before .before .before .before .before .before .before .clear-tree in
-    blank-of (args .script .now) (args .nodes .now) (args .types .now) (args .lists .now) (args .roots .now) (args .diagnostics .now) (sym (if2 .left) ∙ too-short .ensures) (omega (arith, if1 .left)) (clear-tree .ensures .0) (clear-tree .ensures .1) (clear-tree .ensures .2) (clear-tree .ensures .3)
+    blank-of (parse stageOne) (args .script .now) (args .nodes .now) (args .types .now) (args .lists .now) (args .roots .now) (args .diagnostics .now) (accepted (parse stageOne) _ _ _ (refusal .ensures) (if1 .left)) (clear-tree .ensures .0) (clear-tree .ensures .1) (clear-tree .ensures .2) (clear-tree .ensures .3)
 
-returns-3 : tie.Need-returns-3
-unfolding tooShort
-returns-3 c =
-    let args = c .before .before .before .before .before .before .before .before .before .before .before .before .before .before .before .before .before .before .before .before .before .before .before .before .before .before .before .before .before .before .before .before .before .before .before .before .before .before .before .before .before .before .before .args in
-    let if1 = c .before .before .before .before .before .before .before .before .before .before .before .before .before .before .before .before .before .before .before .before .before .before .before .before .before .before .before .before .before .before .before .before .before .before .before .before .if1 in
-    let if2 = c .before .before .before .before .before .before .before .before .before .before .before .before .before .before .before .before .before .before .before .before .before .before .before .before .before .before .before .before .before .before .before .before .before .before .if2 in
-    let too-short = c .before .before .before .before .before .before .before .before .before .before .before .before .before .before .before .before .before .before .before .before .before .before .before .before .before .before .before .before .before .before .before .before .before .before .before .too-short in
+returns-2 : tie.Need-returns-2
+returns-2 c =
+    let args = c .before .before .before .before .before .before .before .before .before .before .before .before .before .before .before .before .before .before .before .before .before .before .before .before .before .before .before .before .before .before .before .before .before .before .before .before .before .before .before .before .before .before .args in
+    let refusal = c .before .before .before .before .before .before .before .before .before .before .before .before .before .before .before .before .before .before .before .before .before .before .before .before .before .before .before .before .before .before .before .before .before .before .before .refusal in
+    let if1 = c .before .before .before .before .before .before .before .before .before .before .before .before .before .before .before .before .before .before .before .before .before .before .before .before .before .before .before .before .before .before .before .before .before .before .if1 in
     let parse-roots = c .before .before .before .before .before .before .before .before .before .before .before .before .parse-roots in
     let clear-tree = c .before .before .before .before .before .before .before .before .before .before .before .before .before .before .before .before .before .before .before .before .before .before .before .before .before .before .before .before .before .clear-tree in
     let clear-from = c .before .before .before .before .before .before .before .before .before .before .before .before .before .before .before .before .before .before .before .clear-from in
     let enum-told = c .enum-told in
-    strict-tree (args .script .now) (args .nodes .now) (args .types .now) (args .lists .now) (args .roots .now) (args .diagnostics .now) _ _ _ _ _ (omega (arith, if1 .left)) (sym (if2 .left) ∙ too-short .ensures) (parse-roots .ensures) (omega (arith, clear-tree .kept, clear-from .kept, parse-roots .kept)) (omega (arith, clear-tree .kept, clear-from .kept, parse-roots .kept)) (omega (arith, clear-tree .kept, clear-from .kept, parse-roots .kept)) (omega (arith, clear-tree .kept, clear-from .kept, parse-roots .kept)) _ (cleared-all (args .diagnostics .now) (clear-from .ensures)) (enum-told .given .1)
+    strict-tree (args .script .now) (args .nodes .now) (args .types .now) (args .lists .now) (args .roots .now) (args .diagnostics .now) _ _ _ _ _ (accepted (parse stageOne) _ _ _ (refusal .ensures) (if1 .left)) (parse-roots .ensures) (omega (arith, clear-tree .kept, clear-from .kept, parse-roots .kept)) (omega (arith, clear-tree .kept, clear-from .kept, parse-roots .kept)) (omega (arith, clear-tree .kept, clear-from .kept, parse-roots .kept)) (omega (arith, clear-tree .kept, clear-from .kept, parse-roots .kept)) _ (cleared-all (args .diagnostics .now) (clear-from .ensures)) (enum-told .given .1)
 
-returns-4 : tie.Need-returns-4
-unfolding tooShort
-returns-4 c =
-    let args = c .before .before .before .before .before .before .before .before .before .before .before .before .before .before .before .before .before .before .before .before .before .before .before .before .before .before .before .before .before .before .before .before .before .before .before .before .before .before .before .before .before .before .before .before .before .before .before .before .before .before .before .before .before .before .before .before .before .args in
-    let if1 = c .before .before .before .before .before .before .before .before .before .before .before .before .before .before .before .before .before .before .before .before .before .before .before .before .before .before .before .before .before .before .before .before .before .before .before .before .before .before .before .before .before .before .before .before .before .before .before .before .before .before .if1 in
-    let if2 = c .before .before .before .before .before .before .before .before .before .before .before .before .before .before .before .before .before .before .before .before .before .before .before .before .before .before .before .before .before .before .before .before .before .before .before .before .before .before .before .before .before .before .before .before .before .before .before .before .if2 in
-    let too-short = c .before .before .before .before .before .before .before .before .before .before .before .before .before .before .before .before .before .before .before .before .before .before .before .before .before .before .before .before .before .before .before .before .before .before .before .before .before .before .before .before .before .before .before .before .before .before .before .before .before .too-short in
+returns-3 : tie.Need-returns-3
+returns-3 c =
+    let args = c .before .before .before .before .before .before .before .before .before .before .before .before .before .before .before .before .before .before .before .before .before .before .before .before .before .before .before .before .before .before .before .before .before .before .before .before .before .before .before .before .before .before .before .before .before .before .before .before .before .before .before .before .before .before .before .before .args in
+    let refusal = c .before .before .before .before .before .before .before .before .before .before .before .before .before .before .before .before .before .before .before .before .before .before .before .before .before .before .before .before .before .before .before .before .before .before .before .before .before .before .before .before .before .before .before .before .before .before .before .before .before .refusal in
+    let if1 = c .before .before .before .before .before .before .before .before .before .before .before .before .before .before .before .before .before .before .before .before .before .before .before .before .before .before .before .before .before .before .before .before .before .before .before .before .before .before .before .before .before .before .before .before .before .before .before .before .if1 in
     let parse-roots = c .before .before .before .before .before .before .before .before .before .before .before .before .before .before .before .before .before .before .before .before .before .before .before .before .before .before .parse-roots in
     let clear-tree = c .before .before .before .before .before .before .before .before .before .before .before .before .before .before .before .before .before .before .before .before .before .before .before .before .before .before .before .before .before .before .before .before .before .before .before .before .before .before .before .before .before .before .before .clear-tree in
     let clear-from = c .before .before .before .before .before .before .before .before .before .before .before .before .before .before .before .before .before .before .before .before .before .before .before .before .before .before .before .before .before .before .before .before .before .clear-from in
     let clear-tree2 = c .before .before .before .before .before .before .before .before .clear-tree2 in
     let status = c .before .before .before .before .before .before .before .before .before .before .before .before .before .before .status in
-    strict-error (args .script .now) (args .nodes .now) (args .types .now) (args .lists .now) (args .roots .now) (args .diagnostics .now) _ _ _ _ _ (omega (arith, if1 .left)) (sym (if2 .left) ∙ too-short .ensures) (parse-roots .ensures) (omega (arith, clear-tree .kept, clear-from .kept, parse-roots .kept)) (omega (arith, clear-tree .kept, clear-from .kept, parse-roots .kept)) (omega (arith, clear-tree .kept, clear-from .kept, parse-roots .kept)) (omega (arith, clear-tree .kept, clear-from .kept, parse-roots .kept)) _ _ _ _ _ _ (clear-tree2 .ensures .0) (clear-tree2 .ensures .1) (clear-tree2 .ensures .2) (clear-tree2 .ensures .3) (cleared-all (args .diagnostics .now) (clear-from .ensures)) (status .given .1)
+    strict-error (args .script .now) (args .nodes .now) (args .types .now) (args .lists .now) (args .roots .now) (args .diagnostics .now) _ _ _ _ _ (accepted (parse stageOne) _ _ _ (refusal .ensures) (if1 .left)) (parse-roots .ensures) (omega (arith, clear-tree .kept, clear-from .kept, parse-roots .kept)) (omega (arith, clear-tree .kept, clear-from .kept, parse-roots .kept)) (omega (arith, clear-tree .kept, clear-from .kept, parse-roots .kept)) (omega (arith, clear-tree .kept, clear-from .kept, parse-roots .kept)) _ _ _ _ _ _ (clear-tree2 .ensures .0) (clear-tree2 .ensures .1) (clear-tree2 .ensures .2) (clear-tree2 .ensures .3) (cleared-all (args .diagnostics .now) (clear-from .ensures)) (status .given .1)
 
 same-length : tie.Need-same-length
 same-length c =
@@ -137,9 +124,8 @@ pub parse-spec : {M : Type 1} → statement M
 parse-spec =
     tie.close
     (tie.spec
-    returns
     (λ c κs. search needs)
-    returns-2
+    returns
     (λ c κs. search needs)
     (λ c κs. search needs)
     parse-roots-requires
@@ -151,10 +137,11 @@ parse-spec =
     same-length-3
     same-length-4
     same-length-5
-    returns-3
+    returns-2
     same-length-6
     same-length-7
     same-length-8
     same-length-9
     same-length-10
-    returns-4)
+    returns-3)
+
