@@ -5,6 +5,7 @@ use mathlib.Core.Option.{Option}
 use mathlib.Core.List.{List, [], _∷_, _++_}
 use Prim.Native.Nat.{ℕ, zero, suc, _+_, _-_, _*_, _/_, _%_, _<_, _≤_, min}
 use native.Mathlib.Nat.{suc-ne-zero}
+use native.Mathlib.Numerals.{add-one}
 use native.Mathlib.Omega.{arith}
 use lib.Dec.{leb, ltb}
 use lib.ListN.{length, set, getD, take, drop, length-set, List·getD-eq-default}
@@ -23,6 +24,7 @@ use Rattle.ast.specs.declared.layout.TypeRead.the-variants as TR
 use Rattle.rules.specs.declared.Counts.{Counts}
 use Rattle.rules.specs.declared.Parsed.{Parsed}
 use Rattle.rules.specs.declared.Parsed.the-variants as P
+use Rattle.rules.specs.Layout.{nodeWidth, typeWidth}
 use Rattle.rules.specs.Promise.{Arrays}
 use Rattle.ast.specs.Decode.{nodeRead, typeRead, nodeAt, typeAt}
 use Rattle.listing.specs.Text.{bytes, malformed, gap, each, listed, digits, number, kindNames, kindName, token, node, typeExpr}
@@ -65,10 +67,24 @@ length-emit (b ∷ text) o = length-emit text (put b o) ∙ length-put b o
 pub same-size : {a x y : List ℕ} {p q : ℕ} → Emits a x p y q → length y ≡ length x
 same-size {a} {x} {y} {p} f = ap (λ (o : Output). length (o .buffer)) (f .emitted) ∙ length-emit a (record { buffer = x; at = p })
 
--- one more member of a loop
-pub next : (text : ℕ → List ℕ) (i : ℕ) {x y z : List ℕ} {p q r : ℕ} → Emits (each text i) x p y q → Emits (text i) y q z r → Emits (each text (suc i)) x p z r
-unfolding each
-next text i f g = then f g
+-- ---- a loop over members
+
+-- of `n` members those before `i` are written
+pub record Members (text : ℕ → List ℕ) (n : ℕ) (x : List ℕ) (p : ℕ) (y : List ℕ) (q i : ℕ) : Type 0 where
+  pub bound : i ≤ n
+  pub written : Emits (each text i) x p y q
+
+module _ {text : ℕ → List ℕ} {n : ℕ} {x : List ℕ} {p : ℕ} where
+  pub members-none : Members text n x p x p 0
+  unfolding each
+  members-none = record { bound = omega arith; written = nothing }
+
+  pub members-next : {y z : List ℕ} {q r i : ℕ} → Members text n x p y q i → Emits (text i) y q z r → i < n → Members text n x p z r (i + 1)
+  unfolding each
+  members-next m f h = record { bound = omega arith; written = rw add-one (then (m .written) f) }
+
+  pub members-all : {y : List ℕ} {q i : ℕ} → Members text n x p y q i → n ≤ i → Emits (each text n) x p y q
+  members-all m h = by (ap (each text) (omega arith)) (m .written)
 
 -- ---- a byte
 
@@ -143,9 +159,9 @@ module _ (width : ℕ) (cells : List ℕ) (member : ℕ → List ℕ) (r : Run) 
   run-outside h = rw (lt-leb (r .start + width * r .len) (length cells) h, listed)
 
   module _ (n : ℕ) {x y z u v : List ℕ} {p q s t w : ℕ} where
-    pub list-inside : {i : ℕ} → r .start + width * r .len ≤ length cells → i ≡ r .len → Emits (gap n) x p y q → Emits (40 ∷ []) y q z s
-        → Emits (each (λ k. gap k ++ member (r .start + width * k)) i) z s u t → Emits (41 ∷ []) u t v w → Emits (gap n ++ listed width cells member r) x p v w
-    list-inside h e a b f g = then a (by (run-inside h) (then b (then (by (ap (each (λ k. gap k ++ member (r .start + width * k))) e) f) g)))
+    pub list-inside : {i : ℕ} → r .start + width * r .len ≤ length cells → r .len ≤ i → Emits (gap n) x p y q → Emits (40 ∷ []) y q z s
+        → Members (λ k. gap k ++ member (r .start + width * k)) (r .len) z s u t i → Emits (41 ∷ []) u t v w → Emits (gap n ++ listed width cells member r) x p v w
+    list-inside h l a b m g = then a (by (run-inside h) (then b (then (members-all m l) g)))
 
   module _ (n : ℕ) {x y z : List ℕ} {p q s : ℕ} where
     pub list-outside : length cells < r .start + width * r .len → Emits (gap n) x p y q → Emits malformed y q z s → Emits (gap n ++ listed width cells member r) x p z s
@@ -244,7 +260,7 @@ module _ {p : Parsed} (a : Arrays) where
 
     pub cells-inside : r ≡ true → c .cells ≤ length (a .lists)
     unfolding within
-    cells-inside e = leb-true _ _ (third (leb (16 * c .nodes) (length (a .nodes))) (leb (8 * c .types) (length (a .types))) (leb (c .cells) (length (a .lists))) _ (sym right ∙ e))
+    cells-inside e = leb-true _ _ (third (leb (nodeWidth * c .nodes) (length (a .nodes))) (leb (typeWidth * c .types) (length (a .types))) (leb (c .cells) (length (a .lists))) _ (sym right ∙ e))
 
   pub error-is : {e : Diagnostic} → p ≡ P.Error e → errorLine e ≡ textOf p a
   unfolding textOf

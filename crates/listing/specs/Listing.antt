@@ -11,6 +11,7 @@ use Rattle.rules.specs.declared.Node.{Node}
 use Rattle.rules.specs.declared.TypeExpr.{TypeExpr}
 use Rattle.rules.specs.declared.Parsed.{Parsed}
 use Rattle.rules.specs.declared.Parsed.the-variants as P
+use Rattle.rules.specs.Layout.{nodeWidth, typeWidth}
 use Rattle.rules.specs.Tree.{Tree}
 use Rattle.rules.specs.Parse.{Reading, read, ended}
 use Rattle.rules.specs.Promise.{Arrays, noError}
@@ -85,8 +86,8 @@ arraysOf nodes types lists roots diagnostics = record { nodes = nodes; types = t
 -- the arrays have what the counts say
 unfoldable pub within : Counts → Arrays → Bool
 within c a =
-    leb (16 * c .nodes) (length (a .nodes))
-    && (leb (8 * c .types) (length (a .types))
+    leb (nodeWidth * c .nodes) (length (a .nodes))
+    && (leb (typeWidth * c .types) (length (a .types))
     && (leb (c .cells) (length (a .lists))
     && (leb (c .roots) (length (a .roots))
     && leb (5 * c .diagnostics) (length (a .diagnostics)))))

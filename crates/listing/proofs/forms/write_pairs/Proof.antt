@@ -1,55 +1,23 @@
--- `listing::forms::write_pairs` meets its contract. The loop's invariant: the members before `i` are written.
+-- `listing::forms::write_pairs` meets its contract.
 use native.Mathlib.Omega.{arith}
 use borrow.Author.Needs.{needs}
-use native.Mathlib.Numerals.{add-one}
-use Prim.Native.Nat.{_≤_, _-_, _+_, _*_, ℕ}
+use Prim.Native.Nat.{_-_, _+_, _*_}
 use mathlib.Core.List.{_++_}
-use Rattle.listing.specs.Emit.{Emits}
-use Rattle.listing.specs.Text.{gap, each, pair, pairs}
-use Rattle.listing.proofs.EmitLaws.{nothing, same-size, next, list-inside, list-outside}
+use Rattle.listing.specs.Text.{gap, pair, pairs}
+use Rattle.listing.proofs.EmitLaws.{same-size, Members, members-none, members-next, list-inside, list-outside}
 use Rattle.listing.proofs.forms.write_pairs.Statement.{statement}
 use Rattle.listing.proofs.forms.write_pairs.Tie as tie
 
 abbrev Inv-loop : tie.InvT-loop
-Inv-loop before lists out₀ at a start len to₀ i₀ out to i = (i ≤ len) × Emits (each (λ k. gap k ++ pair lists (start + 4 * k)) i) out₀ to₀ out to
+Inv-loop before lists out₀ at a start len to₀ i₀ out to i = Members (λ k. gap k ++ pair lists (start + 4 * k)) len out₀ to₀ out to i
 
 abbrev μ-loop : tie.MeasureT-loop
 μ-loop before lists out₀ at a start len to₀ i₀ out to i = len - i
 
-cast-start : tie.Need-cast-start Inv-loop μ-loop
-cast-start c = omega arith
-
-cast-len : tie.Need-cast-len Inv-loop μ-loop
-cast-len c = omega arith
-
-mul-if1 : tie.Need-mul-if1 Inv-loop μ-loop
-mul-if1 c = omega arith
-
-add-if1 : tie.Need-add-if1 Inv-loop μ-loop
-add-if1 c = omega arith
-
-loop-holds : tie.Need-loop-holds Inv-loop μ-loop
-unfolding each
-loop-holds c = (omega arith, nothing)
-
-mul-write-pair : tie.Need-mul-write-pair Inv-loop μ-loop
-mul-write-pair c = omega arith
-
-add-write-pair : tie.Need-add-write-pair Inv-loop μ-loop
-add-write-pair c = omega arith
-
-add-i : tie.Need-add-i Inv-loop μ-loop
-add-i c = omega arith
-
-loop-less : tie.Need-loop-less Inv-loop μ-loop
-loop-less c = omega arith
-
 loop-again : tie.Need-loop-again Inv-loop μ-loop
 loop-again c =
     let s3 = c .before .before in
-    let s2 = s3 .before .before .before in
-    let s1 = s2 .before .before .before .before .before .before .before .before .before .before .before .before .before .before in
-    (omega arith, rw add-one (next (λ (k : ℕ). gap k ++ pair (s1 .args .lists .now) ((s1 .args .run .start) + 4 * k)) (s2 .loop .i) (s2 .loop .inv .1) (s3 .write-pair .ensures)))
+    members-next (s3 .before .before .before .loop .inv) (s3 .write-pair .ensures) (omega arith)
 
 returns : tie.Need-returns Inv-loop μ-loop
 unfolding pairs
@@ -58,22 +26,16 @@ returns c =
     let s4 = s5 .before .before .before in
     let s3 = s4 .before .before .before in
     let s2 = s3 .before .before .before .before .before .before .before in
-    let s1 = s2 .before .before .before .before in
-    list-inside 4 (s1 .args .lists .now) (pair (s1 .args .lists .now)) (s1 .args .run) (s1 .args .before) (omega arith) (omega arith) (s2 .write-gap .ensures) (s3 .write-byte .ensures) (s4 .loop .inv .1) (s5 .write-byte2 .ensures)
-
-same-length : tie.Need-same-length Inv-loop μ-loop
-same-length c = same-size (returns c)
+    let a = s2 .before .before .before .before .args in
+    list-inside 4 (a .lists .now) (pair (a .lists .now)) (a .run) (a .before) (omega arith) (omega arith) (s2 .write-gap .ensures) (s3 .write-byte .ensures) (s4 .loop .inv) (s5 .write-byte2 .ensures)
 
 returns-2 : tie.Need-returns-2 Inv-loop μ-loop
 unfolding pairs
 returns-2 c =
     let s3 = c .before .before in
     let s2 = s3 .before .before .before .before .before .before .before in
-    let s1 = s2 .before .before .before .before in
-    list-outside 4 (s1 .args .lists .now) (pair (s1 .args .lists .now)) (s1 .args .run) (s1 .args .before) (omega arith) (s2 .write-gap .ensures) (s3 .write-malformed .ensures)
-
-same-length-2 : tie.Need-same-length-2 Inv-loop μ-loop
-same-length-2 c = same-size (returns-2 c)
+    let a = s2 .before .before .before .before .args in
+    list-outside 4 (a .lists .now) (pair (a .lists .now)) (a .run) (a .before) (omega arith) (s2 .write-gap .ensures) (s3 .write-malformed .ensures)
 
 pub write-pairs-spec : {M : Type 1} → statement M
 write-pairs-spec =
@@ -82,21 +44,21 @@ write-pairs-spec =
     Inv-loop
     μ-loop
     (λ c κs. search needs)
-    cast-start
-    cast-len
-    mul-if1
-    add-if1
+    (λ c. omega arith)
+    (λ c. omega arith)
+    (λ c. omega arith)
+    (λ c. omega arith)
     (λ c κs. search needs)
-    loop-holds
-    mul-write-pair
-    add-write-pair
+    (λ c. members-none)
+    (λ c. omega arith)
+    (λ c. omega arith)
     (λ c κs. search needs)
-    add-i
-    loop-less
+    (λ c. omega arith)
+    (λ c. omega arith)
     loop-again
     (λ c κs. search needs)
     (λ c κs. search needs)
-    same-length
+    (λ c. same-size (returns c))
     returns
-    same-length-2
+    (λ c. same-size (returns-2 c))
     returns-2)

@@ -1,48 +1,26 @@
--- `listing::lines::write_nodes` meets its contract. The loop's invariant: the members before `i` are written.
+-- `listing::lines::write_nodes` meets its contract.
 use native.Mathlib.Omega.{arith}
 use borrow.Author.Needs.{needs}
-use native.Mathlib.Numerals.{add-one}
-use mathlib.Core.Path.{_≡_}
-use Prim.Native.Nat.{_≤_, _-_}
-use Rattle.listing.specs.Emit.{Emits}
+use Prim.Native.Nat.{_-_}
 use Rattle.ast.specs.Decode.{nodeAt}
-use Rattle.listing.specs.Text.{each}
 use Rattle.listing.specs.Listing.{nodeLine}
-use Rattle.listing.proofs.EmitLaws.{nothing, same-size, next}
+use Rattle.listing.proofs.EmitLaws.{same-size, Members, members-none, members-next, members-all}
 use Rattle.listing.proofs.lines.write_nodes.Statement.{statement}
 use Rattle.listing.proofs.lines.write_nodes.Tie as tie
 
 abbrev Inv-loop : tie.InvT-loop
-Inv-loop nodes lists n out₀ at to₀ i₀ out to i = (i ≤ n) × Emits (each (nodeLine lists (nodeAt nodes)) i) out₀ at out to
+Inv-loop nodes lists n out₀ at to₀ i₀ out to i = Members (nodeLine lists (nodeAt nodes)) n out₀ at out to i
 
 abbrev μ-loop : tie.MeasureT-loop
 μ-loop nodes lists n out₀ at to₀ i₀ out to i = n - i
 
-loop-holds : tie.Need-loop-holds Inv-loop μ-loop
-unfolding each
-loop-holds c = (omega arith, nothing)
-
-add-i : tie.Need-add-i Inv-loop μ-loop
-add-i c = omega arith
-
-loop-less : tie.Need-loop-less Inv-loop μ-loop
-loop-less c = omega arith
-
 loop-again : tie.Need-loop-again Inv-loop μ-loop
 loop-again c =
     let s3 = c .before .before in
-    let s2 = s3 .before .before .before in
-    let s1 = s2 .before .before .before .before in
-    (omega arith, rw add-one (next (nodeLine (s1 .args .lists .now) (nodeAt (s1 .args .nodes .now))) (s2 .loop .i) (s2 .loop .inv .1) (s3 .write-node-line .ensures)))
+    members-next (s3 .before .before .before .loop .inv) (s3 .write-node-line .ensures) (omega arith)
 
 returns : tie.Need-returns Inv-loop μ-loop
-returns c =
-    let s2 = c .before in
-    let s1 = s2 .before .before .before .before in
-    let e : s2 .loop .i ≡ s1 .args .n = omega arith in rw e at (s2 .loop .inv .1)
-
-same-length : tie.Need-same-length Inv-loop μ-loop
-same-length c = same-size (returns c)
+returns c = members-all (c .before .loop .inv) (omega arith)
 
 pub write-nodes-spec : {M : Type 1} → statement M
 write-nodes-spec =
@@ -50,10 +28,10 @@ write-nodes-spec =
     (tie.spec
     Inv-loop
     μ-loop
-    loop-holds
+    (λ c. members-none)
     (λ c κs. search needs)
-    add-i
-    loop-less
+    (λ c. omega arith)
+    (λ c. omega arith)
     loop-again
-    same-length
+    (λ c. same-size (returns c))
     returns)
