@@ -7,19 +7,20 @@ use Prim.Native.Nat.{ℕ, zero, suc, _+_, _*_, _<_, _≤_}
 use native.Mathlib.Omega.{arith}
 use mathlib.Core.Logic.{⊎-elim}
 use native.Mathlib.Nat.{add-zero, zero-add, eq-or-lt-of-le}
-use lib.Dec.{leb, eqb}
-use lib.ListN.{length, getD, take, drop}
-use borrow.Author.Tests.{le-leb, lt-leb, leb-true, leb-false, ne-eqb}
+use lib.Dec.{ltb, leb}
+use lib.ListN.{length, getD, List·getD-eq-default}
+use borrow.Author.Tests.{leb-true, leb-false, ltb-true, ltb-false, ne-eqb}
+use Rattle.lex.proofs.Laws.{agree}
 use Rattle.rules.specs.Layout.{nodeWidth}
 use Rattle.rules.specs.Shape as S
 use Rattle.rules.specs.Shape.{Shape, Env, map₁, map₂, map₃, map₄, map₅, andThen, w, nodeShape}
-use Rattle.ast.specs.Decode.{if, fits, tokenAt, runAt, nodeOf, nodesByTag, nodeAt}
+use Rattle.ast.specs.Decode.{if, fits, nodeOf, nodesByTag, nodeAt}
 use Rattle.ast.specs.Tabulate.{entryAt}
 use Rattle.ast.proofs.Tabulate.{entries-below, entries-past}
 use Rattle.ast.proofs.LayoutLaws.{node-inside, node-outside, node-unknown}
 use Rattle.same.specs.Agree.{Agree, Decides}
 use Rattle.same.specs.Shapes.{nodeRow, View, typesIn, nodesBelow, envBelow, tagBelow, nodeTag}
-use Rattle.same.specs.Parts.{Part, nothing, aWord, someWords, someParams, aType, someFns, someNodes, someFields, someCases, aNode, Value, read, PartAgrees, partOf, partKinds, partCells, PartsAgree}
+use Rattle.same.specs.Parts.{Part, nothing, aWord, someWords, someParams, aType, someFns, someNodes, someFields, someCases, aNode, read, PartAgrees, partOf, parts, sortAt, cellAt, PartsAgree}
 use Rattle.same.proofs.Agree.{agree₁, part₁, agree₂, parts₂, decides-yes, decides-no, decides-by}
 use Rattle.same.proofs.Tags.{recordCells, number-in, run-in, token-in}
 use Rattle.same.proofs.Types.{made₁, made₂, tag-bound}
@@ -221,7 +222,7 @@ module _ (e e′ : Env) (cs cs′ : List ℕ) where
   Each g = PartsAgree e e′ g cs 0 cs′ 0
 
   parts-of : (g : ℕ) → g ≤ 14 → (g ≡ 0 → ⊥) → Splits (Whole g) (Each g)
-  unfolding Whole Each nodeByParts nodesByParts PartsAgree PartAgrees partOf partKinds partCells
+  unfolding Whole Each nodeByParts nodesByParts PartsAgree PartAgrees partOf sortAt cellAt parts
   parts-of g l = upTo14 (λ (n : ℕ). (n ≡ 0 → ⊥) → Splits (Whole n) (Each n))
       (λ z. absurd (z refl))
       (λ z. record { split = λ b. six (Each 1) (part₁ S.atom (λ x y q. cc) _ _ b) ok ok ok ok ok; join = λ a b c d f h. agree₁ S.atom (λ x y q. cc) a })
@@ -242,19 +243,13 @@ module _ (e e′ : Env) (cs cs′ : List ℕ) where
 
 -- ---- the parts of a record lie in its array
 
--- every number of a list is at most `n`
-data AllBelow (n : ℕ) : List ℕ → Type 0 where
-  below[] : AllBelow n []
-  below∷ : {x : ℕ} {xs : List ℕ} → leb x n ≡ true → AllBelow n xs → AllBelow n (x ∷ xs)
-
-all-below : {n : ℕ} {xs : List ℕ} → AllBelow n xs → (k : ℕ) → getD xs k 0 ≤ n
-all-below below[] k = omega arith
-all-below {n} (below∷ {x} {xs} h l) zero = leb-true x n h
-all-below (below∷ h l) (suc k) = all-below l k
-
-cells-below : AllBelow 10 partCells
-unfolding partCells
-cells-below = (below∷ refl (below∷ refl (below∷ refl (below∷ refl (below∷ refl (below∷ refl (below∷ refl (below∷ refl (below∷ refl (below∷ refl (below∷ refl (below∷ refl (below∷ refl (below∷ refl (below∷ refl (below∷ refl (below∷ refl (below∷ refl (below∷ refl (below∷ refl (below∷ refl (below∷ refl (below∷ refl (below∷ refl (below∷ refl (below∷ refl (below∷ refl (below∷ refl (below∷ refl (below∷ refl (below∷ refl (below∷ refl (below∷ refl (below∷ refl (below∷ refl (below∷ refl (below∷ refl (below∷ refl (below∷ refl (below∷ refl (below∷ refl (below∷ refl (below∷ refl (below∷ refl (below∷ refl (below∷ refl (below∷ refl (below∷ refl (below∷ refl (below∷ refl (below∷ refl (below∷ refl (below∷ refl (below∷ refl (below∷ refl (below∷ refl (below∷ refl (below∷ refl (below∷ refl (below∷ refl (below∷ refl (below∷ refl (below∷ refl (below∷ refl (below∷ refl (below∷ refl (below∷ refl (below∷ refl (below∷ refl (below∷ refl (below∷ refl (below∷ refl (below∷ refl (below∷ refl (below∷ refl (below∷ refl (below∷ refl (below∷ refl (below∷ refl (below∷ refl (below∷ refl (below∷ refl (below∷ refl (below∷ refl (below∷ refl (below∷ refl (below∷ refl (below∷ refl (below∷ refl (below∷ refl below[]))))))))))))))))))))))))))))))))))))))))))))))))))))))))))))))))))))))))))))))))))))))))))
+pub cell-small : (k : ℕ) → cellAt k ≤ 10
+unfolding cellAt parts
+cell-small k = go (ltb k 90) refl
+  where
+    go : (b : Bool) → ltb k 90 ≡ b → cellAt k ≤ 10
+    go true e = leb-true _ _ (agree (λ (n : ℕ). leb (cellAt n) 10) (λ (n : ℕ). true) true 90 k refl (ltb-true k 90 e))
+    go false e = rw (List·getD-eq-default parts 0 {n = k} (ltb-false k 90 e)) (omega arith)
 
 move : {A : Type 0} {x x′ y y′ : Option A} → x ≡ x′ → y ≡ y′ → Agree x y → Agree x′ y′
 move p q b = record { it = b .it; left = sym p ∙ b .left; right = sym q ∙ b .right }
@@ -274,27 +269,27 @@ read-in e aNode xs p o h = rw zero-add (ap (e .node) (number-in 16 xs p o (omega
 module _ (e e′ : Env) (xs xs′ : List ℕ) (p p′ g x : ℕ) where
   into : Each e e′ (recordCells nodeWidth xs p) (recordCells nodeWidth xs′ p′) g x → PartsAgree e e′ g xs p xs′ p′ x
   unfolding Each PartsAgree PartAgrees
-  into b = let o = getD partCells (6 * g + x) 0 in let κ = partOf (getD partKinds (6 * g + x) 0) in move (read-in e κ xs p o (all-below cells-below (6 * g + x))) (read-in e′ κ xs′ p′ o (all-below cells-below (6 * g + x))) b
+  into b = let o = cellAt (6 * g + x) in let κ = partOf (sortAt (6 * g + x)) in move (read-in e κ xs p o (cell-small (6 * g + x))) (read-in e′ κ xs′ p′ o (cell-small (6 * g + x))) b
 
   outof : PartsAgree e e′ g xs p xs′ p′ x → Each e e′ (recordCells nodeWidth xs p) (recordCells nodeWidth xs′ p′) g x
   unfolding Each PartsAgree PartAgrees
-  outof b = let o = getD partCells (6 * g + x) 0 in let κ = partOf (getD partKinds (6 * g + x) 0) in move (sym (read-in e κ xs p o (all-below cells-below (6 * g + x)))) (sym (read-in e′ κ xs′ p′ o (all-below cells-below (6 * g + x)))) b
+  outof b = let o = cellAt (6 * g + x) in let κ = partOf (sortAt (6 * g + x)) in move (sym (read-in e κ xs p o (cell-small (6 * g + x)))) (sym (read-in e′ κ xs′ p′ o (cell-small (6 * g + x)))) b
 
 -- the last part is a node, where there is one
-last-kind : (g : ℕ) → g ≤ 14 → (getD partKinds (6 * g + 5) 0 ≡ 0 → ⊥) → partOf (getD partKinds (6 * g + 5) 0) ≡ aNode
-unfolding partKinds partOf
-last-kind g l = upTo14 (λ (n : ℕ). (getD partKinds (6 * n + 5) 0 ≡ 0 → ⊥) → partOf (getD partKinds (6 * n + 5) 0) ≡ aNode)
+last-kind : (g : ℕ) → g ≤ 14 → (sortAt (6 * g + 5) ≡ 0 → ⊥) → partOf (sortAt (6 * g + 5)) ≡ aNode
+unfolding sortAt parts partOf
+last-kind g l = upTo14 (λ (n : ℕ). (sortAt (6 * n + 5) ≡ 0 → ⊥) → partOf (sortAt (6 * n + 5)) ≡ aNode)
     (λ z. absurd (z refl)) (λ z. absurd (z refl)) (λ z. absurd (z refl)) (λ z. refl) (λ z. refl) (λ z. refl) (λ z. absurd (z refl)) (λ z. absurd (z refl))
     (λ z. refl) (λ z. refl) (λ z. refl) (λ z. absurd (z refl)) (λ z. absurd (z refl)) (λ z. absurd (z refl)) (λ z. absurd (z refl)) g l
 
-module _ (e e′ : Env) (xs xs′ : List ℕ) (p p′ g : ℕ) (l : g ≤ 14) (z : getD partKinds (6 * g + 5) 0 ≡ 0 → ⊥) where
-  last-is : Agree (e .node (getD xs (p + getD partCells (6 * g + 5) 0) 0)) (e′ .node (getD xs′ (p′ + getD partCells (6 * g + 5) 0) 0)) → PartsAgree e e′ g xs p xs′ p′ 5
+module _ (e e′ : Env) (xs xs′ : List ℕ) (p p′ g : ℕ) (l : g ≤ 14) (z : sortAt (6 * g + 5) ≡ 0 → ⊥) where
+  last-is : Agree (e .node (getD xs (p + cellAt (6 * g + 5)) 0)) (e′ .node (getD xs′ (p′ + cellAt (6 * g + 5)) 0)) → PartsAgree e e′ g xs p xs′ p′ 5
   unfolding PartsAgree PartAgrees
-  last-is a = subst (λ (κ : Part). PartAgrees e e′ κ xs (p + getD partCells (6 * g + 5) 0) xs′ (p′ + getD partCells (6 * g + 5) 0)) (sym (last-kind g l z)) a
+  last-is a = subst (λ (κ : Part). PartAgrees e e′ κ xs (p + cellAt (6 * g + 5)) xs′ (p′ + cellAt (6 * g + 5))) (sym (last-kind g l z)) a
 
-  last-was : PartsAgree e e′ g xs p xs′ p′ 5 → Agree (e .node (getD xs (p + getD partCells (6 * g + 5) 0) 0)) (e′ .node (getD xs′ (p′ + getD partCells (6 * g + 5) 0) 0))
+  last-was : PartsAgree e e′ g xs p xs′ p′ 5 → Agree (e .node (getD xs (p + cellAt (6 * g + 5)) 0)) (e′ .node (getD xs′ (p′ + cellAt (6 * g + 5)) 0))
   unfolding PartsAgree PartAgrees
-  last-was a = subst (λ (κ : Part). PartAgrees e e′ κ xs (p + getD partCells (6 * g + 5) 0) xs′ (p′ + getD partCells (6 * g + 5) 0)) (last-kind g l z) a
+  last-was a = subst (λ (κ : Part). PartAgrees e e′ κ xs (p + cellAt (6 * g + 5)) xs′ (p′ + cellAt (6 * g + 5))) (last-kind g l z) a
 
 -- ---- node `i` of the arrays
 
@@ -372,15 +367,12 @@ module _ (v v′ : View) (n i m j : ℕ) where
       parts-differ d = decides-no (λ b. d (λ x l. unmade b x (omega arith)))
 
       module _ (q : (x : ℕ) → x < 5 → PartsAgree (envBelow v i) (envBelow v′ j) g (v .nodes) (nodeWidth * i) (v′ .nodes) (nodeWidth * j) x) where
-        pub no-last : getD partKinds (6 * g + 5) 0 ≡ 0 → Decides true (Agree (nodesBelow v n i) (nodesBelow v′ m j))
+        pub no-last : sortAt (6 * g + 5) ≡ 0 → Decides true (Agree (nodesBelow v n i) (nodesBelow v′ m j))
         unfolding PartsAgree PartAgrees partOf
-        no-last z = decides-yes (remade q (subst (λ (x : ℕ). PartAgrees (envBelow v i) (envBelow v′ j) (partOf x) (v .nodes) (nodeWidth * i + getD partCells (6 * g + 5) 0) (v′ .nodes) (nodeWidth * j + getD partCells (6 * g + 5) 0)) (sym z) ok))
+        no-last z = decides-yes (remade q (subst (λ (x : ℕ). PartAgrees (envBelow v i) (envBelow v′ j) (partOf x) (v .nodes) (nodeWidth * i + cellAt (6 * g + 5)) (v′ .nodes) (nodeWidth * j + cellAt (6 * g + 5))) (sym z) ok))
 
-        pub last-decides : {r : Bool} → (getD partKinds (6 * g + 5) 0 ≡ 0 → ⊥) → Decides r (Agree (nodesBelow v i (getD (v .nodes) (nodeWidth * i + getD partCells (6 * g + 5) 0) 0)) (nodesBelow v′ j (getD (v′ .nodes) (nodeWidth * j + getD partCells (6 * g + 5) 0) 0))) → Decides r (Agree (nodesBelow v n i) (nodesBelow v′ m j))
+        pub last-decides : {r : Bool} → (sortAt (6 * g + 5) ≡ 0 → ⊥) → Decides r (Agree (nodesBelow v i (getD (v .nodes) (nodeWidth * i + cellAt (6 * g + 5)) 0)) (nodesBelow v′ j (getD (v′ .nodes) (nodeWidth * j + cellAt (6 * g + 5)) 0))) → Decides r (Agree (nodesBelow v n i) (nodesBelow v′ m j))
         last-decides z d = decides-by (λ a. remade q (last-is (envBelow v i) (envBelow v′ j) _ _ _ _ g bound z a)) (λ b. last-was (envBelow v i) (envBelow v′ j) _ _ _ _ g bound z (unmade b 5 (omega arith))) d
-
-pub cell-small : (k : ℕ) → getD partCells k 0 ≤ 10
-cell-small k = all-below cells-below k
 
 pub node-tag-bound : (xs : List ℕ) (i : ℕ) {g : ℕ} → g ≡ nodeTag xs i → g < 15
 node-tag-bound xs i e = rw e (let h = tag-bound 14 xs nodeWidth i in omega arith)

@@ -2,7 +2,7 @@
 use mathlib.Core.Bool.{true, false}
 use mathlib.Core.Option.{Option, some}
 use mathlib.Core.List.{List, [], _∷_}
-use Prim.Native.Nat.{ℕ, _+_, _*_}
+use Prim.Native.Nat.{ℕ, _+_, _*_, _/_, _%_}
 use lib.Dec.{eqb}
 use lib.ListN.{getD}
 use Rattle.rules.specs.Shape.{Word, TypeShape, Params, FnShape, Shape, Shapes, FieldShapes, CaseShapes, Env, w, words, params, shapes, fields, cases, fns}
@@ -57,44 +57,35 @@ partOf k =
     if (eqb k 1) aWord (if (eqb k 2) someWords (if (eqb k 3) someParams (if (eqb k 4) aType (if (eqb k 5) someFns
     (if (eqb k 6) someNodes (if (eqb k 7) someFields (if (eqb k 8) someCases (if (eqb k 9) aNode nothing))))))))
 
--- six parts for each tag from 0 on, the last being the child that is compared last
-unfoldable pub partKinds : List ℕ
-partKinds =
-    0 ∷ 0 ∷ 0 ∷ 0 ∷ 0 ∷ 0 ∷
-    1 ∷ 0 ∷ 0 ∷ 0 ∷ 0 ∷ 0 ∷
-    1 ∷ 0 ∷ 0 ∷ 0 ∷ 0 ∷ 0 ∷
-    1 ∷ 9 ∷ 0 ∷ 0 ∷ 0 ∷ 9 ∷
-    1 ∷ 0 ∷ 0 ∷ 0 ∷ 0 ∷ 9 ∷
-    2 ∷ 1 ∷ 0 ∷ 0 ∷ 0 ∷ 9 ∷
-    2 ∷ 1 ∷ 3 ∷ 4 ∷ 6 ∷ 0 ∷
-    8 ∷ 1 ∷ 6 ∷ 0 ∷ 0 ∷ 0 ∷
-    6 ∷ 0 ∷ 0 ∷ 0 ∷ 0 ∷ 9 ∷
-    1 ∷ 0 ∷ 0 ∷ 0 ∷ 0 ∷ 9 ∷
-    1 ∷ 4 ∷ 0 ∷ 0 ∷ 0 ∷ 9 ∷
-    1 ∷ 2 ∷ 0 ∷ 0 ∷ 0 ∷ 0 ∷
-    1 ∷ 2 ∷ 1 ∷ 5 ∷ 0 ∷ 0 ∷
-    1 ∷ 7 ∷ 0 ∷ 0 ∷ 0 ∷ 0 ∷
-    1 ∷ 6 ∷ 0 ∷ 0 ∷ 0 ∷ 0 ∷ []
+-- the sort of a part and its cell in one number
+abbrev encode : ℕ → ℕ → ℕ
+encode sort cell = 16 * sort + cell
 
--- the cell of each
-unfoldable pub partCells : List ℕ
-partCells =
+-- six parts for each tag from 0 on, the last being the child that is compared last
+unfoldable pub parts : List ℕ
+parts =
     0 ∷ 0 ∷ 0 ∷ 0 ∷ 0 ∷ 0 ∷
-    2 ∷ 0 ∷ 0 ∷ 0 ∷ 0 ∷ 0 ∷
-    2 ∷ 0 ∷ 0 ∷ 0 ∷ 0 ∷ 0 ∷
-    2 ∷ 6 ∷ 0 ∷ 0 ∷ 0 ∷ 5 ∷
-    2 ∷ 0 ∷ 0 ∷ 0 ∷ 0 ∷ 5 ∷
-    2 ∷ 4 ∷ 0 ∷ 0 ∷ 0 ∷ 7 ∷
-    2 ∷ 4 ∷ 7 ∷ 9 ∷ 10 ∷ 0 ∷
-    2 ∷ 4 ∷ 7 ∷ 0 ∷ 0 ∷ 0 ∷
-    3 ∷ 0 ∷ 0 ∷ 0 ∷ 0 ∷ 2 ∷
-    3 ∷ 0 ∷ 0 ∷ 0 ∷ 0 ∷ 2 ∷
-    2 ∷ 6 ∷ 0 ∷ 0 ∷ 0 ∷ 5 ∷
-    2 ∷ 5 ∷ 0 ∷ 0 ∷ 0 ∷ 0 ∷
-    2 ∷ 5 ∷ 7 ∷ 10 ∷ 0 ∷ 0 ∷
-    2 ∷ 5 ∷ 0 ∷ 0 ∷ 0 ∷ 0 ∷
-    2 ∷ 5 ∷ 0 ∷ 0 ∷ 0 ∷ 0 ∷ []
+    encode 1 2 ∷ 0 ∷ 0 ∷ 0 ∷ 0 ∷ 0 ∷
+    encode 1 2 ∷ 0 ∷ 0 ∷ 0 ∷ 0 ∷ 0 ∷
+    encode 1 2 ∷ encode 9 6 ∷ 0 ∷ 0 ∷ 0 ∷ encode 9 5 ∷
+    encode 1 2 ∷ 0 ∷ 0 ∷ 0 ∷ 0 ∷ encode 9 5 ∷
+    encode 2 2 ∷ encode 1 4 ∷ 0 ∷ 0 ∷ 0 ∷ encode 9 7 ∷
+    encode 2 2 ∷ encode 1 4 ∷ encode 3 7 ∷ encode 4 9 ∷ encode 6 10 ∷ 0 ∷
+    encode 8 2 ∷ encode 1 4 ∷ encode 6 7 ∷ 0 ∷ 0 ∷ 0 ∷
+    encode 6 3 ∷ 0 ∷ 0 ∷ 0 ∷ 0 ∷ encode 9 2 ∷
+    encode 1 3 ∷ 0 ∷ 0 ∷ 0 ∷ 0 ∷ encode 9 2 ∷
+    encode 1 2 ∷ encode 4 6 ∷ 0 ∷ 0 ∷ 0 ∷ encode 9 5 ∷
+    encode 1 2 ∷ encode 2 5 ∷ 0 ∷ 0 ∷ 0 ∷ 0 ∷
+    encode 1 2 ∷ encode 2 5 ∷ encode 1 7 ∷ encode 5 10 ∷ 0 ∷ 0 ∷
+    encode 1 2 ∷ encode 7 5 ∷ 0 ∷ 0 ∷ 0 ∷ 0 ∷
+    encode 1 2 ∷ encode 6 5 ∷ 0 ∷ 0 ∷ 0 ∷ 0 ∷ []
+
+unfoldable pub sortAt : ℕ → ℕ
+sortAt k = getD parts k 0 / 16
+
+unfoldable pub cellAt : ℕ → ℕ
+cellAt k = getD parts k 0 % 16
 
 -- part `k` of two records of one tag, from the cells `p` and `p′` on
 unfoldable pub PartsAgree : Env → Env → ℕ → List ℕ → ℕ → List ℕ → ℕ → ℕ → Type 0
-PartsAgree e e′ tag xs p xs′ p′ k = PartAgrees e e′ (partOf (getD partKinds (6 * tag + k) 0)) xs (p + getD partCells (6 * tag + k) 0) xs′ (p′ + getD partCells (6 * tag + k) 0)
+PartsAgree e e′ tag xs p xs′ p′ k = PartAgrees e e′ (partOf (sortAt (6 * tag + k))) xs (p + cellAt (6 * tag + k)) xs′ (p′ + cellAt (6 * tag + k))

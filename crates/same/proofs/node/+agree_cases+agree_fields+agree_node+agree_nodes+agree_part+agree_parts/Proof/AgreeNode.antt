@@ -1,11 +1,8 @@
 -- `agree-node` meets its contract.
 use borrow.Author.Tests.{not-true, not-false}
-use Prim.Native.Nat.{_*_, _+_, _<_}
-use lib.ListN.{getD}
-use mathlib.Core.Path.{refl, ap}
-use Rattle.same.specs.Agree.{Agree, Decides}
-use Rattle.same.specs.Shapes.{view, envBelow, nodesBelow}
-use Rattle.same.specs.Parts.{partKinds, partCells}
+use Prim.Native.Nat.{_*_, _+_}
+use Rattle.same.specs.Shapes.{view}
+use Rattle.same.specs.Parts.{parts, sortAt, cellAt}
 use Rattle.same.proofs.Agree.{decides-not}
 use Rattle.same.proofs.Nodes.{node-past-left, node-past-right, node-zero, other-node-tag, parts-differ, no-last, last-decides, node-tag-bound, cell-small}
 use borrow.Author.Needs.{needs}
@@ -57,7 +54,7 @@ returns-5 t c =
     parts-differ v v2 (a .n) (a .i) (a .m) (a .j) (c .before .before .before .before .before .before .before .before .before .if1 .left) (c .before .before .before .before .before .before .before .before .if2 .left) (c .before .before .before .before .before .before .node-tag .ensures) (c .before .before .before .node-tag2 .ensures) (c .before .before .if4 .left) (c .before .before .before .before .before .if3 .left) (decides-not _ (not-true _ (c .if5 .taken)) (c .before .agree-parts .ensures))
 
 returns-6 : (t : ℕ) → lts.Need-returns-6 (claims t) (agree-node-at t) agree-node.Post
-unfolding partKinds
+unfolding sortAt parts
 returns-6 t c =
     let a = c .before .before .before .before .before .before .before .before .before .before .before .args in
     let v = view (a .s .now .now) (a .nodes .now .now) (a .types .now .now) (a .cells .now .now) (a .k) in
@@ -65,7 +62,7 @@ returns-6 t c =
     no-last v v2 (a .n) (a .i) (a .m) (a .j) (c .before .before .before .before .before .before .before .before .before .before .if1 .left) (c .before .before .before .before .before .before .before .before .before .if2 .left) (c .before .before .before .before .before .before .before .node-tag .ensures) (c .before .before .before .before .node-tag2 .ensures) (c .before .before .before .if4 .left) (c .before .before .before .before .before .before .if3 .left) (c .before .before .agree-parts .ensures .holds (not-false _ (c .before .if5 .left))) (c .if6 .taken)
 
 returns-7 : (t : ℕ) → lts.Need-returns-7 (claims t) (agree-node-at t) agree-node.Post
-unfolding partKinds partCells
+unfolding sortAt cellAt parts
 returns-7 t c =
     let a = c .before .before .before .before .before .before .before .before .before .before .before .before .before .before .before .before .args in
     let v = view (a .s .now .now) (a .nodes .now .now) (a .types .now .now) (a .cells .now .now) (a .k) in
@@ -73,7 +70,7 @@ returns-7 t c =
     last-decides v v2 (a .n) (a .i) (a .m) (a .j) (c .before .before .before .before .before .before .before .before .before .before .before .before .before .before .before .if1 .left) (c .before .before .before .before .before .before .before .before .before .before .before .before .before .before .if2 .left) (c .before .before .before .before .before .before .before .before .before .before .before .before .node-tag .ensures) (c .before .before .before .before .before .before .before .before .before .node-tag2 .ensures) (c .before .before .before .before .before .before .before .before .if4 .left) (c .before .before .before .before .before .before .before .before .before .before .before .if3 .left) (c .before .before .before .before .before .before .before .agree-parts .ensures .holds (not-false _ (c .before .before .before .before .before .before .if5 .left))) (c .before .before .before .before .before .if6 .left) (rw (c .before .before .before .cell .ensures, c .before .cell2 .ensures) at (c .agree-node .ensures))
 
 cast-o : (t : ℕ) → lts.Need-cast-o (claims t) (agree-node-at t) agree-node.Post
-unfolding partCells
+unfolding cellAt parts
 cast-o t c = omega (arith, cell-small (6 * c .before .before .before .before .before .before .before .node-tag .result + 5))
 
 pub agree-node-meets : {M : Type 1} (t : ℕ) → lts.Closed (claims t) (agree-node-at t) agree-node.Post M
@@ -89,9 +86,8 @@ agree-node-meets t = lts.spec (claims t) (agree-node-at t) agree-node.Post
     (λ c. search needs)  -- cast-last
     (λ c. omega (arith, node-tag-bound _ _ (c .before .before .before .before .before .before .node-tag .ensures)))  -- mul-last
     (λ c. omega (arith, node-tag-bound _ _ (c .before .before .before .before .before .before .node-tag .ensures)))  -- add-last
-    (λ c. omega (arith, node-tag-bound _ _ (c .before .before .before .before .before .before .node-tag .ensures)))  -- array-read-if6
+    (λ c. omega (arith, node-tag-bound _ _ (c .before .before .before .before .before .before .node-tag .ensures)))  -- array-read-last
     (returns-6 t)
-    (λ c. omega (arith, node-tag-bound _ _ (c .before .before .before .before .before .before .before .node-tag .ensures)))  -- array-read-o
     (cast-o t)
     (λ c. omega (arith, c .before .before .before .before .before .before .before .before .before .before .before .before .fits .i))  -- mul-cell
     (λ c κs. search needs)  -- cell-requires

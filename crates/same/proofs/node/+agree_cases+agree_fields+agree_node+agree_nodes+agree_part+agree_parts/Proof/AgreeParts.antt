@@ -1,12 +1,10 @@
 -- `agree-parts` meets its contract.
 use borrow.Author.Tests.{not-true, not-false}
 use Prim.Native.Nat.{_*_, _+_, _<_}
-use lib.ListN.{getD}
-use mathlib.Core.Path.{refl, ap}
-use Rattle.same.specs.Agree.{Agree, Decides}
-use Rattle.same.specs.Shapes.{view, envBelow, nodesBelow}
+use Rattle.same.specs.Agree.{Decides}
+use Rattle.same.specs.Shapes.{view, envBelow}
 use Prim.Native.Nat.{_-_, _≤_}
-use Rattle.same.specs.Parts.{PartsAgree, partKinds, partCells}
+use Rattle.same.specs.Parts.{PartsAgree, parts, sortAt, cellAt}
 use Rattle.same.proofs.Agree.{decides-yes, decides-no, decides-not}
 use Rattle.same.proofs.Nodes.{more-parts, cell-small}
 use borrow.Author.Needs.{needs}
@@ -30,7 +28,7 @@ loop-holds : (t : ℕ) → lts.Need-loop-holds (claims t) (agree-parts-at t) agr
 loop-holds t c = (omega arith, λ y l. absurd (omega arith))
 
 returns : (t : ℕ) → lts.Need-returns (claims t) (agree-parts-at t) agree-parts.Post Inv-loop μ-loop
-unfolding PartsAgree partKinds partCells
+unfolding PartsAgree sortAt cellAt parts
 returns t c =
     let a = c .before .before .before .before .args in
     let v = view (a .s .now .now) (a .nodes .now .now) (a .types .now .now) (a .cells .now .now) (a .k) in
@@ -42,7 +40,7 @@ loop-less : (t : ℕ) → lts.Need-loop-less (claims t) (agree-parts-at t) agree
 loop-less t c = omega (arith, c .before .before .loop-test .taken)
 
 loop-again : (t : ℕ) → lts.Need-loop-again (claims t) (agree-parts-at t) agree-parts.Post Inv-loop μ-loop
-unfolding PartsAgree partKinds partCells
+unfolding PartsAgree sortAt cellAt parts
 loop-again t c =
     let a = c .before .before .before .before .args in
     let v = view (a .s .now .now) (a .nodes .now .now) (a .types .now .now) (a .cells .now .now) (a .k) in
@@ -58,24 +56,23 @@ returns-2 t c =
     decides-yes (λ y l. c .before .loop .inv .1 y (omega (arith, c .loop-test .left)))
 
 cast-o : (t : ℕ) → lts.Need-cast-o (claims t) (agree-parts-at t) agree-parts.Post Inv-loop μ-loop
-unfolding partCells
+unfolding cellAt parts
 cast-o t c = omega (arith, cell-small (6 * c .before .before .args .tag + c .before .loop .x))
 
 add-agree-part : (t : ℕ) → lts.Need-add-agree-part (claims t) (agree-parts-at t) agree-parts.Post Inv-loop μ-loop
-unfolding partCells
+unfolding cellAt parts
 add-agree-part t c = omega (arith, cell-small (6 * c .before .before .args .tag + c .before .loop .x), c .before .before .fits .i)
 
 add-agree-part-2 : (t : ℕ) → lts.Need-add-agree-part-2 (claims t) (agree-parts-at t) agree-parts.Post Inv-loop μ-loop
-unfolding partCells
+unfolding cellAt parts
 add-agree-part-2 t c = omega (arith, cell-small (6 * c .before .before .args .tag + c .before .loop .x), c .before .before .fits .j)
 
 pub agree-parts-meets : {M : Type 1} (t : ℕ) → lts.Closed (claims t) (agree-parts-at t) agree-parts.Post M
 agree-parts-meets t = lts.spec (claims t) (agree-parts-at t) agree-parts.Post Inv-loop μ-loop
     (loop-holds t)
-    (λ c. omega (arith, c .before .before .pre .1))  -- mul-p
-    (λ c. omega (arith, c .before .before .pre .1, c .loop-test .taken))  -- add-p
-    (λ c. omega (arith, c .before .before .pre .1, c .loop-test .taken))  -- array-read-kind
-    (λ c. omega (arith, c .before .before .pre .1, c .loop-test .taken))  -- array-read-o
+    (λ c. omega (arith, c .before .before .pre .1))  -- mul-part
+    (λ c. omega (arith, c .before .before .pre .1, c .loop-test .taken))  -- add-part
+    (λ c. omega (arith, c .before .before .pre .1, c .loop-test .taken))  -- array-read-part
     (cast-o t)
     (λ c. omega (arith, c .before .before .fits .i))  -- mul-agree-part
     (add-agree-part t)
