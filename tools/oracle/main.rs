@@ -16,18 +16,18 @@
 #![feature(allocator_api, portable_simd, core_intrinsics)]
 #![allow(internal_features)]
 
-include!(env!("ORACLE_MODULES")); // written by tools/oracle/build: lex, diagnostic, ast, parser, counted
+include!(env!("RUST_MODULES")); // written by rust.py: lex, diagnostic, ast, parser, counted, notes
 
-mod notes;
+mod numbers;
 
 use crate::ast::{Ast, Node, NodeId, TypeExpr, TypeExprId};
 use crate::diagnostic::{Diagnostic, Span};
 use crate::lex::{Lexer, Token, Type};
 use crate::notes::Notes;
+use crate::numbers::{Script, error_numbers, tokens_of};
 use purple_garden_allocators::bump::Bump;
 use std::alloc::Global;
-use std::cell::OnceCell;
-use std::collections::{HashMap, HashSet};
+use std::collections::HashSet;
 use std::fmt::Write as _;
 use std::io::{Read, Write as _};
 use std::sync::atomic::{AtomicUsize, Ordering};
@@ -86,116 +86,6 @@ fn read_collect<'src, 'ast>(script: &'src [u8], arena: &'ast Bump) -> Reading<'s
         Some(ast) => Reading::Read(ast, unchanged.diagnostics),
         None => die("collecting mode gave no tree"),
     }
-}
-
-fn tokens_of(script: &[u8]) -> Vec<Token<'_>> {
-    let mut lexer = Lexer::new(script);
-    let mut tokens = Vec::new();
-    loop {
-        let token = lexer.one();
-        let last = token.t == Type::Eof;
-        tokens.push(token);
-        if last {
-            return tokens;
-        }
-    }
-}
-
-// ---- errors as numbers
-
-/// The error numbers of document 01 by what the Rust's messages begin with.
-const MESSAGES: [(&str, usize); 17] = [
-    ("Expected `", 11),
-    ("Expected an identifier, got ", 12),
-    ("documentation is not attached to anything", 13),
-    ("documentation can only be attached to ", 14),
-    ("Only strings are allowed as import paths", 15),
-    ("Expected a string package name after ", 16),
-    ("nested extern declarations ", 17),
-    ("A match statement requires a default branch", 18),
-    ("Expected expression, got ", 19),
-    ("Expected a foreign type name after ", 20),
-    ("Expected a type after `Option<`", 21),
-    ("Expected a type after `Array<`", 22),
-    ("Bad type, expected one of", 23),
-    ("Unterminated string", 31),
-    ("Invalid utf8 input", 32),
-    ("Unknown character `", 33),
-    ("Invalid numeric literal", 34),
-];
-
-/// Every kind that `expect` is called with.
-const WANTED: [Type<'static>; 12] = [
-    Type::BraceLeft,
-    Type::BraceRight,
-    Type::Equal,
-    Type::LessThan,
-    Type::GreaterThan,
-    Type::Colon,
-    Type::BraketRight,
-    Type::CurlyLeft,
-    Type::CurlyRight,
-    Type::Extern,
-    Type::Let,
-    Type::Fn,
-];
-
-/// Kinds count in the order of `Type`, from 1.
-fn kind_number(t: &Type<'_>) -> usize {
-    std::intrinsics::discriminant_value(t) as usize + 1
-}
-
-fn wanted_kind(message: &str) -> usize {
-    let name = message.split('`').nth(1).unwrap_or("");
-    match WANTED.iter().find(|t| format!("{t:?}") == name) {
-        Some(t) => kind_number(t),
-        None => die(&format!("unknown wanted kind in: {message}")),
-    }
-}
-
-/// A script, and the kinds of its tokens by their spans, made when first asked for.
-struct Script<'src> {
-    bytes: &'src [u8],
-    kinds: OnceCell<HashMap<(usize, usize), usize>>,
-}
-
-impl<'src> Script<'src> {
-    fn new(bytes: &'src [u8]) -> Self {
-        Self { bytes, kinds: OnceCell::new() }
-    }
-
-    /// The kind of the token that an error names by its span.
-    fn seen_kind(&self, span: Span) -> usize {
-        let kinds = self.kinds.get_or_init(|| {
-            let mut kinds = HashMap::new();
-            for t in tokens_of(self.bytes) {
-                let span = Span::from_token(&t);
-                if kinds.insert((span.start, span.len), kind_number(&t.t)).is_some() {
-                    die(&format!("two tokens have the span {span:?}"));
-                }
-            }
-            kinds
-        });
-        match kinds.get(&(span.start, span.len)) {
-            Some(&kind) => kind,
-            None => die(&format!("no token has the span {span:?}")),
-        }
-    }
-}
-
-/// number, span start, span length, wanted kind, seen kind
-fn error_numbers(script: &Script<'_>, error: &Diagnostic) -> String {
-    let Some(&(_, number)) = MESSAGES.iter().find(|(begin, _)| error.message.starts_with(begin)) else {
-        die(&format!("unknown message: {}", error.message));
-    };
-    let span = error.primary.span;
-    let wanted = if number == 11 { wanted_kind(&error.message) } else { 0 };
-    let seen = match number {
-        33 => script.bytes[span.start] as usize,
-        31..=34 => 0,
-        _ => script.seen_kind(span),
-    };
-    format!("{number} {} {} {wanted} {seen}", span.start, span.len)
 }
 
 // ---- the forms of the listing
@@ -285,6 +175,10 @@ fn type_expr(ty: &TypeExpr<'_, '_>) -> String {
     }
 }
 
+fn numbers(script: &Script<'_>, error: &Diagnostic) -> String {
+    error_numbers(script, error).map(|n| n.to_string()).join(" ")
+}
+
 fn listing(bytes: &[u8], reading: &Reading<'_, '_>) -> String {
     let script = &Script::new(bytes);
     let mut out = String::new();
@@ -304,11 +198,11 @@ fn listing(bytes: &[u8], reading: &Reading<'_, '_>) -> String {
             }
             out.push_str(")\n");
             for error in errors {
-                let _ = writeln!(out, "(diag {})", error_numbers(script, error));
+                let _ = writeln!(out, "(diag {})", numbers(script, error));
             }
         }
         Reading::Error(error) => {
-            let _ = writeln!(out, "(error {})", error_numbers(script, error));
+            let _ = writeln!(out, "(error {})", numbers(script, error));
         }
         Reading::Refused(span) => {
             let _ = writeln!(out, "(refused 10 {} {})", span.start, span.len);
@@ -326,7 +220,7 @@ fn lexed(bytes: &[u8]) -> String {
     loop {
         let t = lexer.one();
         for fault in std::mem::take(&mut lexer.diagnostics) {
-            let _ = writeln!(out, "(diag {})", error_numbers(script, &fault));
+            let _ = writeln!(out, "(diag {})", numbers(script, &fault));
         }
         let _ = writeln!(out, "{}", token(&t));
         if t.t == Type::Eof {
