@@ -1,0 +1,112 @@
+/* purple_garden.h: the reader of Purple Garden scripts for C.
+ *
+ * Link libreader_c.a, which tools/build-library writes (x86-64 Linux). The functions keep nothing between calls, allocate nothing, call nothing
+ * of yours, and may be called from several threads at once, each with arrays of its own.
+ *
+ * What a caller must keep, and no function can test:
+ * - A pointer with a length beside it is not null, is aligned for its type, and points to at least so many elements; with length 0 any
+ *   aligned pointer that is not null will do. `numbers`, `counts` and the arrays for an answer have the lengths that are written here.
+ * - What a function writes to overlaps nothing else that is passed to it, and nobody else uses it during the call.
+ * - There is stack enough: a reading takes up to 400 KB (the deepest nests measured took 384 KB).
+ *
+ * What is not left to the caller: on every input that keeps this, each function answers what its comment says. That is proved (crates/reader_c).
+ *
+ * Numbers that functions return (docs/01 of the scope): 0, it went well;
+ *   1, the script has over 65,536 bytes; 2, an array is shorter than its least length; 3, the node, type or position asked about lies outside;
+ *   4, something visited is malformed; with 1 to 4 nothing that is lent changes;
+ *   10 to 23, the script's own error. */
+
+#ifndef PURPLE_GARDEN_H
+#define PURPLE_GARDEN_H
+
+#include <stddef.h>
+#include <stdint.h>
+
+#ifdef __cplusplus
+extern "C" {
+#endif
+
+/* The longest script that is read, in bytes. */
+#define PURPLE_GARDEN_MAX_BYTES 65536
+
+/* The least lengths of the five arrays, in cells for each byte of the script. They always suffice. docs/LAYOUT.md says what the cells hold. */
+#define PURPLE_GARDEN_NODE_CELLS 16
+#define PURPLE_GARDEN_TYPE_CELLS 8
+#define PURPLE_GARDEN_LIST_CELLS 8
+#define PURPLE_GARDEN_ROOT_CELLS 1
+#define PURPLE_GARDEN_DIAGNOSTIC_CELLS 5
+
+/* Places in `numbers`, the twelve cells that a reading fills: its number; the five numbers of the error that ended it (0 where none did);
+ * and six counts (0 where there is no tree). The counts alone begin at `numbers + PURPLE_GARDEN_COUNTS`. */
+enum {
+    PURPLE_GARDEN_NUMBER = 0,
+    PURPLE_GARDEN_ERROR_NUMBER = 1,
+    PURPLE_GARDEN_ERROR_START = 2,
+    PURPLE_GARDEN_ERROR_LENGTH = 3,
+    PURPLE_GARDEN_ERROR_WANTED = 4, /* the wanted kind of token, for 11 */
+    PURPLE_GARDEN_ERROR_SEEN = 5,   /* the kind of the token that the error names */
+    PURPLE_GARDEN_COUNTS = 6,
+    PURPLE_GARDEN_NODES = 6,
+    PURPLE_GARDEN_TYPES = 7,
+    PURPLE_GARDEN_LIST_CELLS_USED = 8,
+    PURPLE_GARDEN_ROOTS = 9,
+    PURPLE_GARDEN_VALUES = 10,
+    PURPLE_GARDEN_DIAGNOSTICS = 11,
+    PURPLE_GARDEN_NUMBERS = 12 /* how many cells there are */
+};
+
+/* Strict reading: the tree of the script, or the first error. Lengths count elements. Returns the number, which `numbers[0]` has too.
+ *   0: the arrays hold the tree, and zeros behind it. 10 to 23: every cell of the arrays is zero. 1, 2: nothing changed, `numbers` neither. */
+uint32_t purple_garden_parse(const uint8_t *script, size_t script_len,
+                             uint32_t *nodes, size_t nodes_len,
+                             uint32_t *types, size_t types_len,
+                             uint32_t *lists, size_t lists_len,
+                             uint32_t *roots, size_t roots_len,
+                             uint32_t *diagnostics, size_t diagnostics_len,
+                             uint32_t numbers[12]);
+
+/* The lookups and the comparison take the script, the arrays that a reading left and its six counts. They take arrays from anywhere: what
+ * is malformed is refused with 4. They write their answer only where they return 0. */
+
+/* Where node `node` starts: `start` gets 1 and the byte offset, or 0 and 0 for a node that has no start (an empty array). */
+uint32_t purple_garden_node_start(const uint8_t *script, size_t script_len,
+                                  const uint32_t *nodes, size_t nodes_len,
+                                  const uint32_t *types, size_t types_len,
+                                  const uint32_t *lists, size_t lists_len,
+                                  const uint32_t *roots, size_t roots_len,
+                                  const uint32_t counts[6], uint32_t node, uint64_t start[2]);
+
+/* The token of type `type`: `token` gets its kind, start and length. */
+uint32_t purple_garden_type_token(const uint8_t *script, size_t script_len,
+                                  const uint32_t *nodes, size_t nodes_len,
+                                  const uint32_t *types, size_t types_len,
+                                  const uint32_t *lists, size_t lists_len,
+                                  const uint32_t *roots, size_t roots_len,
+                                  const uint32_t counts[6], uint32_t type, uint64_t token[3]);
+
+/* The span of a token, given as its kind, start and length: `span` gets start and length. A string's span starts behind its quote. */
+uint32_t purple_garden_token_span(const uint8_t *script, size_t script_len,
+                                  uint32_t kind, size_t start, size_t length, uint64_t span[2]);
+
+/* The line and column of the byte at offset `at`, both counted from 1: `place` gets both. `at` may be the script's length. */
+uint32_t purple_garden_line_column(const uint8_t *script, size_t script_len, uint32_t at, uint64_t place[2]);
+
+/* Two trees have the same shape: `same` gets 1 for yes, 0 for no. Trees from anywhere that share nodes can take very long (docs/DECISIONS.md, 26). */
+uint32_t purple_garden_same_shape(const uint8_t *script, size_t script_len,
+                                  const uint32_t *nodes, size_t nodes_len,
+                                  const uint32_t *types, size_t types_len,
+                                  const uint32_t *lists, size_t lists_len,
+                                  const uint32_t *roots, size_t roots_len,
+                                  const uint32_t counts[6],
+                                  const uint8_t *script2, size_t script2_len,
+                                  const uint32_t *nodes2, size_t nodes2_len,
+                                  const uint32_t *types2, size_t types2_len,
+                                  const uint32_t *lists2, size_t lists2_len,
+                                  const uint32_t *roots2, size_t roots2_len,
+                                  const uint32_t counts2[6], uint64_t same[1]);
+
+#ifdef __cplusplus
+}
+#endif
+
+#endif
