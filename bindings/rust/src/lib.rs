@@ -1,0 +1,152 @@
+//! Reads Purple Garden scripts: the tree of a script, or the error that ended the reading.
+//!
+//! ```
+//! use purple_garden_reader::Tree;
+//!
+//! let tree = Tree::parse("let x = a -1")?;
+//! for root in tree.roots() {
+//!     println!("{:?}", tree.node(root));
+//! }
+//! # Ok::<(), purple_garden_reader::Error>(())
+//! ```
+//!
+//! The reading itself is proved (crates/reader_c and below); this wrapper lends it arrays of the lengths it asks for and decodes what they hold.
+
+mod error;
+mod ffi;
+mod kind;
+mod node;
+
+pub use error::{Error, Problem};
+pub use kind::Kind;
+pub use node::{Case, Field, Function, List, Member, Node, NodeId, Parameter, Token, Type, TypeId};
+
+use std::ops::Range;
+
+/// The longest script that is read, in bytes.
+pub const MAX_BYTES: usize = 65_536;
+
+/// A script and its tree.
+pub struct Tree {
+    script: Vec<u8>,
+    arrays: ffi::Arrays,
+    counts: ffi::Counts,
+}
+
+impl Tree {
+    /// Strict reading: the tree, or the first error.
+    pub fn parse(script: impl Into<Vec<u8>>) -> Result<Tree, Error> {
+        let script = script.into();
+        let mut arrays = ffi::Arrays::new(&script)?;
+        match arrays.parse(&script) {
+            Ok(counts) => Ok(Tree { script, arrays, counts }),
+            Err(numbers) => Err(Error::new(&script, numbers)),
+        }
+    }
+
+    pub fn script(&self) -> &[u8] {
+        &self.script
+    }
+
+    /// The nodes that stand at the root, in script order.
+    pub fn roots(&self) -> impl ExactSizeIterator<Item = NodeId> + '_ {
+        self.arrays.roots[..self.counts.roots()].iter().map(|&id| NodeId(id))
+    }
+
+    /// Every node, in the order in which they were made: those below a node come before it. A body that a later default replaced is
+    /// among them, though no root reaches it.
+    pub fn nodes(&self) -> impl ExactSizeIterator<Item = (NodeId, Node<'_>)> {
+        (0..self.counts.nodes() as u32).map(|i| (NodeId(i), self.node(NodeId(i))))
+    }
+
+    /// Every type, in the order in which they were made.
+    pub fn types(&self) -> impl ExactSizeIterator<Item = (TypeId, Type<'_>)> {
+        (0..self.counts.types() as u32).map(|i| (TypeId(i), self.ty(TypeId(i))))
+    }
+
+    /// How many value numbers were handed out.
+    pub fn values(&self) -> u32 {
+        self.counts.values()
+    }
+
+    /// A node of this tree.
+    ///
+    /// # Panics
+    /// Where the tree has no node of that number.
+    pub fn node(&self, id: NodeId) -> Node<'_> {
+        assert!((id.0 as usize) < self.counts.nodes(), "no node {}", id.0);
+        Node::decode(self.lists(), &self.arrays.nodes[16 * id.0 as usize..][..16])
+    }
+
+    /// A type of this tree.
+    ///
+    /// # Panics
+    /// Where the tree has no type of that number.
+    pub fn ty(&self, id: TypeId) -> Type<'_> {
+        assert!((id.0 as usize) < self.counts.types(), "no type {}", id.0);
+        Type::decode(self.lists(), &self.arrays.types[8 * id.0 as usize..][..8])
+    }
+
+    fn lists(&self) -> &[u32] {
+        &self.arrays.lists[..self.counts.cells()]
+    }
+
+    /// What a token says: of a string what stands between its quotes, of a doc its line.
+    pub fn spelling(&self, token: Token) -> &str {
+        if let Some(fixed) = token.kind.fixed_spelling() {
+            return fixed;
+        }
+        let start = token.start as usize;
+        let offset = match token.kind {
+            Kind::S => 1,
+            Kind::Doc if self.script.get(start + 2) == Some(&b' ') => 3,
+            Kind::Doc => 2,
+            _ => 0,
+        };
+        let bytes = &self.script[start + offset..][..token.len as usize];
+        std::str::from_utf8(bytes).expect("the lexer refuses bad UTF-8")
+    }
+
+    /// Where a node starts, in bytes; an empty array has no start.
+    ///
+    /// # Panics
+    /// Where the tree has no node of that number.
+    pub fn start(&self, id: NodeId) -> Option<usize> {
+        let start = self.arrays.node_start(&self.script, &self.counts, id.0);
+        start.unwrap_or_else(|number| panic!("no node {}: refused with {number}", id.0))
+    }
+
+    /// The token of a type: its own, or that of the type inside.
+    ///
+    /// # Panics
+    /// Where the tree has no type of that number.
+    pub fn type_token(&self, id: TypeId) -> Token {
+        let token = self.arrays.type_token(&self.script, &self.counts, id.0);
+        token.unwrap_or_else(|number| panic!("no type {}: refused with {number}", id.0))
+    }
+
+    /// The bytes that a token covers. A string's span starts behind its quote.
+    ///
+    /// # Panics
+    /// Where the token is none of this tree.
+    pub fn span(&self, token: Token) -> Range<usize> {
+        ffi::token_span(&self.script, token).unwrap_or_else(|number| panic!("no token of this script: refused with {number}"))
+    }
+
+    /// The line and column of a byte position, both from 1; nothing where it lies past the script's end.
+    pub fn line_column(&self, at: usize) -> Option<(usize, usize)> {
+        ffi::line_column(&self.script, at).ok()
+    }
+
+    /// The two trees have the same shape: the same kinds, spellings, docs and lists downward from their roots, wherever they stand.
+    pub fn same_shape(&self, other: &Tree) -> bool {
+        let same = self.arrays.same_shape(&self.script, &self.counts, &other.arrays, &other.script, &other.counts);
+        same.expect("trees of readings are well formed")
+    }
+}
+
+impl std::fmt::Debug for Tree {
+    fn fmt(&self, f: &mut std::fmt::Formatter<'_>) -> std::fmt::Result {
+        f.debug_struct("Tree").field("nodes", &self.nodes().collect::<Vec<_>>()).field("types", &self.types().collect::<Vec<_>>()).finish()
+    }
+}
