@@ -1,3 +1,3 @@
 -- What the proofs of the exported functions share, and demand 3 of what is delivered.
-pub mod Tells
+pub mod Answers
 pub mod UniqueReading

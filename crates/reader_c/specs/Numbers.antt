@@ -49,13 +49,13 @@ numberOf (refused n) = n
 numberOf (answer a) = 0
 
 -- the cells of the answer; a refusal changes nothing that is lent
-unfoldable pub told : {A : Type 0} → (A → List ℕ) → Answer A → List ℕ → List ℕ
-told cells (refused n) out = out
-told cells (answer a) out = cells a
+unfoldable pub stored : {A : Type 0} → (A → List ℕ) → Answer A → List ℕ → List ℕ
+stored cells (refused n) out = out
+stored cells (answer a) out = cells a
 
 -- the number that is returned, and what is lent for the answer before and after
-abbrev pub Told : {A : Type 0} → (A → List ℕ) → Answer A → ℕ → List ℕ → List ℕ → Type 0
-Told cells a r out out′ = (r ≡ numberOf a) × (out′ ≡ told cells a out)
+abbrev pub Answers : {A : Type 0} → (A → List ℕ) → Answer A → ℕ → List ℕ → List ℕ → Type 0
+Answers cells a r out out′ = (r ≡ numberOf a) × (out′ ≡ stored cells a out)
 
 -- whether there is a start, and the start
 unfoldable pub startCells : Option ℕ → List ℕ
@@ -73,8 +73,8 @@ unfoldable pub yesCells : Bool → List ℕ
 yesCells true = 1 ∷ []
 yesCells false = 0 ∷ []
 
--- the right answer, told; `compares-once` has that there is only one
-pub record ComparisonTold (a b : Lent) (r : ℕ) (out out′ : List ℕ) : Type 0 where
+-- the right answer; `compares-once` has that there is only one
+pub record AnswersComparison (a b : Lent) (r : ℕ) (out out′ : List ℕ) : Type 0 where
   pub is : Answer Bool
   pub right : Compares a b is
-  pub told : Told yesCells is r out out′
+  pub answers : Answers yesCells is r out out′

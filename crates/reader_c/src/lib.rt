@@ -25,7 +25,7 @@ ghost use Rattle.ast.specs.Answer.{lent};
 ghost use Rattle.ast.specs.Lookup.{nodeStart, typeToken};
 ghost use Rattle.ast.specs.Span.{tokenSpan};
 ghost use Rattle.ast.specs.Position.{placeAt};
-ghost use Rattle.reader_c.specs.Numbers.{countsAt, asNumbers, startCells, spanCells, placeCells, Told, ComparisonTold};
+ghost use Rattle.reader_c.specs.Numbers.{countsAt, asNumbers, startCells, spanCells, placeCells, Answers, AnswersComparison};
 
 // Strict reading. `numbers` gets its number, the five numbers of an error and the six counts, and keeps what it has where the call is refused.
 #[no_mangle]
@@ -104,7 +104,7 @@ pub extern "C" fn purple_garden_node_start(
     node: u32,
     start: &mut [u64; 2],
 ) -> u32
-    ensures { λ r. ⌜ Told startCells (nodeStart (lent (now (script .entry)) (now (nodes .entry)) (now (types .entry)) (now (lists .entry)) (now (roots .entry)) (countsAt (now (counts .entry)))) node) r (now (start .entry)) (now (start .exit)) ⌝ }
+    ensures { λ r. ⌜ Answers startCells (nodeStart (lent (now (script .entry)) (now (nodes .entry)) (now (types .entry)) (now (lists .entry)) (now (roots .entry)) (countsAt (now (counts .entry)))) node) r (now (start .entry)) (now (start .exit)) ⌝ }
 {
     match node_start(
         script,
@@ -139,7 +139,7 @@ pub extern "C" fn purple_garden_type_token(
     ty: u32,
     token: &mut [u64; 3],
 ) -> u32
-    ensures { λ r. ⌜ Told tokenCells (typeToken (lent (now (script .entry)) (now (nodes .entry)) (now (types .entry)) (now (lists .entry)) (now (roots .entry)) (countsAt (now (counts .entry)))) ty) r (now (token .entry)) (now (token .exit)) ⌝ }
+    ensures { λ r. ⌜ Answers tokenCells (typeToken (lent (now (script .entry)) (now (nodes .entry)) (now (types .entry)) (now (lists .entry)) (now (roots .entry)) (countsAt (now (counts .entry)))) ty) r (now (token .entry)) (now (token .exit)) ⌝ }
 {
     match type_token(
         script,
@@ -167,7 +167,7 @@ pub extern "C" fn purple_garden_token_span(
     len: usize,
     span: &mut [u64; 2],
 ) -> u32
-    ensures { λ r. ⌜ Told spanCells (tokenSpan (now (script .entry)) (record { kind = kind; start = start; len = len })) r (now (span .entry)) (now (span .exit)) ⌝ }
+    ensures { λ r. ⌜ Answers spanCells (tokenSpan (now (script .entry)) (record { kind = kind; start = start; len = len })) r (now (span .entry)) (now (span .exit)) ⌝ }
 {
     match Span::from_token(script, Token { kind, start, len }) {
         SpanRead::Found(s) => {
@@ -181,7 +181,7 @@ pub extern "C" fn purple_garden_token_span(
 // The line and column of a byte position: `place` gets both.
 #[no_mangle]
 pub extern "C" fn purple_garden_line_column(script: &[u8], at: u32, place: &mut [u64; 2]) -> u32
-    ensures { λ r. ⌜ Told placeCells (placeAt (now (script .entry)) at) r (now (place .entry)) (now (place .exit)) ⌝ }
+    ensures { λ r. ⌜ Answers placeCells (placeAt (now (script .entry)) at) r (now (place .entry)) (now (place .exit)) ⌝ }
 {
     match line_column(script, at) {
         Position::At(p) => {
@@ -209,7 +209,7 @@ pub extern "C" fn purple_garden_same_shape(
     counts2: &[u32; 6],
     same: &mut [u64; 1],
 ) -> u32
-    ensures { λ r. ⌜ ComparisonTold (lent (now (script .entry)) (now (nodes .entry)) (now (types .entry)) (now (lists .entry)) (now (roots .entry)) (countsAt (now (counts .entry)))) (lent (now (script2 .entry)) (now (nodes2 .entry)) (now (types2 .entry)) (now (lists2 .entry)) (now (roots2 .entry)) (countsAt (now (counts2 .entry)))) r (now (same .entry)) (now (same .exit)) ⌝ }
+    ensures { λ r. ⌜ AnswersComparison (lent (now (script .entry)) (now (nodes .entry)) (now (types .entry)) (now (lists .entry)) (now (roots .entry)) (countsAt (now (counts .entry)))) (lent (now (script2 .entry)) (now (nodes2 .entry)) (now (types2 .entry)) (now (lists2 .entry)) (now (roots2 .entry)) (countsAt (now (counts2 .entry)))) r (now (same .entry)) (now (same .exit)) ⌝ }
 {
     match same_shape(
         script,

@@ -1,22 +1,22 @@
 -- `purple_garden_line_column` meets its contract.
 -- Assumes nothing.
 use mathlib.Core.Path.{_∙_, sym, ap}
-use Rattle.reader_c.specs.Numbers.{numberOf, told, placeCells}
-use Rattle.reader_c.proofs.Tells.{tells}
+use Rattle.reader_c.specs.Numbers.{numberOf, stored, placeCells}
+use Rattle.reader_c.proofs.Answers.{answers}
 use Rattle.ast.specs.Position.{positionAnswer}
 use borrow.Author.Needs.{needs}
 use Rattle.reader_c.proofs.purple_garden_line_column.Statement.{statement}
 use Rattle.reader_c.proofs.purple_garden_line_column.Tie as tie
 
 returns : tie.Need-returns
-unfolding numberOf told placeCells positionAnswer
+unfolding numberOf stored placeCells positionAnswer
 returns c =
-    tells placeCells _ (sym (ap positionAnswer (c .before .before .before .before .p .given .1)) ∙ c .before .before .before .before .before .before .line-column .ensures)
+    answers placeCells _ (sym (ap positionAnswer (c .before .before .before .before .p .given .1)) ∙ c .before .before .before .before .before .before .line-column .ensures)
 
 returns-2 : tie.Need-returns-2
-unfolding numberOf told positionAnswer
+unfolding numberOf stored positionAnswer
 returns-2 c =
-    tells placeCells _ (sym (ap positionAnswer (c .before .n .given .1)) ∙ c .before .before .before .line-column .ensures)
+    answers placeCells _ (sym (ap positionAnswer (c .before .n .given .1)) ∙ c .before .before .before .line-column .ensures)
 
 pub purple-garden-line-column-spec : {M : Type 1} → statement M
 purple-garden-line-column-spec =

@@ -2,21 +2,21 @@
 -- Assumes nothing.
 use mathlib.Core.Path.{_∙_, sym, ap}
 use Rattle.ast.specs.Span.{spanAnswer}
-use Rattle.reader_c.specs.Numbers.{numberOf, told, spanCells}
-use Rattle.reader_c.proofs.Tells.{tells}
+use Rattle.reader_c.specs.Numbers.{numberOf, stored, spanCells}
+use Rattle.reader_c.proofs.Answers.{answers}
 use borrow.Author.Needs.{needs}
 use Rattle.reader_c.proofs.purple_garden_token_span.Statement.{statement}
 use Rattle.reader_c.proofs.purple_garden_token_span.Tie as tie
 
 returns : tie.Need-returns
-unfolding numberOf told spanCells spanAnswer
+unfolding numberOf stored spanCells spanAnswer
 returns c =
-    tells spanCells _ (sym (ap spanAnswer (c .before .before .s .given .1)) ∙ c .before .before .before .before .from-token .ensures)
+    answers spanCells _ (sym (ap spanAnswer (c .before .before .s .given .1)) ∙ c .before .before .before .before .from-token .ensures)
 
 returns-2 : tie.Need-returns-2
-unfolding numberOf told spanAnswer
+unfolding numberOf stored spanAnswer
 returns-2 c =
-    tells spanCells _ (sym (ap spanAnswer (c .before .n .given .1)) ∙ c .before .before .before .from-token .ensures)
+    answers spanCells _ (sym (ap spanAnswer (c .before .n .given .1)) ∙ c .before .before .before .from-token .ensures)
 
 pub purple-garden-token-span-spec : {M : Type 1} → statement M
 purple-garden-token-span-spec =
