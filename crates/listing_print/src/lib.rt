@@ -1,4 +1,5 @@
 // The listing of a reading on standard output.
+use libc::STDIN_FILENO;
 use libc::STDOUT_FILENO;
 use listing::Listing;
 use rules::Parsed;
@@ -28,4 +29,45 @@ pub fn print(
             io::write_all(STDOUT_FILENO, b"(malformed)\n");
         }
     }
+}
+
+// The listing of a script, read in collecting or in strict mode; `(long)` for one of more than 960 bytes.
+pub fn print_script(script: &[u8], collecting: bool) {
+    if 960 < script.len() {
+        io::write_all(STDOUT_FILENO, b"(long)\n");
+        return;
+    }
+    let mut nodes = [0u32; 15360];
+    let mut types = [0u32; 7680];
+    let mut lists = [0u32; 7680];
+    let mut roots = [0u32; 960];
+    let mut diagnostics = [0u32; 4800];
+    if collecting {
+        let answer = parser::parse_collect(
+            script,
+            &mut nodes,
+            &mut types,
+            &mut lists,
+            &mut roots,
+            &mut diagnostics,
+        );
+        print(answer, &nodes, &types, &lists, &roots, &diagnostics);
+    } else {
+        let answer = parser::parse(
+            script,
+            &mut nodes,
+            &mut types,
+            &mut lists,
+            &mut roots,
+            &mut diagnostics,
+        );
+        print(answer, &nodes, &types, &lists, &roots, &diagnostics);
+    }
+}
+
+// The same of the script on standard input.
+pub fn print_input(collecting: bool) {
+    let mut buf = io::buffer();
+    let n = io::read_full(STDIN_FILENO, &mut buf);
+    print_script(&buf[..n], collecting);
 }
