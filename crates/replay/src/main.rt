@@ -1,5 +1,6 @@
-// Reads a list of scripts on standard input and prints of each what the lexer yields, the listing of strict mode, and the start of each node and
-// the token of each type where strict mode accepts. A script is a frame of at most 960 bytes. What is framed otherwise ends the program.
+// Reads a list of scripts on standard input and prints of each what the lexer yields, the listing of strict mode, the start of each node and
+// the token of each type where strict mode accepts, and the listing of collecting mode. A script is a frame of at most 960 bytes. What is framed
+// otherwise ends the program.
 use ast::lookup::Start;
 use ast::lookup::TypeToken;
 use ast::lookup::node_start;
@@ -114,12 +115,18 @@ fn print_strict(script: &[u8]) {
     }
 }
 
+fn print_collect(script: &[u8]) {
+    write(b"(collect)\n");
+    listing_print::print_script(script, true);
+}
+
 fn print_script(i: u64, script: &[u8]) {
     write(b"(script ");
     write_number(i);
     write(b")\n");
     print_tokens(script);
     print_strict(script);
+    print_collect(script);
 }
 
 // The next script, with number `i`. Answers whether there was one.
