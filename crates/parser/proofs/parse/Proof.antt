@@ -144,4 +144,3 @@ parse-spec =
     same-length-9
     same-length-10
     returns-3)
-

@@ -152,4 +152,3 @@ parse-collect-spec =
     same-length-9
     same-length-10
     returns-3)
-

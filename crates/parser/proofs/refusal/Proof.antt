@@ -85,4 +85,3 @@ refusal-spec =
     (λ c. search needs)
     returns-6
     returns-7)
-
