@@ -1,6 +1,8 @@
 // Numbers and framed bytes on standard input. A number is in decimal and ends at a blank or a line feed; a frame is its length as a
 // number, its bytes, and a line feed.
 use libc::STDIN_FILENO;
+ghost use Prim.Native.Nat.{_≤_};
+ghost use Rattle.io.specs.Counts.{Counts};
 ghost use Rattle.frames.specs.Frame.{Within, Inside};
 
 enum Input {
@@ -96,4 +98,24 @@ pub fn read_frame(buf: &mut [u8]) -> Frame
         Number::Malformed => Frame::Malformed,
         Number::End => Frame::End,
     }
+}
+
+// ---- for cases that a tool writes: what is missing or malformed is taken for 0
+
+pub fn read_up_to(limit: usize) -> usize
+    ensures { λ r. ⌜ r ≤ limit ⌝ }
+{
+    let Number::Value(n) = read_number(limit) else {
+        return 0;
+    };
+    n
+}
+
+// A script: how many bytes it has, and the first of them as a frame. The others are those of the buffer.
+pub fn read_script(script: &mut [u8]) -> usize
+    ensures { λ r. ⌜ Counts r (now (script .exit)) ⌝ }
+{
+    let n = read_up_to(script.len());
+    read_frame(script);
+    n
 }

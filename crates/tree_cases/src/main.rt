@@ -9,7 +9,8 @@ use ast::lookup::TypeToken;
 use ast::lookup::node_start;
 use ast::lookup::type_token;
 use frames::Frame;
-use frames::Number;
+use frames::read_script;
+use frames::read_up_to;
 use lex::Token;
 use libc::STDOUT_FILENO;
 use rules::Counts;
@@ -17,7 +18,6 @@ use rules::NodeId;
 use rules::TypeExprId;
 use same::Comparison;
 use same::same_shape;
-ghost use Prim.Native.Nat.{_≤_};
 ghost use Rattle.io.specs.Counts.{Counts as Counted};
 
 // One more than a script may have.
@@ -51,28 +51,10 @@ fn write_refused(n: u32) {
     write_number(n as u64);
 }
 
-// ---- what a case says. Where a number is missing or malformed, 0 is taken: what is written is held to `stdout`.
-
-fn read_up_to(limit: usize) -> usize
-    ensures { λ r. ⌜ r ≤ limit ⌝ }
-{
-    let Number::Value(n) = frames::read_number(limit) else {
-        return 0;
-    };
-    n
-}
+// ---- what a case says. What is missing or malformed is taken for 0: what is written is held to `stdout`.
 
 fn read_cell() -> u32 {
     read_up_to(4294967295) as u32
-}
-
-// A script: how many bytes are lent, and the first of them as a frame. The others are blanks.
-fn read_script(script: &mut [u8]) -> usize
-    ensures { λ r. ⌜ Counted r (now (script .exit)) ⌝ }
-{
-    let n = read_up_to(script.len());
-    frames::read_frame(script);
-    n
 }
 
 // An array: how many cells are lent, how many of them are given, and these. The others are zero.

@@ -1,8 +1,8 @@
 -- `read_up_to` meets its contract: a number that was read is at most the limit.
 -- Assumes nothing.
 use borrow.Author.Needs.{needs}
-use Rattle.tree_cases.proofs.read_up_to.Statement.{statement}
-use Rattle.tree_cases.proofs.read_up_to.Tie as tie
+use Rattle.frames.proofs.read_up_to.Statement.{statement}
+use Rattle.frames.proofs.read_up_to.Tie as tie
 
 returns-2 : tie.Need-returns-2
 returns-2 c = rw (c .before .n .given .1) at (c .before .before .before .read-number .ensures)

@@ -4,8 +4,8 @@ use borrow.Author.Needs.{needs}
 use mathlib.Core.Path.{sym}
 use native.Mathlib.Omega.{arith}
 use lib.Seq.{length-take-le}
-use Rattle.tree_cases.proofs.read_script.Statement.{statement}
-use Rattle.tree_cases.proofs.read_script.Tie as tie
+use Rattle.frames.proofs.read_script.Statement.{statement}
+use Rattle.frames.proofs.read_script.Tie as tie
 
 returns : tie.Need-returns
 returns c = (omega arith, sym (length-take-le _ _ (omega arith)))

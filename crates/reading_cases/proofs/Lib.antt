@@ -1,0 +1,2 @@
+-- What the definitions say of the cases.
+mod Examples
