@@ -1,6 +1,6 @@
 -- What an exported function answers is the answer of the call that it makes.
 -- Assumes nothing.
-use mathlib.Core.Path.{_≡_, refl, _∙_, ap, subst}
+use mathlib.Core.Path.{_≡_, _∙_, sym, ap, subst}
 use mathlib.Core.Bool.{Bool}
 use mathlib.Core.List.{List}
 use Prim.Native.Nat.{ℕ}
@@ -14,14 +14,21 @@ use Rattle.reader_c.specs.Numbers.{written, Returned, asNumbers, numberO
 pub answers : {A : Type 0} (cells : A → List ℕ) (out : List ℕ) {a b : Answer A} → b ≡ a → Answers cells a (numberOf b) out (stored cells b out)
 answers cells out e = (ap numberOf e, ap (λ x. stored cells x out) e)
 
-pub answers-reading : (out : List ℕ) {o : Outcome} {p q : Parsed} {l : Arrays} → o ≡ record { answer = p; arrays = l } → p ≡ q → asNumbers o out ≡ record { number = numbersOf q .number; numbers = written q out; arrays = l }
+pub answers-same : {A : Type 0} (cells : A → List ℕ) (out : List ℕ) {a b : Answer A} {r : ℕ} {out′ : List ℕ} → a ≡ b → Answers cells a r out out′ → Answers cells b r out out′
+answers-same {A} cells out {r = r} {out′ = out′} e h = subst (λ (x : Answer A). Answers cells x r out out′) e h
+
+pub answers-reading : (out : List ℕ) {o : Outcome} {p : Parsed} {l : Arrays} {r : ℕ} {out′ : List ℕ} → o ≡ record { answer = p; arrays = l } → (r ≡ numbersOf p .number) × (out′ ≡ written p out)
+    → asNumbers o out ≡ record { number = r; numbers = out′; arrays = l }
 unfolding asNumbers
-answers-reading out {l = l} e f = ap (λ (x : Outcome). asNumbers x out) e ∙ ap (λ (x : Parsed). asNumbers (record { answer = x; arrays = l }) out) f
+answers-reading out {p = p} {l = l} {r = r} e h =
+    ap (λ (x : Outcome). asNumbers x out) e
+    ∙ ap (λ (x : ℕ). record { number = x; numbers = written p out; arrays = l }) (sym (h .0))
+    ∙ ap (λ (x : List ℕ). record { number = r; numbers = x; arrays = l }) (sym (h .1))
 
 -- over the counts that were read from cells
-pub answers-comparison : (a b : Counts → Lent) (out : List ℕ) {j j′ k k′ : Counts} {x y : Answer Bool} → j ≡ j′ → k ≡ k′ → x ≡ y → Compares (a j) (b k) x → AnswersComparison (a j′) (b k′) (numberOf y) out (stored yesCells y out)
-answers-comparison a b out {j = j} {j′ = j′} {k = k} {y = y} e f g h = record {
-  is = y;
-  right = subst (λ (i : Counts). Compares (a j′) (b i) y) f (subst (λ (i : Counts). Compares (a i) (b k) y) e (subst (λ z. Compares (a j) (b k) z) g h));
-  answers = answers yesCells out refl;
+pub answers-comparison : (a b : Counts → Lent) {j j′ k k′ : Counts} {x : Answer Bool} {r : ℕ} {out out′ : List ℕ} → j ≡ j′ → k ≡ k′ → Compares (a j) (b k) x → Answers yesCells x r out out′ → AnswersComparison (a j′) (b k′) r out out′
+answers-comparison a b {j′ = j′} {k = k} {x = x} e f g h = record {
+  is = x;
+  right = subst (λ (i : Counts). Compares (a j′) (b i) x) f (subst (λ (i : Counts). Compares (a i) (b k) x) e g);
+  answers = h;
 }

@@ -9,6 +9,7 @@ use ast::lookup::node_start;
 use ast::lookup::type_token;
 use lex::Token;
 use parser::parse;
+use parser::parse_collect;
 use rules::Counts;
 use rules::NodeId;
 use rules::Parsed;
@@ -18,29 +19,23 @@ use same::same_shape;
 ghost use mathlib.Core.Path.{_≡_};
 ghost use Rattle.rules.specs.Rules.{stageOne};
 ghost use Rattle.rules.specs.Combinators.{tokenCells};
-ghost use Rattle.rules.specs.Parse.{parse};
-ghost use Rattle.rules.specs.Promise.{promised};
+ghost use Rattle.rules.specs.Parse.{parse, parseCollect};
+ghost use Rattle.rules.specs.Promise.{promised, numbersOf};
 ghost use Rattle.parser.specs.Whole.{arrays};
 ghost use Rattle.ast.specs.Answer.{lent};
-ghost use Rattle.ast.specs.Lookup.{nodeStart, typeToken};
+ghost use Rattle.ast.specs.Lookup.{nodeStart, typeToken, startAnswer, typeTokenAnswer};
 ghost use Rattle.ast.specs.Span.{tokenSpan};
 ghost use Rattle.ast.specs.Position.{placeAt};
-ghost use Rattle.reader_c.specs.Numbers.{countsAt, asNumbers, startCells, spanCells, placeCells, Answers, AnswersComparison};
+ghost use Rattle.same.specs.Compare.{comparisonAnswer};
+ghost use Rattle.reader_c.specs.Numbers.{countsAt, written, asNumbers, startCells, spanCells, placeCells, yesCells, Answers, AnswersComparison};
 
-// Strict reading. `numbers` gets its number, the five numbers of an error and the six counts, and keeps what it has where the call is refused.
-#[no_mangle]
-pub extern "C" fn purple_garden_parse(
-    script: &[u8],
-    nodes: &mut [u32],
-    types: &mut [u32],
-    lists: &mut [u32],
-    roots: &mut [u32],
-    diagnostics: &mut [u32],
-    numbers: &mut [u32; 12],
-) -> u32
-    ensures { λ r. ⌜ asNumbers (promised (parse stageOne) (now (script .entry)) (arrays (now (nodes .entry)) (now (types .entry)) (now (lists .entry)) (now (roots .entry)) (now (diagnostics .entry)))) (now (numbers .entry)) ≡ record { number = r; numbers = now (numbers .exit); arrays = arrays (now (nodes .exit)) (now (types .exit)) (now (lists .exit)) (now (roots .exit)) (now (diagnostics .exit)) } ⌝ }
+// ---- readings
+
+// The numbers of a reading: its number, the five numbers of an error and the six counts. What is lent for them stays as it is where the call was refused.
+fn put_numbers(numbers: &mut [u32; 12], answer: Parsed) -> u32
+    ensures { λ r. ⌜ (r ≡ numbersOf answer .number) × (now (numbers .exit) ≡ written answer (now (numbers .entry))) ⌝ }
 {
-    match parse(script, nodes, types, lists, roots, diagnostics) {
+    match answer {
         Parsed::Tree(c) => {
             *numbers = [
                 0,
@@ -79,6 +74,42 @@ pub extern "C" fn purple_garden_parse(
     }
 }
 
+// Strict reading: the tree, or the first error.
+#[no_mangle]
+pub extern "C" fn purple_garden_parse(
+    script: &[u8],
+    nodes: &mut [u32],
+    types: &mut [u32],
+    lists: &mut [u32],
+    roots: &mut [u32],
+    diagnostics: &mut [u32],
+    numbers: &mut [u32; 12],
+) -> u32
+    ensures { λ r. ⌜ asNumbers (promised (parse stageOne) (now (script .entry)) (arrays (now (nodes .entry)) (now (types .entry)) (now (lists .entry)) (now (roots .entry)) (now (diagnostics .entry)))) (now (numbers .entry)) ≡ record { number = r; numbers = now (numbers .exit); arrays = arrays (now (nodes .exit)) (now (types .exit)) (now (lists .exit)) (now (roots .exit)) (now (diagnostics .exit)) } ⌝ }
+{
+    let answer = parse(script, nodes, types, lists, roots, diagnostics);
+    put_numbers(numbers, answer)
+}
+
+// Collecting reading: the tree with all errors of the script.
+#[no_mangle]
+pub extern "C" fn purple_garden_parse_collect(
+    script: &[u8],
+    nodes: &mut [u32],
+    types: &mut [u32],
+    lists: &mut [u32],
+    roots: &mut [u32],
+    diagnostics: &mut [u32],
+    numbers: &mut [u32; 12],
+) -> u32
+    ensures { λ r. ⌜ asNumbers (promised (parseCollect stageOne) (now (script .entry)) (arrays (now (nodes .entry)) (now (types .entry)) (now (lists .entry)) (now (roots .entry)) (now (diagnostics .entry)))) (now (numbers .entry)) ≡ record { number = r; numbers = now (numbers .exit); arrays = arrays (now (nodes .exit)) (now (types .exit)) (now (lists .exit)) (now (roots .exit)) (now (diagnostics .exit)) } ⌝ }
+{
+    let answer = parse_collect(script, nodes, types, lists, roots, diagnostics);
+    put_numbers(numbers, answer)
+}
+
+// ---- lookups and comparison
+
 fn counts_of(counts: &[u32; 6]) -> Counts
     ensures { λ r. ⌜ r ≡ countsAt (now (counts .entry)) ⌝ }
 {
@@ -89,6 +120,23 @@ fn counts_of(counts: &[u32; 6]) -> Counts
         roots: counts[3],
         values: counts[4],
         diagnostics: counts[5],
+    }
+}
+
+// 1 and a start, or 0 and 0.
+fn put_start(start: &mut [u64; 2], answer: Start) -> u32
+    ensures { λ r. ⌜ Answers startCells (startAnswer answer) r (now (start .entry)) (now (start .exit)) ⌝ }
+{
+    match answer {
+        Start::At(p) => {
+            *start = [1, p as u64];
+            0
+        }
+        Start::Nothing => {
+            *start = [0, 0];
+            0
+        }
+        Start::Refused(n) => n,
     }
 }
 
@@ -106,24 +154,21 @@ pub extern "C" fn purple_garden_node_start(
 ) -> u32
     ensures { λ r. ⌜ Answers startCells (nodeStart (lent (now (script .entry)) (now (nodes .entry)) (now (types .entry)) (now (lists .entry)) (now (roots .entry)) (countsAt (now (counts .entry)))) node) r (now (start .entry)) (now (start .exit)) ⌝ }
 {
-    match node_start(
-        script,
-        nodes,
-        types,
-        lists,
-        roots,
-        counts_of(counts),
-        NodeId(node),
-    ) {
-        Start::At(p) => {
-            *start = [1, p as u64];
+    let counts = counts_of(counts);
+    let answer = node_start(script, nodes, types, lists, roots, counts, NodeId(node));
+    put_start(start, answer)
+}
+
+// A token's kind, start and length.
+fn put_token(token: &mut [u64; 3], answer: TypeToken) -> u32
+    ensures { λ r. ⌜ Answers tokenCells (typeTokenAnswer answer) r (now (token .entry)) (now (token .exit)) ⌝ }
+{
+    match answer {
+        TypeToken::Found(t) => {
+            *token = [t.kind as u64, t.start as u64, t.len as u64];
             0
         }
-        Start::Nothing => {
-            *start = [0, 0];
-            0
-        }
-        Start::Refused(n) => n,
+        TypeToken::Refused(n) => n,
     }
 }
 
@@ -141,21 +186,9 @@ pub extern "C" fn purple_garden_type_token(
 ) -> u32
     ensures { λ r. ⌜ Answers tokenCells (typeToken (lent (now (script .entry)) (now (nodes .entry)) (now (types .entry)) (now (lists .entry)) (now (roots .entry)) (countsAt (now (counts .entry)))) ty) r (now (token .entry)) (now (token .exit)) ⌝ }
 {
-    match type_token(
-        script,
-        nodes,
-        types,
-        lists,
-        roots,
-        counts_of(counts),
-        TypeExprId(ty),
-    ) {
-        TypeToken::Found(t) => {
-            *token = [t.kind as u64, t.start as u64, t.len as u64];
-            0
-        }
-        TypeToken::Refused(n) => n,
-    }
+    let counts = counts_of(counts);
+    let answer = type_token(script, nodes, types, lists, roots, counts, TypeExprId(ty));
+    put_token(token, answer)
 }
 
 // The span of a token: `span` gets its start and length.
@@ -192,6 +225,23 @@ pub extern "C" fn purple_garden_line_column(script: &[u8], at: u32, place: &mut 
     }
 }
 
+// 1 for yes, 0 for no.
+fn put_same(same: &mut [u64; 1], answer: Comparison) -> u32
+    ensures { λ r. ⌜ Answers yesCells (comparisonAnswer answer) r (now (same .entry)) (now (same .exit)) ⌝ }
+{
+    match answer {
+        Comparison::Same => {
+            *same = [1];
+            0
+        }
+        Comparison::Different => {
+            *same = [0];
+            0
+        }
+        Comparison::Refused(n) => n,
+    }
+}
+
 // Two trees have the same shape: `same` gets 1 for yes and 0 for no.
 #[no_mangle]
 pub extern "C" fn purple_garden_same_shape(
@@ -211,28 +261,21 @@ pub extern "C" fn purple_garden_same_shape(
 ) -> u32
     ensures { λ r. ⌜ AnswersComparison (lent (now (script .entry)) (now (nodes .entry)) (now (types .entry)) (now (lists .entry)) (now (roots .entry)) (countsAt (now (counts .entry)))) (lent (now (script2 .entry)) (now (nodes2 .entry)) (now (types2 .entry)) (now (lists2 .entry)) (now (roots2 .entry)) (countsAt (now (counts2 .entry)))) r (now (same .entry)) (now (same .exit)) ⌝ }
 {
-    match same_shape(
+    let left = counts_of(counts);
+    let right = counts_of(counts2);
+    let answer = same_shape(
         script,
         nodes,
         types,
         lists,
         roots,
-        counts_of(counts),
+        left,
         script2,
         nodes2,
         types2,
         lists2,
         roots2,
-        counts_of(counts2),
-    ) {
-        Comparison::Same => {
-            *same = [1];
-            0
-        }
-        Comparison::Different => {
-            *same = [0];
-            0
-        }
-        Comparison::Refused(n) => n,
-    }
+        right,
+    );
+    put_same(same, answer)
 }
