@@ -14,7 +14,7 @@
  * Numbers that functions return (docs/01 of the scope): 0, it went well;
  *   1, the script has over 65,536 bytes; 2, an array is shorter than its least length; 3, the node, type or position asked about lies outside;
  *   4, something visited is malformed; with 1 to 4 nothing that is lent changes;
- *   10 to 23, the script's own error. */
+ *   10 to 23, the script's own error, which ends the reading; 31 to 34 only gathered by collecting mode. */
 
 #ifndef PURPLE_GARDEN_H
 #define PURPLE_GARDEN_H
@@ -64,6 +64,16 @@ uint32_t purple_garden_parse(const uint8_t *script, size_t script_len,
                              uint32_t *roots, size_t roots_len,
                              uint32_t *diagnostics, size_t diagnostics_len,
                              uint32_t numbers[12]);
+
+/* Collecting reading: the tree of what could be read, and all errors of the script (11 to 23, 31 to 34) in `diagnostics`, five cells each, as many as
+ * `numbers[PURPLE_GARDEN_DIAGNOSTICS]`. Returns 0 for a tree, whatever was gathered; 10, with every cell of the arrays zero; 1 or 2 as above. */
+uint32_t purple_garden_parse_collect(const uint8_t *script, size_t script_len,
+                                     uint32_t *nodes, size_t nodes_len,
+                                     uint32_t *types, size_t types_len,
+                                     uint32_t *lists, size_t lists_len,
+                                     uint32_t *roots, size_t roots_len,
+                                     uint32_t *diagnostics, size_t diagnostics_len,
+                                     uint32_t numbers[12]);
 
 /* The lookups and the comparison take the script, the arrays that a reading left and its six counts. They take arrays from anywhere: what
  * is malformed is refused with 4. They write their answer only where they return 0. */

@@ -1,4 +1,4 @@
-//! Why a script has no tree.
+//! What is wrong with a script.
 use crate::{ffi, Kind};
 use std::fmt;
 use std::ops::Range;
@@ -9,18 +9,22 @@ pub enum Error {
     /// The script has more than 65,536 bytes.
     TooLong { bytes: usize },
     /// The script is wrong at a place.
-    Script {
-        problem: Problem,
-        /// the bytes of the token that the error names
-        span: Range<usize>,
-        /// the kind of that token
-        seen: Kind,
-        line: usize,
-        column: usize,
-    },
+    Script(Diagnostic),
 }
 
-/// What is wrong with a script, by the numbers from 10 to 23.
+/// A place where a script is wrong.
+#[derive(Clone, Debug, PartialEq, Eq)]
+pub struct Diagnostic {
+    pub problem: Problem,
+    /// The bytes of the token that the error names, or that the lexer passed over.
+    pub span: Range<usize>,
+    /// The kind of that token; nothing for what is no token.
+    pub seen: Option<Kind>,
+    pub line: usize,
+    pub column: usize,
+}
+
+/// What is wrong, by the numbers from 10 to 34.
 #[derive(Clone, Copy, Debug, PartialEq, Eq)]
 pub enum Problem {
     TooDeep,
@@ -37,10 +41,14 @@ pub enum Problem {
     EmptyOption,
     EmptyArray,
     BadType,
+    UnterminatedString,
+    InvalidUtf8,
+    UnknownCharacter(u8),
+    InvalidNumber,
 }
 
 impl Problem {
-    /// The number of the error, from 10 to 23.
+    /// The number of the error, from 10 to 34.
     pub fn number(self) -> u32 {
         match self {
             Problem::TooDeep => 10,
@@ -57,10 +65,14 @@ impl Problem {
             Problem::EmptyOption => 21,
             Problem::EmptyArray => 22,
             Problem::BadType => 23,
+            Problem::UnterminatedString => 31,
+            Problem::InvalidUtf8 => 32,
+            Problem::UnknownCharacter(_) => 33,
+            Problem::InvalidNumber => 34,
         }
     }
 
-    fn new(number: u32, wanted: u32) -> Problem {
+    fn new(number: u32, wanted: u32, seen: u32) -> Problem {
         match number {
             10 => Problem::TooDeep,
             11 => Problem::ExpectedToken(Kind::from_number(wanted).expect("a kind")),
@@ -76,22 +88,49 @@ impl Problem {
             21 => Problem::EmptyOption,
             22 => Problem::EmptyArray,
             23 => Problem::BadType,
-            _ => unreachable!("a reading ends with 10 to 23, not {number}"),
+            31 => Problem::UnterminatedString,
+            32 => Problem::InvalidUtf8,
+            33 => Problem::UnknownCharacter(seen as u8),
+            34 => Problem::InvalidNumber,
+            _ => unreachable!("no error has the number {number}"),
         }
     }
 }
 
-impl Error {
+impl Diagnostic {
     /// From the five numbers of an error.
-    pub(crate) fn new(script: &[u8], [number, start, len, wanted, seen]: [u32; 5]) -> Error {
+    pub(crate) fn new(script: &[u8], [number, start, len, wanted, seen]: [u32; 5]) -> Diagnostic {
         let start = start as usize;
         let (line, column) = ffi::line_column(script, start).expect("an error names a place in the script");
-        Error::Script {
-            problem: Problem::new(number, wanted),
-            span: start..start + len as usize,
-            seen: Kind::from_number(seen).expect("a kind"),
-            line,
-            column,
+        let problem = Problem::new(number, wanted, seen);
+        let seen = if number < 30 { Kind::from_number(seen) } else { None };
+        Diagnostic { problem, span: start..start + len as usize, seen, line, column }
+    }
+}
+
+impl fmt::Display for Diagnostic {
+    fn fmt(&self, f: &mut fmt::Formatter<'_>) -> fmt::Result {
+        let seen = self.seen.map(|kind| kind.to_string()).unwrap_or_default();
+        write!(f, "line {}, column {}: error {}: ", self.line, self.column, self.problem.number())?;
+        match self.problem {
+            Problem::TooDeep => write!(f, "nested more than 128 levels deep"),
+            Problem::ExpectedToken(wanted) => write!(f, "expected {wanted}, found {seen}"),
+            Problem::ExpectedIdentifier => write!(f, "expected a name, found {seen}"),
+            Problem::DocsAttachedToNothing => write!(f, "docs that are attached to nothing"),
+            Problem::DocsBeforeSomethingElse => write!(f, "docs before something other than let, fn, extern or import"),
+            Problem::ImportPathNotAString => write!(f, "expected a string as import path, found {seen}"),
+            Problem::ExternWithoutAString => write!(f, "expected a string after `extern`, found {seen}"),
+            Problem::NestedExtern => write!(f, "`extern` inside of `extern`"),
+            Problem::MatchWithoutADefault => write!(f, "a match without a default"),
+            Problem::ExpectedExpression => write!(f, "expected an expression, found {seen}"),
+            Problem::EmptyForeign => write!(f, "nothing inside of `Foreign<`"),
+            Problem::EmptyOption => write!(f, "nothing inside of `Option<`"),
+            Problem::EmptyArray => write!(f, "nothing inside of `Array<`"),
+            Problem::BadType => write!(f, "expected a type, found {seen}"),
+            Problem::UnterminatedString => write!(f, "a string without its closing quote"),
+            Problem::InvalidUtf8 => write!(f, "bytes that are not UTF-8"),
+            Problem::UnknownCharacter(byte) => write!(f, "a byte that begins no token: {}", [byte].escape_ascii()),
+            Problem::InvalidNumber => write!(f, "a number with two dots"),
         }
     }
 }
@@ -100,25 +139,7 @@ impl fmt::Display for Error {
     fn fmt(&self, f: &mut fmt::Formatter<'_>) -> fmt::Result {
         match self {
             Error::TooLong { bytes } => write!(f, "the script has {bytes} bytes, more than {}", crate::MAX_BYTES),
-            Error::Script { problem, seen, line, column, .. } => {
-                write!(f, "line {line}, column {column}: error {}: ", problem.number())?;
-                match problem {
-                    Problem::TooDeep => write!(f, "nested more than 128 levels deep"),
-                    Problem::ExpectedToken(wanted) => write!(f, "expected {wanted}, found {seen}"),
-                    Problem::ExpectedIdentifier => write!(f, "expected a name, found {seen}"),
-                    Problem::DocsAttachedToNothing => write!(f, "docs that are attached to nothing"),
-                    Problem::DocsBeforeSomethingElse => write!(f, "docs before something other than let, fn, extern or import"),
-                    Problem::ImportPathNotAString => write!(f, "expected a string as import path, found {seen}"),
-                    Problem::ExternWithoutAString => write!(f, "expected a string after `extern`, found {seen}"),
-                    Problem::NestedExtern => write!(f, "`extern` inside of `extern`"),
-                    Problem::MatchWithoutADefault => write!(f, "a match without a default"),
-                    Problem::ExpectedExpression => write!(f, "expected an expression, found {seen}"),
-                    Problem::EmptyForeign => write!(f, "nothing inside of `Foreign<`"),
-                    Problem::EmptyOption => write!(f, "nothing inside of `Option<`"),
-                    Problem::EmptyArray => write!(f, "nothing inside of `Array<`"),
-                    Problem::BadType => write!(f, "expected a type, found {seen}"),
-                }
-            }
+            Error::Script(diagnostic) => diagnostic.fmt(f),
         }
     }
 }

@@ -19,6 +19,21 @@ extern "C" {
         diagnostics_len: usize,
         numbers: *mut [u32; 12],
     ) -> u32;
+    fn purple_garden_parse_collect(
+        script: *const u8,
+        script_len: usize,
+        nodes: *mut u32,
+        nodes_len: usize,
+        types: *mut u32,
+        types_len: usize,
+        lists: *mut u32,
+        lists_len: usize,
+        roots: *mut u32,
+        roots_len: usize,
+        diagnostics: *mut u32,
+        diagnostics_len: usize,
+        numbers: *mut [u32; 12],
+    ) -> u32;
     fn purple_garden_node_start(
         script: *const u8,
         script_len: usize,
@@ -78,6 +93,26 @@ extern "C" {
     ) -> u32;
 }
 
+/// The two readings have one signature.
+pub type Read = unsafe extern "C" fn(
+    *const u8,
+    usize,
+    *mut u32,
+    usize,
+    *mut u32,
+    usize,
+    *mut u32,
+    usize,
+    *mut u32,
+    usize,
+    *mut u32,
+    usize,
+    *mut [u32; 12],
+) -> u32;
+
+pub const STRICT: Read = purple_garden_parse;
+pub const COLLECTING: Read = purple_garden_parse_collect;
+
 /// How many nodes, types, list cells, roots, values and diagnostics a reading made.
 pub struct Counts([u32; 6]);
 
@@ -100,6 +135,10 @@ impl Counts {
 
     pub fn values(&self) -> u32 {
         self.0[4]
+    }
+
+    pub fn diagnostics(&self) -> usize {
+        self.0[5] as usize
     }
 }
 
@@ -131,11 +170,11 @@ impl Arrays {
     }
 
     /// The counts, or the five numbers of the error.
-    pub fn parse(&mut self, script: &[u8]) -> Result<Counts, [u32; 5]> {
+    pub fn read(&mut self, read: Read, script: &[u8]) -> Result<Counts, [u32; 5]> {
         let mut numbers = [0; 12];
         // SAFETY: each slice is passed by its own pointer and length, and `numbers` has twelve cells.
         let number = unsafe {
-            purple_garden_parse(
+            read(
                 script.as_ptr(),
                 script.len(),
                 self.nodes.as_mut_ptr(),
@@ -159,7 +198,7 @@ impl Arrays {
     /// Where a node starts, if it has a start.
     pub fn node_start(&self, script: &[u8], counts: &Counts, node: u32) -> Result<Option<usize>, u32> {
         let mut start = [0; 2];
-        // SAFETY: as for `parse`; six counts, two cells for the answer.
+        // SAFETY: as for `read`; six counts, two cells for the answer.
         let number = unsafe {
             purple_garden_node_start(
                 script.as_ptr(),
@@ -182,7 +221,7 @@ impl Arrays {
 
     pub fn type_token(&self, script: &[u8], counts: &Counts, ty: u32) -> Result<Token, u32> {
         let mut token = [0; 3];
-        // SAFETY: as for `parse`; six counts, three cells for the answer.
+        // SAFETY: as for `read`; six counts, three cells for the answer.
         let number = unsafe {
             purple_garden_type_token(
                 script.as_ptr(),
@@ -209,7 +248,7 @@ impl Arrays {
 
     pub fn same_shape(&self, script: &[u8], counts: &Counts, other: &Arrays, script2: &[u8], counts2: &Counts) -> Result<bool, u32> {
         let mut same = [0];
-        // SAFETY: as for `parse`, twice; six counts each, one cell for the answer.
+        // SAFETY: as for `read`, twice; six counts each, one cell for the answer.
         let number = unsafe {
             purple_garden_same_shape(
                 script.as_ptr(),

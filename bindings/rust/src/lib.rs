@@ -17,7 +17,7 @@ mod ffi;
 mod kind;
 mod node;
 
-pub use error::{Error, Problem};
+pub use error::{Diagnostic, Error, Problem};
 pub use kind::Kind;
 pub use node::{Case, Field, Function, List, Member, Node, NodeId, Parameter, Token, Type, TypeId};
 
@@ -36,12 +36,27 @@ pub struct Tree {
 impl Tree {
     /// Strict reading: the tree, or the first error.
     pub fn parse(script: impl Into<Vec<u8>>) -> Result<Tree, Error> {
-        let script = script.into();
+        Tree::read(ffi::STRICT, script.into())
+    }
+
+    /// Collecting reading: the tree of what could be read, with all errors of the script as its diagnostics. Only a script that is too long or
+    /// nested too deep has no tree.
+    pub fn parse_collect(script: impl Into<Vec<u8>>) -> Result<Tree, Error> {
+        Tree::read(ffi::COLLECTING, script.into())
+    }
+
+    fn read(read: ffi::Read, script: Vec<u8>) -> Result<Tree, Error> {
         let mut arrays = ffi::Arrays::new(&script)?;
-        match arrays.parse(&script) {
+        match arrays.read(read, &script) {
             Ok(counts) => Ok(Tree { script, arrays, counts }),
-            Err(numbers) => Err(Error::new(&script, numbers)),
+            Err(numbers) => Err(Error::Script(Diagnostic::new(&script, numbers))),
         }
+    }
+
+    /// What a collecting reading gathered, in the order in which it was met; nothing after a strict one.
+    pub fn diagnostics(&self) -> impl ExactSizeIterator<Item = Diagnostic> + '_ {
+        let cells = &self.arrays.diagnostics[..5 * self.counts.diagnostics()];
+        cells.chunks_exact(5).map(|c| Diagnostic::new(&self.script, [c[0], c[1], c[2], c[3], c[4]]))
     }
 
     pub fn script(&self) -> &[u8] {

@@ -7,7 +7,7 @@ fn tree(script: &str) -> Tree {
 
 fn problem(script: &str) -> (u32, std::ops::Range<usize>, Kind) {
     match Tree::parse(script) {
-        Err(Error::Script { problem, span, seen, .. }) => (problem.number(), span, seen),
+        Err(Error::Script(d)) => (d.problem.number(), d.span, d.seen.expect("a token")),
         other => panic!("{script}: {other:?}"),
     }
 }
@@ -97,8 +97,8 @@ fn errors() {
     assert_eq!(problem(&format!("{}a{}", "(".repeat(127), ")".repeat(127))), (10, 127..128, Kind::Ident));
     let error = Tree::parse("let x = 1\nfn f(").unwrap_err();
     assert_eq!(error.to_string(), "line 2, column 6: error 11: expected `)`, found the end of the script");
-    let Error::Script { problem, .. } = error else { panic!("{error:?}") };
-    assert_eq!(problem, Problem::ExpectedToken(Kind::BraceRight));
+    let Error::Script(d) = error else { panic!("{error:?}") };
+    assert_eq!(d.problem, Problem::ExpectedToken(Kind::BraceRight));
 }
 
 #[test]
@@ -111,6 +111,28 @@ fn every_problem_has_its_number() {
         assert_eq!(problem(script).0, number, "{script}");
         assert!(Tree::parse(script).unwrap_err().to_string().contains(&format!("error {number}: ")));
     }
+}
+
+/// The tree and what was gathered: number, span, and kind or byte.
+fn collected(script: &[u8]) -> (String, Vec<(u32, std::ops::Range<usize>)>) {
+    let tree = Tree::parse_collect(script).unwrap_or_else(|e| panic!("{e}"));
+    (text(&tree), tree.diagnostics().map(|d| (d.problem.number(), d.span)).collect())
+}
+
+#[test]
+fn collecting() {
+    assert_eq!(collected(b"let 1 let x = 2"), ("(let [] x 2)".to_string(), vec![(12, 4..5)]));
+    assert_eq!(collected(b"a != b"), ("a".to_string(), vec![(19, 2..4)]));
+    assert_eq!(collected(b"#!\xffa"), ("a".to_string(), vec![(32, 0..3)]));
+    assert_eq!(collected(b"match {} $ a").1, [(33, 9..10), (18, 6..7)]);
+    assert_eq!(collected(b"1.2.3 \"x").1, [(34, 0..5), (31, 6..8)]);
+    let tree = Tree::parse_collect("$").unwrap();
+    let d = tree.diagnostics().next().unwrap();
+    assert_eq!((d.problem, d.seen, d.to_string().as_str()), (Problem::UnknownCharacter(36), None, "line 1, column 1: error 33: a byte that begins no token: $"));
+    assert!(Tree::parse("$").unwrap().diagnostics().next().is_none());
+    let deep = "(".repeat(127);
+    let Err(Error::Script(d)) = Tree::parse_collect(deep) else { panic!() };
+    assert_eq!((d.problem, d.span), (Problem::TooDeep, 127..130));
 }
 
 #[test]
