@@ -11,7 +11,7 @@
  *
  * What is not left to the caller: on every input that keeps this, each function answers what its comment says. That is proved (crates/reader_c).
  *
- * Numbers that functions return (docs/01 of the scope): 0, it went well;
+ * Numbers that functions return: 0, it went well;
  *   1, the script has over 65,536 bytes; 2, an array is shorter than its least length; 3, the node, type or position asked about lies outside;
  *   4, something visited is malformed; with 1 to 4 nothing that is lent changes;
  *   10 to 23, the script's own error, which ends the reading; 31 to 34 only gathered by collecting mode. */
