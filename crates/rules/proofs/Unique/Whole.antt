@@ -41,19 +41,19 @@ readers-ok power eof script (suc l) =
 -- ---- the roots
 
 -- the numbered nodes have these shapes
-data Are (node : ℕ → Option Shape) : List ℕ → List Shape → Type 0 where
+pub data Are (node : ℕ → Option Shape) : List ℕ → List Shape → Type 0 where
   are[] : Are node [] []
   are∷ : {i : ℕ} {σ : Shape} {is : List ℕ} {σs : List Shape} → node i ≡ some σ → Are node is σs → Are node (i ∷ is) (σ ∷ σs)
 
-are-snoc : {node : ℕ → Option Shape} {is : List ℕ} {σs : List Shape} (i : ℕ) (σ : Shape) → Are node is σs → node i ≡ some σ → Are node (is ++ (i ∷ [])) (σs ++ (σ ∷ []))
+pub are-snoc : {node : ℕ → Option Shape} {is : List ℕ} {σs : List Shape} (i : ℕ) (σ : Shape) → Are node is σs → node i ≡ some σ → Are node (is ++ (i ∷ [])) (σs ++ (σ ∷ []))
 are-snoc i σ are[] e = are∷ e are[]
 are-snoc i σ (are∷ p l) e = are∷ p (are-snoc i σ l e)
 
-are-mono : {n m : ℕ → Option Shape} {is : List ℕ} {σs : List Shape} → ((i : ℕ) → n i ⊑ m i) → Are n is σs → Are m is σs
+pub are-mono : {n m : ℕ → Option Shape} {is : List ℕ} {σs : List Shape} → ((i : ℕ) → n i ⊑ m i) → Are n is σs → Are m is σs
 are-mono h are[] = are[]
 are-mono h (are∷ {i} {σ} p l) = are∷ (h i σ p) (are-mono h l)
 
-are-each : {node : ℕ → Option Shape} {is : List ℕ} {σs : List Shape} → Are node is σs → shapesOf node is ≡ some (fold noShape shape σs)
+pub are-each : {node : ℕ → Option Shape} {is : List ℕ} {σs : List Shape} → Are node is σs → shapesOf node is ≡ some (fold noShape shape σs)
 unfolding shapesOf fold map₁ map₂
 are-each are[] = refl
 are-each (are∷ p l) = rw (p, are-each l)
@@ -88,7 +88,7 @@ module _ (script : List ℕ) where
     pub roots-done : RootsDone script (begin script) roots s
     pub ends : current (s .left) .kind ≡ kEof
 
-  begin-invariant : Invariant script (begin script)
+  pub begin-invariant : Invariant script (begin script)
   unfolding begin
   begin-invariant = record { docs = λ D. refl; tokensOk = tokens-ok script (NoDocBeforeImport script) (tokensOf (cut script)) (cut-ended script) (λ D. D); docsWellFormed = tt }
 
