@@ -1,23 +1,27 @@
 -- Records, and cells of lists under construction.
 use mathlib.Core.Path.{_≡_, refl, sym, ap, subst, _∙_}
-use mathlib.Core.Bool.{true}
+use mathlib.Core.Bool.{Bool, true, false, _&&_}
 use mathlib.Core.List.{List, [], _∷_, _++_, map, flatten, reverse, reverse-cons, reverse-append, append-assoc, append-nil}
 use Prim.Native.Nat.{ℕ, suc, _+_, _*_, _-_, _≤_, _<_}
 use native.Mathlib.Omega.{arith}
 use lib.ListN.{drop-of-length-le, length, length-set, set, take, drop, getD, length-append, length-replicate, length-drop, length-reverse, replicate-append-replicate}
+use lib.Dec.{leb, ltb}
+use borrow.Author.Tests.{leb-true, ltb-true, le-leb, lt-ltb}
 use borrow.Rule.Slice.PartMut.{midOf, putMid}
 use lib.Seq.{paste, take-at, drop-at, set-at, getD-at, drop-append-add, take-all}
 use Rattle.rules.specs.Combinators.{pure, pushNodeAnd, pushType, withArena, allocSlice, tokenCells, runCells}
 use Rattle.rules.specs.declared.Node.{Node}
+use Rattle.rules.specs.declared.NodeId.{NodeId}
 use Rattle.rules.specs.declared.Node.the-variants as N
 use Rattle.rules.specs.declared.TypeExpr.{TypeExpr}
 use Rattle.rules.specs.declared.TypeExpr.the-variants as TE
 use Rattle.rules.specs.Layout.{zeros, nodeCells, typeCells}
 use Rattle.parser_base.specs.Represents.{code, isGoing, docCells, ListsLaid}
-use Rattle.parser_base.specs.Refines.{kept, Refines, Pushes, Lists}
+use Rattle.parser_base.specs.Refines.{kept, Refines, Pushes, Lists, hasRoom}
 use Rattle.parser_base.specs.declared.Parser.{Parser}
 use Rattle.parser_base.specs.declared.Used.{Used}
-use Rattle.parser_base.proofs.Steps.{true≢false, left-some}
+use Rattle.parser_base.proofs.Leaves.{idle, full}
+use Rattle.parser_base.proofs.Steps.{either, true≢false, left-some}
 
 -- ---- lists
 
@@ -207,6 +211,38 @@ node-making script nodes nodes′ types lists cells p f more rooms few g w e = r
         },
       );
 }
+
+-- ---- room for a node
+
+and-both : (a b : Bool) → (a && b) ≡ true → (a ≡ true) × (b ≡ true)
+and-both true b e = (refl, e)
+and-both false b e = absurd (true≢false e refl)
+
+pub record Room (len : ℕ) (p : Parser) : Type 0 where
+  pub going : isGoing (p .status) ≡ true
+  pub records : p .used .nodes < 65536
+  pub cells : 16 * p .used .nodes + 16 ≤ len
+  pub values : p .used .values < 4000000000
+
+pub room : (len : ℕ) (p : Parser) → hasRoom len p ≡ true → Room len p
+unfolding hasRoom
+room len p e =
+    let a = and-both (isGoing (p .status)) (ltb (p .used .nodes) 65536 && (leb (16 * p .used .nodes + 16) len && ltb (p .used .values) 4000000000)) e in
+    let b = and-both (ltb (p .used .nodes) 65536) (leb (16 * p .used .nodes + 16) len && ltb (p .used .values) 4000000000) (a .1) in
+    let c = and-both (leb (16 * p .used .nodes + 16) len) (ltb (p .used .values) 4000000000) (b .1) in
+    record { going = a .0; records = ltb-true _ _ (b .0); cells = leb-true _ _ (c .0); values = ltb-true _ _ (c .1) }
+
+-- where the arrays hold a state there is room, unless the reading has failed
+pub no-room : (script nodes types lists : List ℕ) (p : Parser) (f : ℕ → Node) (more rooms : ℕ) {Q : NodeId → Type 0} → 1 + more ≤ 40000 * rooms → hasRoom (length nodes) p ≡ false
+    → Refines script rooms 0 (pushNodeAnd more f) Q kept 0 0 0 (code nodes types lists p) (code nodes types lists p)
+unfolding hasRoom
+no-room script nodes types lists p f more rooms few e = either (isGoing (p .status))
+    (λ g. full (λ R L stack m h.
+    let a : p .used .nodes < 65536 = omega (arith, h .credit .records, h .lent .small, left-some h) in
+    let b : 16 * p .used .nodes + 16 ≤ length nodes = omega (arith, h .credit .records, h .lent .nodes, left-some h) in
+    let c : p .used .values < 4000000000 = omega (arith, h .credit .numbers, h .lent .small, left-some h) in
+    true≢false (rw (g, lt-ltb _ _ a, le-leb _ _ b, lt-ltb _ _ c) refl) e))
+    idle
 
 -- ---- cells under construction
 

@@ -2,8 +2,8 @@
 use mathlib.Core.Path.{_≡_}
 use mathlib.Core.Bool.{Bool, true, false, not, _&&_}
 use mathlib.Core.List.{List, _++_, flatten}
-use Prim.Native.Nat.{ℕ, _+_, _≤_}
-use lib.Dec.{eqb}
+use Prim.Native.Nat.{ℕ, _+_, _*_, _≤_}
+use lib.Dec.{eqb, leb, ltb}
 use lib.ListN.{length, getD}
 use Rattle.lex.specs.Kind.{kEof}
 use Rattle.lex.specs.declared.diagnostic.Diagnostic.{Diagnostic}
@@ -106,6 +106,10 @@ failed p e = record { cur = p .cur; pos = p .pos; used = p .used; status = Faile
 -- the token of a doc that waits, whose cells lie the last first
 abbrev pub tokenAt : List ℕ → ℕ → Token
 tokenAt types at = record { kind = getD types (at + 2) 0; start = getD types (at + 1) 0; len = getD types at 0 }
+
+-- a node of a parser that has not failed has room in so many cells, and its value numbers fit
+unfoldable pub hasRoom : ℕ → Parser → Bool
+hasRoom len p = isGoing (p .status) && (ltb (p .used .nodes) 65536 && (leb (16 * p .used .nodes + 16) len && ltb (p .used .values) 4000000000))
 
 -- a loop over members goes on
 abbrev pub wantedBy : Bool → Bool → Bool → Bool

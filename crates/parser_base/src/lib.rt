@@ -14,10 +14,11 @@ ghost use mathlib.Core.List.{List, [], _∷_, _++_, reverse};
 ghost use Prim.Native.Nat.{ℕ, _+_, _*_, _-_, _≤_, _<_};
 ghost use lib.ListN.{length, replicate};
 ghost use lib.Seq.{paste};
-ghost use Rattle.rules.specs.Layout.{nodeCells, typeCells};
-ghost use Rattle.rules.specs.Combinators.{continue, atToken, advance, expect, expectIdent, rejectKind, pushNodeAnd, pushType, allocSlice, tokenCells, runCells, keepDoc, collectDocs, takeDocs};
+ghost use Rattle.rules.specs.Layout.{nodeWidth, padded, nodeCells, typeCells};
+ghost use Rattle.rules.specs.Combinators.{continue, atToken, advance, expect, expectIdent, rejectKind, pushNode, pushNodeAnd, pushType, allocSlice, tokenCells, runCells, keepDoc, collectDocs, takeDocs};
+ghost use Rattle.rules.specs.declared.Node.the-variants as N;
 ghost use Rattle.parser_base.specs.Represents.{code, isGoing, low, lowToken, lowType, lowNode};
-ghost use Rattle.parser_base.specs.Refines.{Refines, kept, Takes, Refuses, Pushes, Lists, failAt, noDocsWait, failed, tokenAt, wanted, closed, stands};
+ghost use Rattle.parser_base.specs.Refines.{Refines, kept, Takes, Refuses, Pushes, Lists, failAt, noDocsWait, failed, tokenAt, hasRoom, wanted, closed, stands};
 
 pub enum Status {
     Going,
@@ -562,33 +563,39 @@ fn node_cells(n: Node) -> [u32; 16]
     }
 }
 
+// A record is written where the reading has not failed and the nodes have room.
+fn has_room(len: usize, p: Parser) -> bool
+    ensures { λ r. ⌜ r ≡ hasRoom len p ⌝ }
+{
+    if !going(p) {
+        return false;
+    }
+    let n = p.used.nodes;
+    if 65536 <= n {
+        return false;
+    }
+    if len < 16 * n as usize + 16 {
+        return false;
+    }
+    p.used.values < 4000000000
+}
+
 // `more` value numbers go with the node that no node has.
 pub fn push_node(nodes: &mut [u32], p: Parser, node: Node, more: u32) -> NodeRead
     requires { ⌜ more ≤ 65536 ⌝ }
     ensures { λ r. ⌜ ((script types lists : List ℕ) (f : ℕ → Node) (rooms : ℕ) → 1 + more ≤ 40000 * rooms → lowNode node ≡ f (p .used .values) → Refines script rooms 0 (pushNodeAnd more f) (λ i. i ≡ r .id) kept 0 0 0 (code (now (nodes .entry)) types lists p) (code (now (nodes .exit)) types lists (r .parser))) ⌝ }
 {
-    let none = NodeRead {
-        parser: p,
-        id: NodeId(0),
-    };
-    if !going(p) {
-        return none;
+    if !has_room(nodes.len(), p) {
+        return NodeRead {
+            parser: p,
+            id: NodeId(0),
+        };
     }
     let u = p.used;
     let n = u.nodes;
-    let at = 16 * n as usize;
-    if 65536 <= n {
-        return none;
-    }
-    if nodes.len() < at + 16 {
-        return none;
-    }
     let values = u.values;
-    if 4000000000 <= values {
-        return none;
-    }
     let cells = node_cells(node);
-    put(nodes, at, &cells);
+    put(nodes, 16 * n as usize, &cells);
     let used = Used {
         nodes: n + 1,
         values: values + (1 + more),
@@ -608,6 +615,87 @@ pub fn push_node(nodes: &mut [u32], p: Parser, node: Node, more: u32) -> NodeRea
         },
         id: NodeId(n),
     }
+}
+
+// A node of five cells besides its kind and its number.
+fn push_record(
+    nodes: &mut [u32],
+    p: Parser,
+    kind: u32,
+    a: u32,
+    b: u32,
+    c: u32,
+    d: u32,
+    e: u32,
+) -> NodeRead
+    ensures { λ r. ⌜ ((script types lists : List ℕ) (f : ℕ → Node) → nodeCells (f (p .used .values)) ≡ padded nodeWidth (kind ∷ p .used .values ∷ a ∷ b ∷ c ∷ d ∷ e ∷ []) → Refines script 1 0 (pushNodeAnd 0 f) (λ i. i ≡ r .id) kept 0 0 0 (code (now (nodes .entry)) types lists p) (code (now (nodes .exit)) types lists (r .parser))) ⌝ }
+{
+    if !has_room(nodes.len(), p) {
+        return NodeRead {
+            parser: p,
+            id: NodeId(0),
+        };
+    }
+    let u = p.used;
+    let n = u.nodes;
+    let values = u.values;
+    let cells = [kind, values, a, b, c, d, e, 0, 0, 0, 0, 0, 0, 0, 0, 0];
+    put(nodes, 16 * n as usize, &cells);
+    let used = Used {
+        nodes: n + 1,
+        values: values + 1,
+        types: u.types,
+        docs: u.docs,
+        cells: u.cells,
+        scratch: u.scratch,
+    };
+    let cur = p.cur;
+    let status = p.status;
+    NodeRead {
+        parser: Parser {
+            cur,
+            pos: p.pos,
+            used,
+            status,
+        },
+        id: NodeId(n),
+    }
+}
+
+// A node of a token and two cells: the frequent ones are written without a `Node`.
+pub fn push_token_node(
+    nodes: &mut [u32],
+    p: Parser,
+    kind: u32,
+    t: Token,
+    a: u32,
+    b: u32,
+) -> NodeRead
+    ensures { λ r. ⌜ ((script types lists : List ℕ) (f : ℕ → Node) → nodeCells (f (p .used .values)) ≡ padded nodeWidth (kind ∷ p .used .values ∷ tokenCells (lowToken t) ++ (a ∷ b ∷ [])) → Refines script 1 0 (pushNodeAnd 0 f) (λ i. i ≡ r .id) kept 0 0 0 (code (now (nodes .entry)) types lists p) (code (now (nodes .exit)) types lists (r .parser))) ⌝ }
+{
+    push_record(nodes, p, kind, t.kind, low(t.start), low(t.len), a, b)
+}
+
+// A call or a field of a node.
+pub fn push_call(nodes: &mut [u32], p: Parser, target: NodeId, args: Run) -> NodeRead
+    ensures { λ r. ⌜ ((script types lists : List ℕ) → Refines script 1 0 (pushNode (λ id. N.Call id target args)) (λ i. i ≡ r .id) kept 0 0 0 (code (now (nodes .entry)) types lists p) (code (now (nodes .exit)) types lists (r .parser))) ⌝ }
+{
+    push_record(nodes, p, 8, target.0, args.start, args.len, 0, 0)
+}
+
+pub fn push_field(nodes: &mut [u32], p: Parser, target: NodeId, name: Token) -> NodeRead
+    ensures { λ r. ⌜ ((script types lists : List ℕ) → Refines script 1 0 (pushNode (λ id. N.Field id target (lowToken name))) (λ i. i ≡ r .id) kept 0 0 0 (code (now (nodes .entry)) types lists p) (code (now (nodes .exit)) types lists (r .parser))) ⌝ }
+{
+    push_record(
+        nodes,
+        p,
+        9,
+        target.0,
+        name.kind,
+        low(name.start),
+        low(name.len),
+        0,
+    )
 }
 
 // ---- lists

@@ -10,9 +10,11 @@ use parser_base::collect_docs;
 use parser_base::expect;
 use parser_base::expect_ident;
 use parser_base::fail_expecting;
+use parser_base::push_call;
 use parser_base::push_cell;
 use parser_base::push_named;
 use parser_base::push_node;
+use parser_base::push_token_node;
 use parser_base::require_no_docs;
 use parser_base::take_docs;
 use parser_base::wants;
@@ -397,8 +399,7 @@ fn record_lit(
     let l = inits(script, nodes, types, lists, p1, levels);
     let p2 = l.parser;
     let fields = l.run;
-    let id = p2.used.values;
-    push_node(nodes, p2, Node::Record { id, src, fields }, 0)
+    push_token_node(nodes, p2, 13, src, fields.start, fields.len)
 }
 
 fn inits(
@@ -456,8 +457,7 @@ fn array_lit(
     let l = elems(script, nodes, types, lists, p1, levels);
     let p2 = l.parser;
     let members = l.run;
-    let id = p2.used.values;
-    push_node(nodes, p2, Node::Array { id, src, members }, 0)
+    push_token_node(nodes, p2, 14, src, members.start, members.len)
 }
 
 fn elems(
@@ -517,8 +517,7 @@ fn unary(
     let e = expr(script, nodes, types, lists, p1, PREFIX_POWER, levels);
     let p2 = e.parser;
     let rhs = e.id;
-    let id = p2.used.values;
-    push_node(nodes, p2, Node::Unary { id, op, rhs }, 0)
+    push_token_node(nodes, p2, 4, op, rhs.0, 0)
 }
 
 fn postfix(
@@ -577,17 +576,7 @@ fn call(
     let l = items(script, nodes, types, lists, p1, Type::BRACE_RIGHT, levels);
     let p2 = l.parser;
     let args = l.run;
-    let id = p2.used.values;
-    push_node(
-        nodes,
-        p2,
-        Node::Call {
-            id,
-            target: lhs,
-            args,
-        },
-        0,
-    )
+    push_call(nodes, p2, lhs, args)
 }
 
 fn infixes(
@@ -653,6 +642,5 @@ fn binary(
     let e = expr(script, nodes, types, lists, p1, right, levels);
     let p2 = e.parser;
     let rhs = e.id;
-    let id = p2.used.values;
-    push_node(nodes, p2, Node::Bin { id, op, lhs, rhs }, 0)
+    push_token_node(nodes, p2, 3, op, lhs.0, rhs.0)
 }

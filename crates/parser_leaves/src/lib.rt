@@ -9,9 +9,11 @@ use parser_base::expect_ident;
 use parser_base::fail_at;
 use parser_base::going;
 use parser_base::push_cell;
+use parser_base::push_field;
 use parser_base::push_node;
 use parser_base::push_run;
 use parser_base::push_token;
+use parser_base::push_token_node;
 use parser_types::parse_type;
 use rules::Node;
 use rules::NodeId;
@@ -183,8 +185,7 @@ pub fn atom(script: &[u8], nodes: &mut [u32], p: Parser) -> NodeRead
 {
     let raw = p.cur;
     let p1 = advance(script, p);
-    let id = p1.used.values;
-    push_node(nodes, p1, Node::Atom { id, raw }, 0)
+    push_token_node(nodes, p1, 1, raw, 0, 0)
 }
 
 pub fn ident(script: &[u8], nodes: &mut [u32], p: Parser) -> NodeRead
@@ -193,8 +194,7 @@ pub fn ident(script: &[u8], nodes: &mut [u32], p: Parser) -> NodeRead
 {
     let name = p.cur;
     let p1 = advance(script, p);
-    let id = p1.used.values;
-    push_node(nodes, p1, Node::Ident { id, name }, 0)
+    push_token_node(nodes, p1, 2, name, 0, 0)
 }
 
 pub fn field_access(script: &[u8], nodes: &mut [u32], p: Parser, lhs: NodeId) -> NodeRead
@@ -204,17 +204,7 @@ pub fn field_access(script: &[u8], nodes: &mut [u32], p: Parser, lhs: NodeId) ->
     let p1 = advance(script, p);
     let name = p1.cur;
     let p2 = expect_ident(script, p1);
-    let id = p2.used.values;
-    push_node(
-        nodes,
-        p2,
-        Node::Field {
-            id,
-            target: lhs,
-            name,
-        },
-        0,
-    )
+    push_field(nodes, p2, lhs, name)
 }
 
 pub fn cast(
@@ -234,8 +224,7 @@ pub fn cast(
     let t = parse_type(script, types, lists, p1, levels);
     let p2 = t.parser;
     let rhs = t.id;
-    let id = p2.used.values;
-    push_node(nodes, p2, Node::Cast { id, src, lhs, rhs }, 0)
+    push_token_node(nodes, p2, 10, src, lhs.0, rhs.0)
 }
 
 // ---- the cases of a match

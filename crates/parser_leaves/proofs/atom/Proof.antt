@@ -2,17 +2,18 @@
 use borrow.Author.Needs.{needs}
 use Rattle.parser_base.proofs.Steps.{read, enough}
 use mathlib.Core.Path.{refl}
-use native.Mathlib.Omega.{arith}
+use Rattle.rules.specs.Combinators.{tokenCells}
+use Rattle.rules.specs.Layout.{nodeCells}
 use Rattle.rules.specs.Rules.{atom}
 use Rattle.parser_leaves.proofs.atom.Statement.{statement}
 use Rattle.parser_leaves.proofs.atom.Tie as tie
 
 returns : tie.Need-returns
-unfolding atom
+unfolding atom nodeCells tokenCells
 returns c =
     let advance = c .before .before .before .before .advance in
-    let push-node = c .before .before .push-node in
-    λ types lists. enough (read _ (advance .ensures _ types lists) (push-node .ensures _ types lists _ 1 (omega arith) refl)) tt
+    let push-token-node = c .before .before .push-token-node in
+    λ types lists. enough (read _ (advance .ensures _ types lists) (push-token-node .ensures _ types lists _ refl)) tt
 
 pub atom-spec : {M : Type 1} → statement M
 atom-spec =

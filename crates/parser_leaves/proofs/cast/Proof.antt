@@ -2,18 +2,19 @@
 use borrow.Author.Needs.{needs}
 use Rattle.parser_base.proofs.Steps.{read, seq, done, enough}
 use mathlib.Core.Path.{refl}
-use native.Mathlib.Omega.{arith}
+use Rattle.rules.specs.Combinators.{tokenCells}
+use Rattle.rules.specs.Layout.{nodeCells}
 use Rattle.rules.specs.Rules.{cast}
 use Rattle.parser_leaves.proofs.cast.Statement.{statement}
 use Rattle.parser_leaves.proofs.cast.Tie as tie
 
 returns : tie.Need-returns
-unfolding cast
+unfolding cast nodeCells tokenCells
 returns c =
     let advance = c .before .before .before .before .before .before .before .before .before .before .before .before .before .advance in
     let parse-type = c .before .before .before .before .before .before .before .before .before .before .parse-type in
-    let push-node = c .before .before .push-node in
-    enough (read _ (advance .ensures _ _ _) (seq _ (parse-type .ensures _) (seq _ (push-node .ensures _ _ _ _ 1 (omega arith) refl) done))) tt
+    let push-token-node = c .before .before .push-token-node in
+    enough (read _ (advance .ensures _ _ _) (seq _ (parse-type .ensures _) (seq _ (push-token-node .ensures _ _ _ _ refl) done))) tt
 
 pub cast-spec : {M : Type 1} → statement M
 cast-spec =

@@ -1,8 +1,6 @@
 -- `parser_leaves::field_access` meets its contract.
 use borrow.Author.Needs.{needs}
 use Rattle.parser_base.proofs.Steps.{then, read, seq, done, enough}
-use mathlib.Core.Path.{refl}
-use native.Mathlib.Omega.{arith}
 use Rattle.rules.specs.Rules.{fieldAccess}
 use Rattle.parser_leaves.proofs.field_access.Statement.{statement}
 use Rattle.parser_leaves.proofs.field_access.Tie as tie
@@ -12,8 +10,8 @@ unfolding fieldAccess
 returns c =
     let advance = c .before .before .before .before .before .before .advance in
     let expect-ident = c .before .before .before .before .expect-ident in
-    let push-node = c .before .before .push-node in
-    λ types lists. enough (then (advance .ensures _ types lists) (read _ (expect-ident .ensures _ types lists) (seq _ (push-node .ensures _ types lists _ 1 (omega arith) refl) done))) tt
+    let push-field = c .before .before .push-field in
+    λ types lists. enough (then (advance .ensures _ types lists) (read _ (expect-ident .ensures _ types lists) (seq _ (push-field .ensures _ types lists) done))) tt
 
 pub field-access-spec : {M : Type 1} → statement M
 field-access-spec =
