@@ -22,6 +22,7 @@ use parser_leaves::CaseRead;
 use parser_leaves::Default;
 use parser_leaves::PREFIX_POWER;
 use parser_leaves::atom;
+use parser_leaves::begins_expr;
 use parser_leaves::cast;
 use parser_leaves::field_access;
 use parser_leaves::goes;
@@ -68,6 +69,9 @@ pub fn prefix(
             parser: fail_expecting(p, 10, 0),
             id: NodeId(0),
         };
+    }
+    if begins_expr(p) {
+        return expr(script, nodes, types, lists, p, 0, levels - 1);
     }
     let p1 = collect_docs(script, types, p);
     item(script, nodes, types, lists, p1, levels - 1)

@@ -1,21 +1,22 @@
 -- Tables by kind, as the code keeps them.
 use mathlib.Core.Path.{_≡_, refl, sym, ap, subst, _∙_}
-use mathlib.Core.Bool.{Bool, true, false, not, _&&_}
+use mathlib.Core.Bool.{Bool, true, false, not, _&&_, _||_}
 use mathlib.Core.Option.{Option, none, some}
 use mathlib.Core.List.{List, [], _∷_, map}
 use Prim.Native.Nat.{ℕ, _≤_, _<_}
 use native.Mathlib.Omega.{arith}
 use lib.Dec.{T, eqb, ltb, leb, leb→le}
 use lib.ListN.{getD}
-use borrow.Author.Tests.{eq-eqb, ne-eqb, ltb-true, ltb-false, lt-ltb, le-ltb, le-leb, lt-leb}
+use borrow.Author.Tests.{eqb-true, eq-eqb, ne-eqb, ltb-true, ltb-false, lt-ltb, le-ltb, le-leb, lt-leb}
+use Rattle.lex.specs.Kind.{kDoc, kMatch}
 use Rattle.rules.specs.Combinators.{Rule, Readers, choose}
 use Rattle.rules.specs.Rules.{Powers, stageOne, operandByKind, powers}
 use Rattle.rules.specs.declared.NodeId.{NodeId}
 use Rattle.parser_base.specs.Represents.{Code, isGoing}
 use Rattle.parser_base.specs.Refines.{Refines}
 use Rattle.parser_base.specs.declared.Parser.{Parser}
-use Rattle.parser_base.proofs.Steps.{either}
-use Rattle.parser_leaves.specs.Tests.{operandClasses, operandClass, operandOf, operatorNumbers, operatorNumber, powersAt, leftPowers, rightPowers, signGoes, goesBy}
+use Rattle.parser_base.proofs.Steps.{either, true≢false}
+use Rattle.parser_leaves.specs.Tests.{operandClasses, operandClass, operandOf, operatorNumbers, operatorNumber, powersAt, leftPowers, rightPowers, beginsExpr, signGoes, goesBy}
 
 -- ---- one entry after the other
 
@@ -65,6 +66,18 @@ choose-map {A} {B} f (x ∷ xs) other k = go (eqb k (x .0)) (choose-map f xs oth
 pub operand-class : (d : Readers) (k : ℕ) → operandByKind d k ≡ operandOf d (operandClass k)
 unfolding operandClass operandOf choose
 operand-class d k = sym (choose-map (operandOf d) operandClasses 0 k)
+
+-- ---- items
+
+-- no doc waits, and the kind is none of those that begin another item
+pub begins-expr : (p : Parser) → beginsExpr p ≡ true → (p .used .docs ≡ 0) × ((k : ℕ) → kDoc ≤ k → k ≤ kMatch → p .cur .kind ≡ k → ⊥)
+unfolding beginsExpr
+begins-expr p e = either (eqb (p .used .docs) 0)
+    (λ d. (eqb-true _ _ d, λ k a b same. outside (ltb (p .cur .kind) kDoc) (ltb kMatch (p .cur .kind)) (le-ltb (p .cur .kind) kDoc (omega arith)) (le-ltb kMatch (p .cur .kind) (omega arith)) (subst (λ (t : Bool). (t && (ltb (p .cur .kind) kDoc || ltb kMatch (p .cur .kind))) ≡ true) d e)))
+    (λ d. absurd (true≢false (subst (λ (t : Bool). (t && (ltb (p .cur .kind) kDoc || ltb kMatch (p .cur .kind))) ≡ true) d e) refl))
+  where
+    outside : (a b : Bool) → a ≡ false → b ≡ false → (a || b) ≡ true → ⊥
+    outside a b f g h = true≢false h (rw (f, g) refl)
 
 -- ---- infix signs
 

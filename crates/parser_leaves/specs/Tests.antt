@@ -1,11 +1,11 @@
 -- What the code tests: tables by kind, binding powers, and whether a loop over an expression goes on.
-use mathlib.Core.Bool.{Bool, true, false, not}
+use mathlib.Core.Bool.{Bool, true, false, not, _&&_, _||_}
 use mathlib.Core.Option.{Option, none, some}
 use mathlib.Core.List.{List, [], _∷_}
 use Prim.Native.Nat.{ℕ, _*_}
 use lib.Dec.{eqb, ltb}
 use lib.ListN.{getD}
-use Rattle.lex.specs.Kind.{kPlus, kMinus, kAsteriks, kSlash, kPercent, kDoubleEqual, kLessThan, kGreaterThan, kDot, kBraceLeft, kBraketLeft, kCurlyLeft, kS, kD, kI, kIdent, kAs, kTrue, kFalse}
+use Rattle.lex.specs.Kind.{kPlus, kMinus, kAsteriks, kSlash, kPercent, kDoubleEqual, kLessThan, kGreaterThan, kDot, kBraceLeft, kBraketLeft, kCurlyLeft, kS, kD, kI, kIdent, kDoc, kMatch, kAs, kTrue, kFalse}
 use Rattle.lex.specs.declared.tok.Token.{Token}
 use Rattle.rules.specs.Combinators.{Rule, Readers, choose, fail}
 use Rattle.rules.specs.Rules.{Powers, powers, stageOne, breaksOff, recordLiteral, arrayLiteral, atom, ident, group, unary}
@@ -41,6 +41,12 @@ rightPowers = 2 ∷ 2 ∷ 4 ∷ 4 ∷ 4 ∷ 1 ∷ 1 ∷ 1 ∷ 1 ∷ []
 
 unfoldable pub powersAt : ℕ → Option Powers
 powersAt n = elim (ltb n 9) [ true ↦ powers (getD leftPowers n 0) (getD rightPowers n 0) | false ↦ none ]
+
+-- ---- items
+
+-- an expression begins, before which no doc waits
+unfoldable pub beginsExpr : Parser → Bool
+beginsExpr p = eqb (p .used .docs) 0 && (ltb (p .cur .kind) kDoc || ltb kMatch (p .cur .kind))
 
 -- ---- loops over an expression
 

@@ -26,52 +26,10 @@ ghost use Rattle.rules.specs.Combinators.{tokenCells, runCells};
 ghost use Rattle.rules.specs.Rules.{atom, ident, fieldAccess, cast, breaksOff};
 ghost use Rattle.parser_base.specs.Represents.{code, lowToken};
 ghost use Rattle.parser_base.specs.Refines.{Refines, kept, ReadsNode, ReadsStep, Pushes, deeper};
-ghost use Rattle.parser_leaves.specs.Tests.{operandClass, operatorNumber, leftPowers, rightPowers, callAt, posts, goes};
+ghost use Rattle.parser_leaves.specs.Tests.{operandClass, operatorNumber, leftPowers, rightPowers, beginsExpr, callAt, posts, goes};
 ghost use Rattle.parser_leaves.specs.Matches.{defaultOf, matchNode};
 
 // ---- tables
-
-// What begins an operand: a record 1, an array 2, an atom 3, a name 4, a bracket 5, a sign 6; 0 what begins none.
-const OPERANDS: [u32; 35] = [
-    0,
-    0,
-    5,
-    0,
-    6,
-    6,
-    0,
-    0,
-    0,
-    0,
-    0,
-    0,
-    0,
-    0,
-    0,
-    0,
-    0,
-    0,
-    2,
-    0,
-    1,
-    0,
-    3,
-    3,
-    3,
-    4,
-    0,
-    0,
-    0,
-    0,
-    0,
-    0,
-    0,
-    3,
-    3,
-];
-
-// The number of an infix sign by its kind; 9 where there is none.
-const OPERATORS: [u32; 13] = [9, 9, 9, 9, 0, 1, 2, 3, 4, 9, 5, 6, 7];
 
 // Left and right binding powers of `+` `-` `*` `/` `%` `==` `<` `>` `!=`, by their numbers.
 const LEFT_POWERS: [u32; 9] = [1, 1, 3, 3, 3, 0, 0, 0, 0];
@@ -81,22 +39,76 @@ const RIGHT_POWERS: [u32; 9] = [2, 2, 4, 4, 4, 1, 1, 1, 1];
 // The power of a prefix sign.
 pub const PREFIX_POWER: u32 = 5;
 
+// What begins an operand: a record 1, an array 2, an atom 3, a name 4, a bracket 5, a sign 6; 0 what begins none.
+// A chain of tests, which is compiled to one jump: a constant array would be written out at each use.
 pub fn operand_class(kind: u32) -> u32
     ensures { λ r. ⌜ r ≡ operandClass kind ⌝ }
 {
-    if 35 <= kind {
-        return 0;
+    if kind == Type::CURLY_LEFT {
+        return 1;
     }
-    OPERANDS[kind as usize]
+    if kind == Type::BRAKET_LEFT {
+        return 2;
+    }
+    if kind == Type::S {
+        return 3;
+    }
+    if kind == Type::I {
+        return 3;
+    }
+    if kind == Type::D {
+        return 3;
+    }
+    if kind == Type::TRUE {
+        return 3;
+    }
+    if kind == Type::FALSE {
+        return 3;
+    }
+    if kind == Type::IDENT {
+        return 4;
+    }
+    if kind == Type::BRACE_LEFT {
+        return 5;
+    }
+    if kind == Type::PLUS {
+        return 6;
+    }
+    if kind == Type::MINUS {
+        return 6;
+    }
+    0
 }
 
+// The number of an infix sign by its kind; 9 where there is none.
 pub fn operator(kind: u32) -> u32
     ensures { λ r. ⌜ r ≡ operatorNumber kind ⌝ }
 {
-    if 13 <= kind {
-        return 9;
+    if kind == Type::PLUS {
+        return 0;
     }
-    OPERATORS[kind as usize]
+    if kind == Type::MINUS {
+        return 1;
+    }
+    if kind == Type::ASTERIKS {
+        return 2;
+    }
+    if kind == Type::SLASH {
+        return 3;
+    }
+    if kind == Type::PERCENT {
+        return 4;
+    }
+    if kind == Type::DOUBLE_EQUAL {
+        return 5;
+    }
+    if kind == Type::LESS_THAN {
+        return 6;
+    }
+    if kind == Type::GREATER_THAN {
+        return 7;
+    }
+    9
 }
 
 fn left_power(n: u32) -> u32
@@ -113,7 +125,20 @@ pub fn right_power(n: u32) -> u32
     RIGHT_POWERS[n as usize]
 }
 
-// ---- whether a loop over an expression goes on
+// ---- whether an item is an expression, and a loop over an expression goes on
+
+// No doc waits or is read, and none of the words that begin another item: the kinds from Doc to Match.
+pub fn begins_expr(p: Parser) -> bool
+    ensures { λ r. ⌜ r ≡ beginsExpr p ⌝ }
+{
+    if p.used.docs != 0 {
+        return false;
+    }
+    if p.cur.kind < Type::DOC {
+        return true;
+    }
+    Type::MATCH < p.cur.kind
+}
 
 // An Ident or a Field can be called.
 fn is_callable_target(nodes: &[u32], n: NodeId) -> bool
