@@ -6,16 +6,19 @@ use mathlib.Core.List.{List}
 use Prim.Native.Nat.{ℕ, zero, suc, _+_, _-_, _<_}
 use native.Mathlib.Omega.{arith}
 use lib.ListN.{getD, length}
+use borrow.Author.Tests.{ne-eqb}
+use Rattle.lex.specs.Kind.{kDoc, kImport, kExtern, kLet, kFn, kMatch}
 use Rattle.rules.specs.Tree.{State, ok}
-use Rattle.rules.specs.Combinators.{Rule, Readers, ControlFlow, break, failExpecting, choose}
-use Rattle.rules.specs.Rules.{Powers, powers, stageOne, readers, parsePrefix, parseExpr, operand}
+use Rattle.rules.specs.Combinators.{Rule, Readers, ControlFlow, break, failExpecting, byKind, choose, collectDocs, pure}
+use Rattle.rules.specs.Rules.{Powers, powers, stageOne, readers, itemByKind, parsePrefix, parseExpr, operand}
 use Rattle.rules.specs.declared.NodeId.{NodeId}
 use Rattle.parser_base.specs.Represents.{Code, going, ahead}
 use Rattle.parser_base.specs.Refines.{kept, Refines, Refuses, deeper}
-use Rattle.parser_base.proofs.Steps.{either, at-kind, refused}
-use Rattle.parser_base.proofs.Rounds.{Again, weight}
-use Rattle.parser_leaves.specs.Tests.{operandClass, operandOf, operatorNumber, leftPowers, rightPowers}
-use Rattle.parser_leaves.proofs.Tables.{operand-class, powers-some}
+use Rattle.parser_base.proofs.Steps.{either, at-kind, refused, then, enough, current-represents, ifKind-no}
+use Rattle.parser_base.proofs.Docs.{docs-none, require-then}
+use Rattle.parser_base.proofs.Rounds.{Again, weight, ifKind-is-no, round-out, round-start}
+use Rattle.parser_leaves.specs.Tests.{beginsExpr, operandClass, operandOf, operatorNumber, leftPowers, rightPowers}
+use Rattle.parser_leaves.proofs.Tables.{begins-expr, entry-past, entry-other, operand-class, powers-some}
 
 -- ---- levels
 
@@ -43,6 +46,27 @@ module _ {script : List ℕ} {Q : NodeId → Type 0} {r l d r′ l′ : ℕ} {s 
 
   pub expr-by : (least : ℕ) → (levels ≡ 0 → ⊥) → Refines script r l (parseExpr (deeper script (levels - 1)) stageOne script least) Q kept d r′ l′ s s′ → Refines script r l (deeper script levels .expr least) Q kept d r′ l′ s s′
   expr-by least f p = rw (deeper-suc script levels f .1 least) p
+
+-- ---- items
+
+-- no doc is read
+no-doc : {script : List ℕ} {s : Code} → (s .parser .cur .kind ≡ kDoc → ⊥) → Refines script 0 0 collectDocs (λ n. n ≡ 0) kept 0 0 0 s s
+unfolding collectDocs pure
+no-doc f = round-out round-start (λ stack. refl) (λ R L stack n m e h. ifKind-is-no _ _ _ m (rw (current-represents (h .related)) (ne-eqb _ kDoc f)))
+
+-- an item that is an expression
+pub prefix-expr : {script : List ℕ} {Q : NodeId → Type 0} {s s′ : Code} (d : Readers) → beginsExpr (s .parser) ≡ true → Refines script 0 0 (d .expr 0) Q kept 1 0 8 s s′ → Refines script 0 0 (parsePrefix d) Q kept 1 0 8 s s′
+unfolding parsePrefix
+prefix-expr {script} {Q} {s} {s′} d e p =
+    let plain = begins-expr (s .parser) e in
+    let item : Refines script 0 0 (byKind (itemByKind d)) Q kept 1 0 8 s s′ =
+    at-kind _ _ refl
+    (entry-past _ _ _ (plain .1 kImport (omega arith) (omega arith))
+    (entry-past _ _ _ (plain .1 kLet (omega arith) (omega arith))
+    (entry-past _ _ _ (plain .1 kFn (omega arith) (omega arith))
+    (entry-past _ _ _ (plain .1 kExtern (omega arith) (omega arith))
+    (entry-other _ _ (require-then _ (enough (then (docs-none script _ _ _ (s .parser) (plain .0)) (ifKind-no _ _ (plain .1 kMatch (omega arith) (omega arith)) p)) tt))))))) in
+    enough (then (no-doc (plain .1 kDoc (omega arith) (omega arith))) item) tt
 
 -- ---- tables
 
