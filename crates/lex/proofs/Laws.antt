@@ -9,8 +9,8 @@ use native.Mathlib.Numerals.{add-one}
 use native.Mathlib.Omega.{arith}
 use lib.ListN.{length, getD, take, drop, length-take, length-drop, drop-of-length-le}
 use lib.Seq.{drop-cons}
-use lib.Dec.{ltb, eqb}
-use borrow.Author.Tests.{lt-ltb, le-ltb, ltb-true, ltb-false, eq-eqb, ne-eqb}
+use lib.Dec.{leb, ltb, eqb}
+use borrow.Author.Tests.{lt-ltb, le-ltb, ltb-true, ltb-false, leb-true, eq-eqb, ne-eqb, eqb-false}
 use Rattle.lex.specs.declared.byte_search.Found.{Found}
 use Rattle.lex.specs.declared.byte_search.Found.the-variants.{At, Nothing}
 use Rattle.lex.specs.declared.utf8.Utf8State.{Utf8State}
@@ -148,20 +148,86 @@ same-length [] (y ∷ ys) h = refl
 same-length (x ∷ xs) [] h = refl
 same-length (x ∷ xs) (y ∷ ys) h = cases (λ (t : Bool). t ≡ false) (eqb x y) (λ e. same-length xs ys (λ q. h (ap suc q))) (λ e. refl)
 
--- ---- a name, looked up one keyword at a time
+first-differs : (a b : List ℕ) → (getD a 0 0 ≡ getD b 0 0 → ⊥) → sameBytes a b ≡ false
+unfolding sameBytes
+first-differs [] [] h = absurd (h refl)
+first-differs [] (y ∷ ys) h = refl
+first-differs (x ∷ xs) [] h = refl
+first-differs (x ∷ xs) (y ∷ ys) h = rw (ne-eqb x y h, sameBytes)
 
-module _ (ws : List Keyword) (name : List ℕ) (k : ℕ) (d : Keyword) (r : ℕ) (looked : nameKind (drop k ws) name ≡ r) where
-  pub name-more : k < length ws → sameBytes (getD ws k d .spelling) name ≡ false → nameKind (drop (k + 1) ws) name ≡ r
-  unfolding nameKind
-  name-more h e = rw add-one (rw (drop-cons ws k d h, e, nameKind) at looked)
+-- ---- what the last arm of a `match` on a number knows
 
-  pub name-hit : k < length ws → sameBytes (getD ws k d .spelling) name ≡ true → getD ws k d .kind ≡ r
-  unfolding nameKind
-  name-hit h e = rw (drop-cons ws k d h, e, nameKind) at looked
+-- the number is none of the arms' numbers: the pairs nest to the left, as they do where the arm is proved
+abbrev pub NoneOf : (A : Type 0) → ℕ → List ℕ → Type 0
+NoneOf A b [] = A
+NoneOf A b (x ∷ xs) = NoneOf (A × (b ≡ x → ⊥)) b xs
 
-  pub name-end : length ws ≤ k → kIdent ≡ r
+none-before : (A : Type 0) (b : ℕ) (xs : List ℕ) → NoneOf A b xs → A × (before b xs ≡ length xs)
+unfolding before countWhile differsFrom
+none-before A b [] n = (n, refl)
+none-before A b (x ∷ xs) n =
+    let r = none-before (A × (b ≡ x → ⊥)) b xs n in
+    (r .0 .0, rw (ne-eqb x b (λ e. r .0 .1 (sym e)), countWhile) (ap suc (r .1)))
+
+pub none-found : (b : ℕ) (xs : List ℕ) → NoneOf (Unit {0}) b xs → findByte b xs ≡ Nothing
+none-found b xs n = sym (find-miss b xs (length xs) (sym (none-before (Unit {0}) b xs n .1)) (omega arith))
+
+-- ---- a name, looked up by its first byte
+
+-- every keyword has the property
+abbrev pub every : (Keyword → Bool) → List Keyword → Bool
+every p [] = true
+every p (w ∷ ws) = elim (p w) [ true ↦ every p ws | false ↦ false ]
+
+every-cons : (p : Keyword → Bool) (w : Keyword) (ws : List Keyword) → every p (w ∷ ws) ≡ true → (p w ≡ true) × (every p ws ≡ true)
+every-cons p w ws = cases (λ (t : Bool). t ≡ true → (p w ≡ true) × (every p ws ≡ true)) (p w) (λ q e. (q, e)) (λ q e. let z : _≡_ {A = ℕ} 0 1 = cc in absurd (omega arith))
+
+module _ (w : Keyword) (ws : List Keyword) (name : List ℕ) where
+  pub name-hit : sameBytes (w .spelling) name ≡ true → w .kind ≡ nameKind (w ∷ ws) name
   unfolding nameKind
-  name-end h = rw (drop-of-length-le ws h) at looked
+  name-hit e = rw (e, nameKind)
+
+  pub name-more : sameBytes (w .spelling) name ≡ false → nameKind ws name ≡ nameKind (w ∷ ws) name
+  unfolding nameKind
+  name-more e = rw (e, nameKind)
+
+-- no keyword has the name's spelling
+no-keyword : (p : Keyword → Bool) (name : List ℕ) → ((w : Keyword) → p w ≡ true → sameBytes (w .spelling) name ≡ false)
+    → (ws : List Keyword) → every p ws ≡ true → nameKind ws name ≡ kIdent
+unfolding nameKind
+no-keyword p name differs [] e = refl
+no-keyword p name differs (w ∷ ws) e =
+    let both = every-cons p w ws e in
+    sym (name-more w ws name (differs w (both .0))) ∙ no-keyword p name differs ws (both .1)
+
+-- where every keyword has `n` bytes or more, a shorter name is none
+pub shorter : (n : ℕ) (ws : List Keyword) (name : List ℕ) → every (λ (w : Keyword). leb n (length (w .spelling))) ws ≡ true → length name < n → nameKind ws name ≡ kIdent
+shorter n ws name e h =
+    no-keyword (λ (w : Keyword). leb n (length (w .spelling))) name
+    (λ w q. let k = leb-true n (length (w .spelling)) q in same-length (w .spelling) name (λ z. omega arith)) ws e
+
+-- where every keyword begins with one of some bytes, a name that begins with another is none
+pub another-first : (firsts : List ℕ) (ws : List Keyword) (name : List ℕ) → every (λ (w : Keyword). ltb (before (getD (w .spelling) 0 0) firsts) (length firsts)) ws ≡ true
+    → NoneOf (Unit {0}) (getD name 0 0) firsts → nameKind ws name ≡ kIdent
+another-first firsts ws name e n =
+    let b = getD name 0 0 in
+    let outside = none-before (Unit {0}) b firsts n .1 in
+    no-keyword (λ (w : Keyword). ltb (before (getD (w .spelling) 0 0) firsts) (length firsts)) name
+    (λ w q. first-differs (w .spelling) name (λ z. omega (arith, ap (λ (x : ℕ). before x firsts) z, outside, ltb-true (before (getD (w .spelling) 0 0) firsts) (length firsts) q))) ws e
+
+-- the keywords with this first byte
+abbrev pub beginning : ℕ → List Keyword → List Keyword
+beginning b [] = []
+beginning b (w ∷ ws) = elim (eqb (getD (w .spelling) 0 0) b) [ true ↦ w ∷ beginning b ws | false ↦ beginning b ws ]
+
+-- no other has to be asked about
+pub by-first : (ws : List Keyword) (name : List ℕ) {b : ℕ} → getD name 0 0 ≡ b → nameKind (beginning b ws) name ≡ nameKind ws name
+unfolding nameKind
+by-first [] name e = refl
+by-first (w ∷ ws) name {b} e =
+    cases (λ (us : List Keyword). nameKind us name ≡ nameKind (w ∷ ws) name) (eqb (getD (w .spelling) 0 0) b)
+    (λ q. ap (λ (n : ℕ). elim (sameBytes (w .spelling) name) as (λ (_ : Bool). ℕ) [ true ↦ w .kind | false ↦ n ]) (by-first ws name e))
+    (λ q. by-first ws name e ∙ name-more w ws name (first-differs (w .spelling) name (λ z. eqb-false (getD (w .spelling) 0 0) b q (z ∙ e))))
 
 -- ---- a leading space is of its line
 pub leading-le : (line : List ℕ) → leadingSpace line ≤ length line

@@ -1,8 +1,8 @@
 // Tokens: their kinds, the keyword table and their spellings.
 use crate::byte_search::Found;
-use crate::byte_search::find_byte;
 use crate::leading_space;
 ghost use mathlib.Core.Path.{_≡_};
+ghost use mathlib.Core.List.{[], _∷_};
 ghost use lib.ListN.{length};
 ghost use Rattle.lex.specs.Kind.{sameBytes, keywords, nameKind, punctuatorKind, fixedSpelling};
 ghost use Rattle.lex.specs.Spelling.{spellingOffset, spelling as spellingOf};
@@ -147,25 +147,59 @@ impl Type {
     pub fn from_keyword(name: &[u8]) -> u32
         ensures { λ r. ⌜ r ≡ nameKind keywords (now (name .entry)) ⌝ }
     {
-        let mut k: usize = 0;
-        while k < 17 {
-            let from = SPELLING_ENDS[k];
-            let to = SPELLING_ENDS[k + 1];
-            if same_bytes(&SPELLINGS[from..to], name) {
-                return KEYWORD_KINDS[k];
-            }
-            k += 1;
+        if name.len() < 2 {
+            return Type::IDENT;
         }
-        Type::IDENT
+        match name[0] {
+            b'i' => kind_if(b"import", Type::IMPORT, name),
+            b'e' => kind_if(b"extern", Type::EXTERN, name),
+            b'l' => kind_if(b"let", Type::LET, name),
+            b'f' => {
+                if same_bytes(b"fn", name) {
+                    return Type::FN;
+                }
+                kind_if(b"false", Type::FALSE, name)
+            }
+            b'm' => kind_if(b"match", Type::MATCH, name),
+            b'a' => kind_if(b"as", Type::AS, name),
+            b't' => kind_if(b"true", Type::TRUE, name),
+            b'S' => kind_if(b"Str", Type::STR, name),
+            b'I' => kind_if(b"Int", Type::INT, name),
+            b'D' => kind_if(b"Double", Type::DOUBLE, name),
+            b'B' => kind_if(b"Bool", Type::BOOL, name),
+            b'V' => kind_if(b"Void", Type::VOID, name),
+            b'O' => kind_if(b"Option", Type::OPTION, name),
+            b'A' => kind_if(b"Array", Type::ARRAY, name),
+            b'F' => kind_if(b"Foreign", Type::FOREIGN, name),
+            b'R' => kind_if(b"Record", Type::RECORD, name),
+            _ => Type::IDENT,
+        }
     }
 
     // The kind of a sign of one byte; 0 where the byte is none.
     pub(crate) fn from_punctuator(b: u8) -> u32
         ensures { λ r. ⌜ r ≡ punctuatorKind b ⌝ }
     {
-        match find_byte(b, &PUNCTUATORS) {
-            Found::At(i) => PUNCTUATOR_KINDS[i],
-            Found::Nothing => 0,
+        match b {
+            b'(' => Type::BRACE_LEFT,
+            b')' => Type::BRACE_RIGHT,
+            b'+' => Type::PLUS,
+            b'-' => Type::MINUS,
+            b'*' => Type::ASTERIKS,
+            b'/' => Type::SLASH,
+            b'%' => Type::PERCENT,
+            b'=' => Type::EQUAL,
+            b'<' => Type::LESS_THAN,
+            b'>' => Type::GREATER_THAN,
+            b'!' => Type::EXCLAIM,
+            b'?' => Type::QUESTION,
+            b':' => Type::COLON,
+            b'.' => Type::DOT,
+            b'[' => Type::BRAKET_LEFT,
+            b']' => Type::BRAKET_RIGHT,
+            b'{' => Type::CURLY_LEFT,
+            b'}' => Type::CURLY_RIGHT,
+            _ => 0,
         }
     }
 
@@ -181,96 +215,6 @@ impl Type {
         }
     }
 }
-
-// The keywords' spellings, one after the other.
-const SPELLINGS: [u8; 77] =
-    *b"importexternletfnmatchastruefalseStrIntDoubleBoolVoidOptionArrayForeignRecord";
-
-// Where each keyword's spelling ends; the first begins at 0.
-const SPELLING_ENDS: [usize; 18] = [
-    0,
-    6,
-    12,
-    15,
-    17,
-    22,
-    24,
-    28,
-    33,
-    36,
-    39,
-    45,
-    49,
-    53,
-    59,
-    64,
-    71,
-    77,
-];
-
-// The kind of each keyword.
-const KEYWORD_KINDS: [u32; 17] = [
-    Type::IMPORT,
-    Type::EXTERN,
-    Type::LET,
-    Type::FN,
-    Type::MATCH,
-    Type::AS,
-    Type::TRUE,
-    Type::FALSE,
-    Type::STR,
-    Type::INT,
-    Type::DOUBLE,
-    Type::BOOL,
-    Type::VOID,
-    Type::OPTION,
-    Type::ARRAY,
-    Type::FOREIGN,
-    Type::RECORD,
-];
-
-// The signs of one byte, and the kind of each.
-const PUNCTUATORS: [u8; 18] = [
-    b'(',
-    b')',
-    b'+',
-    b'-',
-    b'*',
-    b'/',
-    b'%',
-    b'=',
-    b'<',
-    b'>',
-    b'!',
-    b'?',
-    b':',
-    b'.',
-    b'[',
-    b']',
-    b'{',
-    b'}',
-];
-
-const PUNCTUATOR_KINDS: [u32; 18] = [
-    Type::BRACE_LEFT,
-    Type::BRACE_RIGHT,
-    Type::PLUS,
-    Type::MINUS,
-    Type::ASTERIKS,
-    Type::SLASH,
-    Type::PERCENT,
-    Type::EQUAL,
-    Type::LESS_THAN,
-    Type::GREATER_THAN,
-    Type::EXCLAIM,
-    Type::QUESTION,
-    Type::COLON,
-    Type::DOT,
-    Type::BRAKET_LEFT,
-    Type::BRAKET_RIGHT,
-    Type::CURLY_LEFT,
-    Type::CURLY_RIGHT,
-];
 
 // The length of each kind's fixed spelling.
 const SPELLING_LENS: [usize; 44] = [
@@ -319,6 +263,17 @@ const SPELLING_LENS: [usize; 44] = [
     7,
     6,
 ];
+
+// The kind, where the name has the spelling; else IDENT.
+fn kind_if(spelling: &[u8], kind: u32, name: &[u8]) -> u32
+    ensures { λ r. ⌜ r ≡ nameKind (record { kind = kind; spelling = now (spelling .entry) } ∷ []) (now (name .entry)) ⌝ }
+{
+    if same_bytes(spelling, name) {
+        kind
+    } else {
+        Type::IDENT
+    }
+}
 
 // The two spellings are the same bytes.
 pub fn same_bytes(a: &[u8], b: &[u8]) -> bool
