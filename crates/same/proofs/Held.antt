@@ -1,4 +1,4 @@
--- The arrays that hold a tree of the rules have its shape; so two trees that strict readings return compare as equal or not, and never as malformed.
+-- The arrays that hold a tree of the rules have its shape; so two trees that readings return, each in either mode, compare as equal or not, and never as malformed.
 use mathlib.Core.Path.{_≡_, refl, sym, _∙_, ap, ap₂}
 use mathlib.Core.Bool.{Bool, true, false}
 use mathlib.Core.Option.{Option, none, some}
@@ -27,13 +27,14 @@ use Rattle.rules.specs.declared.TypeExpr.{TypeExpr}
 use Rattle.rules.specs.declared.Parsed.{Parsed}
 use Rattle.rules.specs.declared.Parsed.the-variants as P
 use Rattle.rules.proofs.Unique.Whole.{shaped}
+use Rattle.rules.proofs.Unique.Collect.{shapedCollect}
 use Rattle.ast.specs.Decode.{if, fits, nodeOf, typeOf, nodeAt, typeAt}
 use Rattle.ast.specs.Tabulate.{rows, entriesBelow}
 use Rattle.ast.specs.Answer.{Answer, refused, answer, Lent, lent, refusal, cellsOf}
 use Rattle.ast.proofs.LayoutLaws.{node-length, type-length, node-trip, type-trip}
 use Rattle.same.proofs.Compare.{short-right}
 use Rattle.same.specs.Compare.{refusals, Compares, refusedLent, malformedLeft, malformedRight, sameShape, otherShape}
-use Rattle.same.specs.Returned.{returned, Returns, YesOrNo, yes, no}
+use Rattle.same.specs.Returned.{Mode, strict, collecting, reading, returned, Returns, YesOrNo, yes, no}
 use Rattle.same.specs.Shapes.{typeRow, nodeRow, typesBelow, nodesBelow, View, viewOf, typesIn, rootShapes, shapeIn}
 
 -- ---- records one after the other
@@ -155,85 +156,98 @@ not-refused script t es l h k =
       enough (length (l .roots)) n (t .roots) (u .0),
     )
 
--- ---- what a strict reading returns
+-- ---- what a reading returns
 
 -- strict mode gathers nothing
 no-errors : (x : Result (List ℕ)) (t : Tree) (es : List Diagnostic) → elim x as (λ r. Reading) [ ok roots s ↦ read (record { arena = s .arena; roots = roots }) [] | err e s ↦ ended e ] ≡ read t es → es ≡ []
 no-errors (ok roots s) t es e = let z : [] ≡ es = cc in sym z
 no-errors (err d s) t es e = absurd (let z : _≡_ {A = ℕ} 0 1 = cc in omega arith)
 
-strict : (script : List ℕ) (t : Tree) (es : List Diagnostic) → parse stageOne script ≡ read t es → es ≡ []
+pub strict-read : (script : List ℕ) (t : Tree) (es : List Diagnostic) → parse stageOne script ≡ read t es → parse stageOne script ≡ read t []
 unfolding parse
-strict script t es e = no-errors (parseRoots stageOne script (begin script)) t es e
-
-record Returned (script : List ℕ) (l : Arrays) (c : Counts) : Type 0 where
-  pub tree : Tree
-  pub accepted : parse stageOne script ≡ read tree []
-  pub shape : shapeIn (returned script l c) ≡ shapeOf script tree
-  pub lentEnough : refusal (returned script l c) ≡ 0
-
-module _ (script : List ℕ) (l : Arrays) where
-  -- how a promise comes out
-  long-is : ltb maxBytes (length script) ≡ true → promised (parse stageOne) script l .answer ≡ P.Refused 1
-  unfolding promised
-  long-is h = rw (h, promised)
-
-  short-is : ltb maxBytes (length script) ≡ false → tooShort script l ≡ true → promised (parse stageOne) script l .answer ≡ P.Refused 2
-  unfolding promised
-  short-is h k = rw (h, k, promised)
-
-  read-is : (r : Reading) → ltb maxBytes (length script) ≡ false → tooShort script l ≡ false → parse stageOne script ≡ r → promised (parse stageOne) script l ≡ outcome r l
-  unfolding promised
-  read-is r h k p = rw (h, k, p, promised)
-
-  module _ (c : Counts) (e : Returns script l c) where
-    tree-is : (t : Tree) (es : List Diagnostic) → ltb maxBytes (length script) ≡ false → tooShort script l ≡ false → parse stageOne script ≡ read t es → Returned script l c
-    unfolding outcome countsOf heldIn
-    tree-is t es h k p =
-        let o : promised (parse stageOne) script l ≡ outcome (read t es) l = read-is (read t es) h k p in
-        let a : P.Tree c ≡ P.Tree (countsOf t es) = sym e ∙ ap (λ (x : Outcome). x .answer) o in
-        let z : countsOf t es ≡ c = cc in
-        let q : heldIn script t es l ≡ returned script l c = ap (λ (x : Outcome). lent script (x .arrays .nodes) (x .arrays .types) (x .arrays .lists) (x .arrays .roots) (countsOf t es)) (sym o) ∙ ap (returned script l) z in
-        record {
-          tree = t;
-          accepted = p ∙ ap (read t) (strict script t es p);
-          shape = ap shapeIn (sym q) ∙ shape-held (heldIn script t es l) t (holds script t es l);
-          lentEnough = ap refusal (sym q) ∙ not-refused script t es l h k;
-        }
-
-    returned-tree : Returned script l c
-    unfolding outcome
-    returned-tree = go (ltb maxBytes (length script)) (tooShort script l) (parse stageOne script) refl refl refl
-      where
-        go : (b d : Bool) (r : Reading) → ltb maxBytes (length script) ≡ b → tooShort script l ≡ d → parse stageOne script ≡ r → Returned script l c
-        go true d r h k p = absurd (let a : P.Refused 1 ≡ P.Tree c = sym (long-is h) ∙ e in let z : _≡_ {A = ℕ} 0 1 = cc in omega arith)
-        go false true r h k p = absurd (let a : P.Refused 2 ≡ P.Tree c = sym (short-is h k) ∙ e in let z : _≡_ {A = ℕ} 0 1 = cc in omega arith)
-        go false false (ended x) h k p = absurd (let a : P.Error x ≡ P.Tree c = sym (ap (λ (y : Outcome). y .answer) (read-is (ended x) h k p)) ∙ e in let z : _≡_ {A = ℕ} 0 1 = cc in omega arith)
-        go false false (read t es) h k p = tree-is t es h k p
-
--- ---- the comparison of what two strict readings return, in whatever arrays: yes where the shapes are the same, else no, and never 4
-
-some-inj : (σ τ : Shapes) → _≡_ {A = Option Shapes} (some σ) (some τ) → σ ≡ τ
-some-inj σ τ e = cc
+strict-read script t es e = e ∙ ap (read t) (no-errors (parseRoots stageOne script (begin script)) t es e)
 
 -- Eof is no infix sign
 no-eof : stageOne kEof ≡ none
 unfolding stageOne choose
 no-eof = refl
 
-pub compared : (s₁ s₂ : List ℕ) (l₁ l₂ : Arrays) (c₁ c₂ : Counts) → Returns s₁ l₁ c₁ → Returns s₂ l₂ c₂ → (x : Answer Bool) → Compares (returned s₁ l₁ c₁) (returned s₂ l₂ c₂) x
-    → (t₁ : Tree) × (t₂ : Tree) × (parse stageOne s₁ ≡ read t₁ []) × (parse stageOne s₂ ≡ read t₂ []) × YesOrNo s₁ t₁ s₂ t₂ x
-compared s₁ s₂ l₁ l₂ c₁ c₂ e₁ e₂ x w =
-    let r₁ = returned-tree s₁ l₁ c₁ e₁ in
-    let r₂ = returned-tree s₂ l₂ c₂ e₂ in
-    (r₁ .tree, r₂ .tree, r₁ .accepted, r₂ .accepted, go r₁ r₂ x w (shaped stageOne no-eof s₁ (r₁ .tree) (r₁ .accepted)) (shaped stageOne no-eof s₂ (r₂ .tree) (r₂ .accepted)))
-  where
-    open-both : (r₁ : Returned s₁ l₁ c₁) (r₂ : Returned s₂ l₂ c₂) → refusals (returned s₁ l₁ c₁) (returned s₂ l₂ c₂) ≡ 0
-    open-both r₁ r₂ = short-right (returned s₁ l₁ c₁) (returned s₂ l₂ c₂) refl refl (λ a. let q = r₁ .lentEnough in let z : _≡_ {A = ℕ} 0 1 = cc in omega arith) (λ a. let q = r₂ .lentEnough in let z : _≡_ {A = ℕ} 0 1 = cc in omega arith) (r₁ .lentEnough) ∙ r₂ .lentEnough
+has-shape : (mode : Mode) (script : List ℕ) (t : Tree) (es : List Diagnostic) → reading mode script ≡ read t es → (σs : Shapes) × (shapeOf script t ≡ some σs)
+has-shape strict script t es e = shaped stageOne no-eof script t (strict-read script t es e)
+has-shape collecting script t es e = shapedCollect stageOne no-eof script t es e
 
-    go : (r₁ : Returned s₁ l₁ c₁) (r₂ : Returned s₂ l₂ c₂) (x : Answer Bool) → Compares (returned s₁ l₁ c₁) (returned s₂ l₂ c₂) x → (σs : Shapes) × (shapeOf s₁ (r₁ .tree) ≡ some σs) → (σs : Shapes) × (shapeOf s₂ (r₂ .tree) ≡ some σs) → YesOrNo s₁ (r₁ .tree) s₂ (r₂ .tree) x
-    go r₁ r₂ x (refusedLent f) u v = absurd (let o = open-both r₁ r₂ in let z : _≡_ {A = ℕ} 0 1 = cc in omega arith)
-    go r₁ r₂ x (malformedLeft f g) u v = absurd (let o = r₁ .shape in let p = u .1 in let z : _≡_ {A = ℕ} 0 1 = cc in omega arith)
-    go r₁ r₂ x (malformedRight f g) u v = absurd (let o = r₂ .shape in let p = v .1 in let z : _≡_ {A = ℕ} 0 1 = cc in omega arith)
-    go r₁ r₂ x (sameShape f g h) u v = yes (sym (r₁ .shape) ∙ g ∙ sym h ∙ r₂ .shape)
-    go r₁ r₂ x (otherShape {σ} {τ} f g h n) u v = no (λ q. n (some-inj σ τ (sym g ∙ r₁ .shape ∙ q ∙ sym (r₂ .shape) ∙ h)))
+record Returned (mode : Mode) (script : List ℕ) (l : Arrays) (c : Counts) : Type 0 where
+  pub tree : Tree
+  pub errors : List Diagnostic
+  pub accepted : reading mode script ≡ read tree errors
+  pub shape : shapeIn (returned mode script l c) ≡ shapeOf script tree
+  pub lentEnough : refusal (returned mode script l c) ≡ 0
+
+module _ (mode : Mode) (script : List ℕ) (l : Arrays) where
+  -- how a promise comes out
+  long-is : ltb maxBytes (length script) ≡ true → promised (reading mode) script l .answer ≡ P.Refused 1
+  unfolding promised
+  long-is h = rw (h, promised)
+
+  short-is : ltb maxBytes (length script) ≡ false → tooShort script l ≡ true → promised (reading mode) script l .answer ≡ P.Refused 2
+  unfolding promised
+  short-is h k = rw (h, k, promised)
+
+  read-is : (r : Reading) → ltb maxBytes (length script) ≡ false → tooShort script l ≡ false → reading mode script ≡ r → promised (reading mode) script l ≡ outcome r l
+  unfolding promised
+  read-is r h k p = rw (h, k, promised) (ap (λ (x : Reading). outcome x l) p)
+
+  module _ (c : Counts) (e : Returns mode script l c) where
+    tree-is : (t : Tree) (es : List Diagnostic) → ltb maxBytes (length script) ≡ false → tooShort script l ≡ false → reading mode script ≡ read t es → Returned mode script l c
+    unfolding outcome countsOf heldIn
+    tree-is t es h k p =
+        let o : promised (reading mode) script l ≡ outcome (read t es) l = read-is (read t es) h k p in
+        let a : P.Tree c ≡ P.Tree (countsOf t es) = sym e ∙ ap (λ (x : Outcome). x .answer) o in
+        let z : countsOf t es ≡ c = cc in
+        let q : heldIn script t es l ≡ returned mode script l c = ap (λ (x : Outcome). lent script (x .arrays .nodes) (x .arrays .types) (x .arrays .lists) (x .arrays .roots) (countsOf t es)) (sym o) ∙ ap (returned mode script l) z in
+        record {
+          tree = t;
+          errors = es;
+          accepted = p;
+          shape = ap shapeIn (sym q) ∙ shape-held (heldIn script t es l) t (holds script t es l);
+          lentEnough = ap refusal (sym q) ∙ not-refused script t es l h k;
+        }
+
+    returned-tree : Returned mode script l c
+    unfolding outcome
+    returned-tree = go (ltb maxBytes (length script)) (tooShort script l) (reading mode script) refl refl refl
+      where
+        go : (b d : Bool) (r : Reading) → ltb maxBytes (length script) ≡ b → tooShort script l ≡ d → reading mode script ≡ r → Returned mode script l c
+        go true d r h k p = absurd (let a : P.Refused 1 ≡ P.Tree c = sym (long-is h) ∙ e in let z : _≡_ {A = ℕ} 0 1 = cc in omega arith)
+        go false true r h k p = absurd (let a : P.Refused 2 ≡ P.Tree c = sym (short-is h k) ∙ e in let z : _≡_ {A = ℕ} 0 1 = cc in omega arith)
+        go false false (ended x) h k p = absurd (let a : P.Error x ≡ P.Tree c = sym (ap (λ (y : Outcome). y .answer) (read-is (ended x) h k p)) ∙ e in let z : _≡_ {A = ℕ} 0 1 = cc in omega arith)
+        go false false (read t es) h k p = tree-is t es h k p
+
+-- ---- the comparison of what two readings return, each in either mode, in whatever arrays: yes where the shapes are the same, else no, and never 4
+
+some-inj : (σ τ : Shapes) → _≡_ {A = Option Shapes} (some σ) (some τ) → σ ≡ τ
+some-inj σ τ e = cc
+
+module _ (m₁ m₂ : Mode) (s₁ s₂ : List ℕ) (l₁ l₂ : Arrays) (c₁ c₂ : Counts) where
+  abbrev left : Lent
+  left = returned m₁ s₁ l₁ c₁
+
+  abbrev right : Lent
+  right = returned m₂ s₂ l₂ c₂
+
+  pub compared : Returns m₁ s₁ l₁ c₁ → Returns m₂ s₂ l₂ c₂ → (x : Answer Bool) → Compares left right x
+      → (t₁ : Tree) × (t₂ : Tree) × (es₁ : List Diagnostic) × (es₂ : List Diagnostic) × (reading m₁ s₁ ≡ read t₁ es₁) × (reading m₂ s₂ ≡ read t₂ es₂) × YesOrNo s₁ t₁ s₂ t₂ x
+  compared e₁ e₂ x w =
+      let r₁ = returned-tree m₁ s₁ l₁ c₁ e₁ in
+      let r₂ = returned-tree m₂ s₂ l₂ c₂ e₂ in
+      (r₁ .tree, r₂ .tree, r₁ .errors, r₂ .errors, r₁ .accepted, r₂ .accepted, go r₁ r₂ x w (has-shape m₁ s₁ (r₁ .tree) (r₁ .errors) (r₁ .accepted)) (has-shape m₂ s₂ (r₂ .tree) (r₂ .errors) (r₂ .accepted)))
+    where
+      open-both : (r₁ : Returned m₁ s₁ l₁ c₁) (r₂ : Returned m₂ s₂ l₂ c₂) → refusals left right ≡ 0
+      open-both r₁ r₂ = short-right left right refl refl (λ a. let q = r₁ .lentEnough in let z : _≡_ {A = ℕ} 0 1 = cc in omega arith) (λ a. let q = r₂ .lentEnough in let z : _≡_ {A = ℕ} 0 1 = cc in omega arith) (r₁ .lentEnough) ∙ r₂ .lentEnough
+
+      go : (r₁ : Returned m₁ s₁ l₁ c₁) (r₂ : Returned m₂ s₂ l₂ c₂) (x : Answer Bool) → Compares left right x → (σs : Shapes) × (shapeOf s₁ (r₁ .tree) ≡ some σs) → (σs : Shapes) × (shapeOf s₂ (r₂ .tree) ≡ some σs) → YesOrNo s₁ (r₁ .tree) s₂ (r₂ .tree) x
+      go r₁ r₂ x (refusedLent f) u v = absurd (let o = open-both r₁ r₂ in let z : _≡_ {A = ℕ} 0 1 = cc in omega arith)
+      go r₁ r₂ x (malformedLeft f g) u v = absurd (let o = r₁ .shape in let p = u .1 in let z : _≡_ {A = ℕ} 0 1 = cc in omega arith)
+      go r₁ r₂ x (malformedRight f g) u v = absurd (let o = r₂ .shape in let p = v .1 in let z : _≡_ {A = ℕ} 0 1 = cc in omega arith)
+      go r₁ r₂ x (sameShape f g h) u v = yes (sym (r₁ .shape) ∙ g ∙ sym h ∙ r₂ .shape)
+      go r₁ r₂ x (otherShape {σ} {τ} f g h n) u v = no (λ q. n (some-inj σ τ (sym g ∙ r₁ .shape ∙ q ∙ sym (r₂ .shape) ∙ h)))

@@ -1,10 +1,10 @@
--- What a strict reading returns, as it is lent to a comparison; and what the comparison of two such trees answers.
+-- What a reading returns, as it is lent to a comparison; and what the comparison of two such trees answers.
 use mathlib.Core.Path.{_≡_}
 use mathlib.Core.Bool.{Bool, true, false}
 use mathlib.Core.List.{List}
 use Prim.Native.Nat.{ℕ}
 use Rattle.rules.specs.Rules.{stageOne}
-use Rattle.rules.specs.Parse.{Reading, parse}
+use Rattle.rules.specs.Parse.{Reading, parse, parseCollect}
 use Rattle.rules.specs.Tree.{Tree}
 use Rattle.rules.specs.Promise.{Arrays, promised}
 use Rattle.rules.specs.Shape.{shapeOf}
@@ -12,13 +12,22 @@ use Rattle.rules.specs.declared.Counts.{Counts}
 use Rattle.rules.specs.declared.Parsed.the-variants as P
 use Rattle.ast.specs.Answer.{Answer, answer, Lent, lent}
 
--- the script with the arrays as a reading leaves them, and its counts
-abbrev pub returned : List ℕ → Arrays → Counts → Lent
-returned script l c = let o = promised (parse stageOne) script l .arrays in lent script (o .nodes) (o .types) (o .lists) (o .roots) c
+-- the two ways to read
+pub data Mode : Type 0 where
+  strict : Mode
+  collecting : Mode
 
--- a strict reading of the script into these arrays returns a tree, with these counts
-abbrev pub Returns : List ℕ → Arrays → Counts → Type 0
-Returns script l c = promised (parse stageOne) script l .answer ≡ P.Tree c
+abbrev pub reading : Mode → List ℕ → Reading
+reading strict = parse stageOne
+reading collecting = parseCollect stageOne
+
+-- the script with the arrays as a reading leaves them, and its counts
+abbrev pub returned : Mode → List ℕ → Arrays → Counts → Lent
+returned mode script l c = let o = promised (reading mode) script l .arrays in lent script (o .nodes) (o .types) (o .lists) (o .roots) c
+
+-- a reading of the script into these arrays returns a tree, with these counts
+abbrev pub Returns : Mode → List ℕ → Arrays → Counts → Type 0
+Returns mode script l c = promised (reading mode) script l .answer ≡ P.Tree c
 
 -- yes where the shapes of the two trees are the same, else no
 pub data YesOrNo (s₁ : List ℕ) (t₁ : Tree) (s₂ : List ℕ) (t₂ : Tree) : Answer Bool → Type 0 where
