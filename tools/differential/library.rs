@@ -11,7 +11,6 @@ unsafe extern "C" {
         script: *const u8, script_len: usize, nodes: *mut u32, nodes_len: usize, types: *mut u32, types_len: usize, lists: *mut u32,
         lists_len: usize, roots: *mut u32, roots_len: usize, diagnostics: *mut u32, diagnostics_len: usize, numbers: *mut u32,
     ) -> u32;
-    #[cfg(collecting)]
     fn purple_garden_parse_collect(
         script: *const u8, script_len: usize, nodes: *mut u32, nodes_len: usize, types: *mut u32, types_len: usize, lists: *mut u32,
         lists_len: usize, roots: *mut u32, roots_len: usize, diagnostics: *mut u32, diagnostics_len: usize, numbers: *mut u32,
@@ -45,15 +44,10 @@ const UNTOUCHED: u32 = 0xdead_beef;
 #[derive(Clone, Copy, PartialEq)]
 pub enum Mode {
     Strict,
-    #[cfg(collecting)]
     Collecting,
 }
 
-pub const MODES: &[Mode] = &[
-    Mode::Strict,
-    #[cfg(collecting)]
-    Mode::Collecting,
-];
+pub const MODES: [Mode; 2] = [Mode::Strict, Mode::Collecting];
 
 /// Rubbish to fill arrays with.
 pub struct Rubbish(Vec<u32>);
@@ -115,7 +109,6 @@ impl Lent {
     pub fn read(&mut self, mode: Mode, script: &[u8]) -> u32 {
         let call: Read = match mode {
             Mode::Strict => purple_garden_parse,
-            #[cfg(collecting)]
             Mode::Collecting => purple_garden_parse_collect,
         };
         let lens = self.lens;

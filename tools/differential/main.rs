@@ -8,6 +8,7 @@
 //! long       programs of up to 65,536 bytes, whole and damaged, deep nests and long chains
 //! pairs      two scripts each: the comparison of their trees beside the shapes of the Rust's
 //! refusals   1 to 3: scripts that are too long, arrays that are too short, numbers that lie outside
+//! limits     scripts of 0, 1, 65,536 and 65,537 bytes of many shapes; arrays exactly long enough, longer, and one cell short of each
 //!
 //! Without a family all are run. Of each script the numbers, all cells of all arrays, the starts of nodes, the tokens of types, spans, lines and columns
 //! are compared. The arrays are lent full of rubbish and longer than needed.
@@ -33,6 +34,17 @@ use crate::scripts::{Program, Random, damage, rewritten, rows};
 
 /// The longest script that is read.
 const LONGEST: usize = 65_536;
+
+/// What scripts at the limits are made of, again and again up to their length: blanks, words, signs, nests, faults, errors, items.
+const LIMITS: [&str; 36] = [
+    " ", "\n", "a", "a ", "1.", "1 ", "+", "a+", "a -b ", "- ", "x.", "f()", "[]", "(", "[", "{", "f(", "(a) ", "[a ", "$", "$ ", "\"", "\"s\" ", "#! d\n", "#! d\nlet a=a ", "let 1 ",
+    "match {} ", "match {a{b}{c}} ", "fn f(a:Int){a} ", "fn f(){", "import \"x\" ", "extern \"p\" {fn f(a:Int)} ", "a as Option<Int> ", "a as Record<a:Int> ", "!= ", "\u{e9}",
+];
+
+/// The least lengths of the five arrays for `n` bytes.
+fn least(n: usize) -> [usize; 5] {
+    CELLS.map(|cells| cells * n)
+}
 
 /// `node_start` of the Rust goes down a whole chain of operators.
 const STACK: usize = 1 << 30;
@@ -104,27 +116,32 @@ impl Beside {
         Beside { rubbish: Rubbish::new(&mut random), random, rust: Rust::new(), lent: Lent::new(), expected: Expected::default() }
     }
 
-    /// Arrays of at least the least lengths for `n` bytes, mostly longer.
+    /// Lengths of at least the least for `n` bytes, mostly longer.
+    fn lengths(&mut self, n: usize) -> [usize; 5] {
+        least(n).map(|cells| cells + if self.random.chance(50) { self.random.below(40) } else { 0 })
+    }
+
     fn lend(&mut self, n: usize) {
-        let lens = CELLS.map(|cells| cells * n + if self.random.chance(50) { self.random.below(40) } else { 0 });
+        let lens = self.lengths(n);
         self.lent.lend(lens, &self.rubbish, &mut self.random);
     }
 
     /// One script in each mode.
     fn compare(&mut self, count: &mut Count, script: &[u8]) {
         count.scripts += 1;
-        for &mode in MODES {
-            if let Err(what) = self.compare_in(count, mode, script) {
+        for mode in MODES {
+            let lens = self.lengths(script.len());
+            if let Err(what) = self.compare_in(count, mode, script, lens) {
                 count.differs(script, &what);
             }
         }
     }
 
-    fn compare_in(&mut self, count: &mut Count, mode: Mode, script: &[u8]) -> Result<(), String> {
+    fn compare_in(&mut self, count: &mut Count, mode: Mode, script: &[u8], lens: [usize; 5]) -> Result<(), String> {
         let mut asked = Asked::default();
         let random = &mut self.random;
         self.rust.read(script, mode != Mode::Strict, &mut self.expected, &mut |tree| asked = Asked::ask(tree, random));
-        self.lend(script.len());
+        self.lent.lend(lens, &self.rubbish, &mut self.random);
         let number = self.lent.read(mode, script);
         self.same_reading(number)?;
         if number == 0 {
@@ -337,17 +354,17 @@ impl Beside {
     fn refusals(&mut self) -> u64 {
         let mut count = Count::new("refusals");
         let script = b"fn f(a: Int) Int { a + 1 } #! d\nlet x = [1 \"s\"]";
-        for &mode in MODES {
+        for mode in MODES {
             for array in 0..5 {
                 for missing in [1, CELLS[array], CELLS[array] * script.len()] {
-                    let mut lens = CELLS.map(|cells| cells * script.len());
+                    let mut lens = least(script.len());
                     lens[array] -= missing;
                     self.unchanged(&mut count, mode, script, lens, 2);
                 }
             }
             for n in [LONGEST + 1, LONGEST + 2, 3 * LONGEST] {
                 let script = vec![b'a'; n];
-                self.unchanged(&mut count, mode, &script, CELLS.map(|cells| cells * n), 1);
+                self.unchanged(&mut count, mode, &script, least(n), 1);
                 self.unchanged(&mut count, mode, &script, [0; 5], 1);
             }
             self.compare(&mut count, script);
@@ -370,6 +387,37 @@ impl Beside {
                 count.differs(script, &format!("the end: {end:?}"));
             }
         }
+        count.done()
+    }
+
+    fn limits(&mut self) -> u64 {
+        let mut count = Count::new("limits");
+        let mut refused = 0;
+        for block in LIMITS {
+            for (n, mode) in [0, 1, LONGEST, LONGEST + 1].into_iter().flat_map(|n| MODES.map(|mode| (n, mode))) {
+                let script: Vec<u8> = block.bytes().cycle().take(n).collect();
+                let exact = least(n);
+                if n > LONGEST {
+                    self.unchanged(&mut count, mode, &script, exact, 1);
+                    self.unchanged(&mut count, mode, &script, [0; 5], 1);
+                    refused += 2;
+                    continue;
+                }
+                for lens in [exact, [1, 2, 3, 4, 5].map(|i| exact[i - 1] + i), exact.map(|cells| cells + 1000)] {
+                    count.scripts += 1;
+                    if let Err(what) = self.compare_in(&mut count, mode, &script, lens) {
+                        count.differs(&script, &what);
+                    }
+                }
+                for array in (0..5).filter(|&i| exact[i] > 0) {
+                    let mut lens = exact;
+                    lens[array] -= 1;
+                    self.unchanged(&mut count, mode, &script, lens, 2);
+                    refused += 1;
+                }
+            }
+        }
+        println!("limits: of {} readings {refused} were to be refused", count.scripts);
         count.done()
     }
 
@@ -396,7 +444,7 @@ fn source(script: &[u8], t: &lex::Token<'_>) -> (usize, usize) {
     (t.start, end)
 }
 
-const FAMILIES: [&str; 6] = ["refusals", "bytes", "tokens", "programs", "long", "pairs"];
+const FAMILIES: [&str; 7] = ["refusals", "limits", "bytes", "tokens", "programs", "long", "pairs"];
 
 fn run(quick: bool, seed: u64, families: &[String]) -> u64 {
     let mut beside = Beside::new(seed);
@@ -404,6 +452,7 @@ fn run(quick: bool, seed: u64, families: &[String]) -> u64 {
     for family in FAMILIES.iter().filter(|f| families.is_empty() || families.iter().any(|g| g == *f)) {
         differ += match *family {
             "refusals" => beside.refusals(),
+            "limits" => beside.limits(),
             "bytes" => beside.bytes(if quick { 2 } else { 3 }),
             "tokens" => beside.tokens(if quick { 4 } else { 5 }),
             "programs" => beside.programs(if quick { 200_000 } else { 4_000_000 }),
@@ -430,6 +479,6 @@ fn main() {
     }
     let runner = std::thread::Builder::new().stack_size(STACK).spawn(move || run(quick, seed, &families)).expect("a thread");
     let differ = runner.join().expect("no panic");
-    println!("modes: {}; {differ} differences", if MODES.len() == 2 { "strict and collecting" } else { "strict" });
+    println!("both modes: {differ} differences");
     std::process::exit((differ > 0) as i32);
 }
