@@ -1,33 +1,94 @@
--- The bits of a byte's class: each is set where the byte has the property, shown at all 256 bytes by a table that antt computes.
+-- The bits of a byte's class: each is set where the byte has the property, shown at all 256 bytes by a table that antt computes. A greater number has none.
 -- Assumes nothing.
-use mathlib.Core.Path.{_≡_, refl}
+use mathlib.Core.Path.{_≡_, refl, _∙_, sym}
 use mathlib.Core.Bool.{Bool, true, false, not}
-use Prim.Native.Nat.{ℕ, _<_}
-use lib.Bits.{bitAnd}
-use lib.Dec.{eqb}
-use Rattle.lex.specs.Bytes.{classOf, bit, isIdentCont, isIdentStart, isDigit, isNumCont, isWs, or, between}
-use Rattle.lex.proofs.Laws.{agree}
+use Prim.Native.Nat.{ℕ, _<_, _≤_}
+use native.Mathlib.Omega.{arith}
+use lib.Bits.{bitAnd, bitOr}
+use lib.Dec.{leb, ltb, eqb}
+use borrow.Author.Tests.{lt-leb, ltb-true, ltb-false, ne-eqb}
+use Rattle.lex.specs.Bytes.{classOf, bit, hasBit, Classes, isLetter, isIdentCont, isIdentStart, isDigit, isNumCont, isWs, or, between}
+use Rattle.lex.proofs.Laws.{cases, table, table-at, agree, at-each}
 
--- the byte's class has one of the bits
-abbrev has : ℕ → ℕ → Bool
-has m b = not (eqb (bitAnd (classOf b) m) 0)
+-- the table that the code has
+pub classes : Classes (table classOf 0 256)
+classes b h = table-at classOf 0 256 b h
 
-pub inName-bit : (b : ℕ) → b < 256 → has 1 b ≡ isIdentCont b
+pub below : (low high b : ℕ) → b < low → between low high b ≡ false
+unfolding between
+below low high b h = rw (lt-leb low b h, between)
+
+-- ---- a number that is no byte
+
+outside : (low high b : ℕ) → high < b → between low high b ≡ false
+unfolding between
+outside low high b h = cases (λ (t : Bool). t ≡ false) (leb low b) (λ e. lt-leb b high h) (λ e. refl)
+
+module _ (b : ℕ) (h : 256 ≤ b) where
+  no-start : isIdentStart b ≡ false
+  unfolding isIdentStart or
+  no-start = rw (outside 97 122 b (omega arith), outside 65 90 b (omega arith), ne-eqb b 95 (λ e. omega arith))
+
+  no-digit : isDigit b ≡ false
+  unfolding isDigit
+  no-digit = outside 48 57 b (omega arith)
+
+  in-no-name : isIdentCont b ≡ false
+  unfolding isIdentCont or
+  in-no-name = rw (no-start, no-digit)
+
+  in-no-number : isNumCont b ≡ false
+  unfolding isNumCont or
+  in-no-number = rw (no-digit, ne-eqb b 46 (λ e. omega arith))
+
+  no-separator : isWs b ≡ false
+  unfolding isWs or
+  no-separator = rw (ne-eqb b 32 (λ e. omega arith), ne-eqb b 9 (λ e. omega arith), ne-eqb b 13 (λ e. omega arith), ne-eqb b 10 (λ e. omega arith))
+
+  no-class : classOf b ≡ 0
+  unfolding classOf bit
+  no-class = rw (in-no-name, no-start, no-digit, in-no-number, no-separator)
+
+  no-bit : (m : ℕ) → not (eqb (bitAnd 0 m) 0) ≡ false → hasBit m b ≡ false
+  unfolding hasBit
+  no-bit m e = rw no-class e
+
+-- ---- each bit stands for its property
+
+everywhere : (m : ℕ) (p : ℕ → Bool) → table (hasBit m) 0 256 ≡ table p 0 256 → not (eqb (bitAnd 0 m) 0) ≡ false → ((b : ℕ) → 256 ≤ b → p b ≡ false) → (b : ℕ) → hasBit m b ≡ p b
+everywhere m p bytes e others b = go (ltb b 256) refl
+  where
+    go : (t : Bool) → ltb b 256 ≡ t → hasBit m b ≡ p b
+    go true q = agree (hasBit m) p true 256 b bytes (ltb-true b 256 q)
+    go false q = let h = ltb-false b 256 q in no-bit b h m e ∙ sym (others b h)
+
+pub inName-bit : (b : ℕ) → hasBit 1 b ≡ isIdentCont b
+unfolding hasBit classOf bit isIdentCont isIdentStart isDigit isNumCont isWs or between
+inName-bit = everywhere 1 isIdentCont refl refl in-no-name
+
+pub beginsName-bit : (b : ℕ) → hasBit 2 b ≡ isIdentStart b
+unfolding hasBit classOf bit isIdentCont isIdentStart isDigit isNumCont isWs or between
+beginsName-bit = everywhere 2 isIdentStart refl refl no-start
+
+pub inNumber-bit : (b : ℕ) → hasBit 8 b ≡ isNumCont b
+unfolding hasBit classOf bit isIdentCont isIdentStart isDigit isNumCont isWs or between
+inNumber-bit = everywhere 8 isNumCont refl refl in-no-number
+
+pub separates-bit : (b : ℕ) → hasBit 16 b ≡ isWs b
+unfolding hasBit classOf bit isIdentCont isIdentStart isDigit isNumCont isWs or between
+separates-bit = everywhere 16 isWs refl refl no-separator
+
+-- ---- bytes that are told without the table
+
+-- with bit 5 set a letter is a small letter
+pub letter-small : (b : ℕ) → b < 256 → between 97 122 (bitOr b 32) ≡ isLetter b
+unfolding isLetter or between
+letter-small b h = agree (λ (x : ℕ). between 97 122 (bitOr x 32)) isLetter true 256 b refl h
+
+pub letter-class : (b : ℕ) → b < 256 → isLetter b ≡ true → classOf b ≡ 3
+unfolding classOf bit isLetter isIdentCont isIdentStart isDigit isNumCont isWs or between
+letter-class b h q = at-each isLetter classOf 3 b refl h q
+
+pub digit-class : (b : ℕ) → b < 256 → isDigit b ≡ true → classOf b ≡ 13
 unfolding classOf bit isIdentCont isIdentStart isDigit isNumCont isWs or between
-inName-bit b h = agree (has 1) isIdentCont true 256 b refl h
-
-pub beginsName-bit : (b : ℕ) → b < 256 → has 2 b ≡ isIdentStart b
-unfolding classOf bit isIdentCont isIdentStart isDigit isNumCont isWs or between
-beginsName-bit b h = agree (has 2) isIdentStart true 256 b refl h
-
-pub digit-bit : (b : ℕ) → b < 256 → has 4 b ≡ isDigit b
-unfolding classOf bit isIdentCont isIdentStart isDigit isNumCont isWs or between
-digit-bit b h = agree (has 4) isDigit true 256 b refl h
-
-pub inNumber-bit : (b : ℕ) → b < 256 → has 8 b ≡ isNumCont b
-unfolding classOf bit isIdentCont isIdentStart isDigit isNumCont isWs or between
-inNumber-bit b h = agree (has 8) isNumCont true 256 b refl h
-
-pub separates-bit : (b : ℕ) → b < 256 → has 16 b ≡ isWs b
-unfolding classOf bit isIdentCont isIdentStart isDigit isNumCont isWs or between
-separates-bit b h = agree (has 16) isWs true 256 b refl h
+digit-class b h q = at-each isDigit classOf 13 b refl h q

@@ -49,6 +49,11 @@ table-at f d n k h = table-from f d 0 n k h ∙ ap f (zero-add k)
 pub agree : {A : Type 0} (f g : ℕ → A) (d : A) (n k : ℕ) → table f 0 n ≡ table g 0 n → k < n → f k ≡ g k
 agree f g d n k e h = sym (table-at f d n k h) ∙ ap (λ (l : List _). getD l k d) e ∙ table-at g d n k h
 
+-- a function has one value at all bytes with a property
+pub at-each : {A : Type 0} (p : ℕ → Bool) (f : ℕ → A) (v : A) (b : ℕ) → table (λ (x : ℕ). elim (p x) as (λ (_ : Bool). A) [ true ↦ f x | false ↦ v ]) 0 256 ≡ table (λ (x : ℕ). v) 0 256
+    → b < 256 → p b ≡ true → f b ≡ v
+at-each {A} p f v b e h q = rw q at (agree (λ (x : ℕ). elim (p x) as (λ (_ : Bool). A) [ true ↦ f x | false ↦ v ]) (λ (x : ℕ). v) v 256 b e h)
+
 -- ---- a run, scanned one byte at a time: `i + countWhile p (drop i s)` stays what it is
 
 module _ (p : ℕ → Bool) (s : List ℕ) (i n : ℕ) (scanned : i + countWhile p (drop i s) ≡ n) where
@@ -73,6 +78,23 @@ pub run-le : (p : ℕ → Bool) (s : List ℕ) → countWhile p s ≤ length s
 unfolding countWhile
 run-le p [] = zero-le
 run-le p (b ∷ bs) = cases (λ (n : ℕ). n ≤ suc (length bs)) (p b) (λ e. suc-le-suc (run-le p bs)) (λ e. zero-le)
+
+-- properties that agree have runs of the same length
+pub run-agree : (p q : ℕ → Bool) → ((b : ℕ) → p b ≡ q b) → (s : List ℕ) → countWhile p s ≡ countWhile q s
+unfolding countWhile
+run-agree p q h [] = refl
+run-agree p q h (b ∷ bs) = rw (h b, countWhile) (ap (λ (n : ℕ). elim (q b) as (λ (_ : Bool). ℕ) [ true ↦ suc n | false ↦ 0 ]) (run-agree p q h bs))
+
+-- a run of a weaker property goes on behind that of a stronger one
+pub run-split : (p q : ℕ → Bool) → ((b : ℕ) → p b ≡ true → q b ≡ true) → (s : List ℕ) → countWhile p s + countWhile q (drop (countWhile p s) s) ≡ countWhile q s
+unfolding countWhile
+run-split p q weaker [] = refl
+run-split p q weaker (b ∷ bs) = go (p b) refl (run-split p q weaker bs)
+  where
+    go : (t : Bool) → p b ≡ t → countWhile p bs + countWhile q (drop (countWhile p bs) bs) ≡ countWhile q bs
+        → countWhile p (b ∷ bs) + countWhile q (drop (countWhile p (b ∷ bs)) (b ∷ bs)) ≡ countWhile q (b ∷ bs)
+    go true e h = simp (e, weaker b e, countWhile) (omega arith)
+    go false e h = simp (e, countWhile) (zero-add _)
 
 -- ---- what `findByte` answers, by where the first `b` stands
 

@@ -10,10 +10,28 @@ use native.Mathlib.Omega.{arith}
 use lib.Dec.{eqb}
 use lib.ListN.{length, getD, drop, drop-of-length-le}
 use lib.Seq.{drop-cons, drop-drop, getD-drop}
-use borrow.Author.Tests.{eqb-true}
+use borrow.Author.Tests.{eqb-true, eq-eqb, ne-eqb}
 use Rattle.lex.specs.Bytes.{isWs, or, countWhile, differsFrom, before}
 use Rattle.lex.specs.Lex.{beginsComment, skipped}
 use Rattle.lex.proofs.Laws.{cases}
+
+or-false : (t : Bool) → t ≡ or t false
+unfolding or
+or-false true = refl
+or-false false = refl
+
+-- of the bytes from the space on, only the space separates
+pub separates-from-space : (b : ℕ) → 32 ≤ b → eqb b 32 ≡ isWs b
+unfolding isWs or
+separates-from-space b h = rw (ne-eqb b 9 (λ e. omega arith), ne-eqb b 13 (λ e. omega arith), ne-eqb b 10 (λ e. omega arith)) (or-false (eqb b 32))
+
+pub space-separates : (b : ℕ) → b ≡ 32 → isWs b ≡ true
+space-separates b e = sym (separates-from-space b (omega arith)) ∙ eq-eqb b 32 e
+
+-- a byte above the space that is no `#` is none of a blank or a comment
+pub stands : (b next : ℕ) → 32 < b → (b ≡ 35 → ⊥) → (isWs b ≡ false) × (beginsComment b next ≡ false)
+unfolding beginsComment
+stands b next h n = (sym (separates-from-space b (omega arith)) ∙ ne-eqb b 32 (λ e. omega arith), rw (ne-eqb b 35 n, beginsComment))
 
 -- a comment runs to the end of its line
 comment : (bs : List ℕ) → skipped true bs ≡ before 10 bs + skipped false (drop (before 10 bs) bs)

@@ -1,9 +1,11 @@
 -- The classes of bytes, runs of bytes, and the first place of a byte.
+use mathlib.Core.Path.{_≡_}
 use mathlib.Core.Bool.{Bool, true, false, not}
 use mathlib.Core.List.{List, [], _∷_}
-use Prim.Native.Nat.{ℕ, suc, _+_}
+use Prim.Native.Nat.{ℕ, suc, _+_, _<_}
 use lib.Dec.{leb, ltb, eqb}
-use lib.ListN.{length}
+use lib.Bits.{bitAnd}
+use lib.ListN.{length, getD}
 use Rattle.lex.specs.declared.byte_search.Found.{Found}
 use Rattle.lex.specs.declared.byte_search.Found.the-variants.{At, Nothing}
 
@@ -20,6 +22,12 @@ isWs b = or (eqb b 32) (or (eqb b 9) (or (eqb b 13) (eqb b 10)))
 
 unfoldable pub isDigit : ℕ → Bool
 isDigit b = between 48 57 b
+
+unfoldable pub isLetter : ℕ → Bool
+isLetter b = or (between 97 122 b) (between 65 90 b)
+
+unfoldable pub isAlphanumeric : ℕ → Bool
+isAlphanumeric b = or (isLetter b) (isDigit b)
 
 unfoldable pub isIdentStart : ℕ → Bool
 isIdentStart b = or (between 97 122 b) (or (between 65 90 b) (eqb b 95))
@@ -38,6 +46,14 @@ bit false n = 0
 -- the five bits of a byte's class
 unfoldable pub classOf : ℕ → ℕ
 classOf b = bit (isIdentCont b) 1 + bit (isIdentStart b) 2 + bit (isDigit b) 4 + bit (isNumCont b) 8 + bit (isWs b) 16
+
+-- a byte's class has the bit
+unfoldable pub hasBit : ℕ → ℕ → Bool
+hasBit m b = not (eqb (bitAnd (classOf b) m) 0)
+
+-- a table of the classes of all bytes
+abbrev pub Classes : List ℕ → Type 0
+Classes table = (b : ℕ) → b < 256 → getD table b 0 ≡ classOf b
 
 -- how many bytes in front have the property
 unfoldable pub countWhile : (ℕ → Bool) → List ℕ → ℕ

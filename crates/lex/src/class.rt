@@ -1,6 +1,6 @@
 // The class of a byte: five bits, looked up in one table.
 ghost use mathlib.Core.Path.{_≡_};
-ghost use Rattle.lex.specs.Bytes.{isWs, isDigit, isIdentStart, isIdentCont, isNumCont, classOf};
+ghost use Rattle.lex.specs.Bytes.{isWs, isLetter, isDigit, isIdentStart, classOf, hasBit, Classes};
 
 // The bits of a class: what the byte can be or begin.
 pub(crate) struct Class(pub u8);
@@ -17,8 +17,9 @@ impl Class {
     pub(crate) const WS: u8 = 16;
 }
 
-// The class of each byte.
-const CLASS: [u8; 256] = [
+// The class of each byte. The compiled code writes a constant array onto the stack at each use: so the commonest bytes are told without it, and whoever
+// looks up many takes it once and lends it.
+pub(crate) const CLASS: [u8; 256] = [
     0,
     0,
     0,
@@ -277,18 +278,38 @@ const CLASS: [u8; 256] = [
     0,
 ];
 
-// The class of a byte.
-pub(crate) fn class_of(b: u8) -> u8
-    ensures { λ r. ⌜ r ≡ classOf b ⌝ }
+// Whether the byte is a letter: a capital and its small letter differ in one bit.
+pub(crate) fn is_letter(b: u8) -> bool
+    ensures { λ r. ⌜ r ≡ isLetter b ⌝ }
 {
-    CLASS[b as usize]
+    let small = b | 32;
+    if small < b'a' {
+        return false;
+    }
+    small <= b'z'
 }
 
-// Whether the byte can continue a name.
-pub(crate) fn is_ident_cont(b: u8) -> bool
-    ensures { λ r. ⌜ r ≡ isIdentCont b ⌝ }
+// Whether the byte is a digit.
+pub(crate) fn is_digit(b: u8) -> bool
+    ensures { λ r. ⌜ r ≡ isDigit b ⌝ }
 {
-    class_of(b) & Class::IDENT_CONT != 0
+    if b < b'0' {
+        return false;
+    }
+    b <= b'9'
+}
+
+// The class of a byte.
+fn class_of(b: u8) -> u8
+    ensures { λ r. ⌜ r ≡ classOf b ⌝ }
+{
+    if is_letter(b) {
+        return Class::IDENT_START | Class::IDENT_CONT;
+    }
+    if is_digit(b) {
+        return Class::DIGIT | Class::IDENT_CONT | Class::NUM_CONT;
+    }
+    CLASS[b as usize]
 }
 
 // Whether the byte can begin a name.
@@ -298,23 +319,20 @@ pub(crate) fn is_ident_start(b: u8) -> bool
     class_of(b) & Class::IDENT_START != 0
 }
 
-// Whether the byte is a digit.
-pub(crate) fn is_digit(b: u8) -> bool
-    ensures { λ r. ⌜ r ≡ isDigit b ⌝ }
-{
-    class_of(b) & Class::DIGIT != 0
-}
-
-// Whether the byte can continue a number.
-pub(crate) fn is_num_cont(b: u8) -> bool
-    ensures { λ r. ⌜ r ≡ isNumCont b ⌝ }
-{
-    class_of(b) & Class::NUM_CONT != 0
-}
-
 // Whether the byte separates: space, tab, CR or LF.
 pub(crate) fn is_ws(b: u8) -> bool
     ensures { λ r. ⌜ r ≡ isWs b ⌝ }
 {
+    if b' ' <= b {
+        return b == b' ';
+    }
     class_of(b) & Class::WS != 0
+}
+
+// Whether the byte's class has the bit, by the table that is lent.
+pub(crate) fn has_bit(class: &[u8; 256], bit: u8, b: u8) -> bool
+    requires { ⌜ Classes (now class) ⌝ }
+    ensures { λ r. ⌜ r ≡ hasBit bit b ⌝ }
+{
+    class[b as usize] & bit != 0
 }

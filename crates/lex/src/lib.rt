@@ -9,8 +9,12 @@ pub use byte_search::Found;
 use byte_search::find_byte;
 use byte_search::line_end;
 use byte_search::peek;
+use byte_search::skip_class;
+use byte_search::skip_digits;
 use byte_search::skip_ident_cont;
-use byte_search::skip_num_cont;
+use class::CLASS;
+use class::Class;
+use class::has_bit;
 use class::is_digit;
 use class::is_ident_start;
 use class::is_ws;
@@ -27,8 +31,11 @@ pub use utf8::is_utf8;
 ghost use mathlib.Core.Path.{_≡_};
 ghost use mathlib.Core.Bool.{false};
 ghost use Prim.Native.Nat.{_+_, _<_, _≤_};
-ghost use lib.ListN.{length, drop};
-ghost use Rattle.lex.specs.Lex.{beginsComment, skipped, punctuator as punctuatorOf, punctuation as punctuationOf, leadingSpace, doc as docOf, string as stringOf, doubleIn, number as numberOf, name as nameOf, symbol as symbolOf, piece as pieceOf, stepAt, nextAt, isPrefixSign};
+ghost use lib.ListN.{length, getD, drop};
+ghost use Rattle.lex.specs.Bytes.{Classes};
+ghost use Rattle.lex.specs.declared.tok.Piece.{Piece};
+ghost use Rattle.lex.specs.Kind.{punctuatorKind};
+ghost use Rattle.lex.specs.Lex.{beginsComment, skipped, punctuation as punctuationOf, leadingSpace, doc as docOf, string as stringOf, doubleIn, number as numberOf, name as nameOf, symbol as symbolOf, piece as pieceOf, stepAt, nextAt, isPrefixSign};
 
 // A sign detached from what precedes it and glued to what follows begins a new expression.
 pub fn is_prefix_sign(script: &[u8], at: usize) -> bool
@@ -60,14 +67,29 @@ fn begins_comment(b: u8, next: u8) -> bool
     next != b'!'
 }
 
-// The position after blanks and comments.
-fn skip_whitespace(script: &[u8], pos: usize) -> usize
+// The position after spaces.
+fn skip_spaces(script: &[u8], pos: usize) -> usize
+    ensures { λ r. ⌜ r + skipped false (drop r (now (script .entry))) ≡ pos + skipped false (drop pos (now (script .entry))) ⌝ }
+{
+    let mut p = pos;
+    while p < script.len() {
+        if script[p] != b' ' {
+            return p;
+        }
+        p += 1;
+    }
+    p
+}
+
+// The position after blanks and comments, by the table that is lent.
+fn skip_separators(class: &[u8; 256], script: &[u8], pos: usize) -> usize
+    requires { ⌜ Classes (now class) ⌝ }
     ensures { λ r. ⌜ r ≡ pos + skipped false (drop pos (now (script .entry))) ⌝ }
 {
     let mut p = pos;
     while p < script.len() {
         let b = script[p];
-        if is_ws(b) {
+        if has_bit(class, Class::WS, b) {
             p += 1;
         } else if begins_comment(b, peek(script, p + 1)) {
             p += line_end(&script[p..]);
@@ -78,33 +100,35 @@ fn skip_whitespace(script: &[u8], pos: usize) -> usize
     p
 }
 
-// A sign of one byte, or an unknown character.
-fn punctuator(b: u8) -> Piece
-    ensures { λ r. ⌜ r ≡ punctuatorOf b ⌝ }
+// The position after blanks and comments. The table is taken only where another byte up to the space stands, or `#`.
+fn skip_whitespace(script: &[u8], pos: usize) -> usize
+    ensures { λ r. ⌜ r ≡ pos + skipped false (drop pos (now (script .entry))) ⌝ }
 {
-    let kind = Type::from_punctuator(b);
-    if 0 < kind {
-        Piece::Token {
-            kind,
-            len: 1,
-            taken: 1,
-        }
-    } else {
-        Piece::Fault {
-            number: 33,
-            len: 1,
-            seen: b,
-            taken: 1,
+    let p = skip_spaces(script, pos);
+    if script.len() <= p {
+        return p;
+    }
+    let b = script[p];
+    if b' ' < b {
+        if b != b'#' {
+            return p;
         }
     }
+    let class = CLASS;
+    skip_separators(&class, script, p)
 }
 
-// A sign of two bytes, or what one byte is.
-fn punctuation(b: u8, next: u8) -> Piece
+// A sign of two bytes, or that of one byte, which has this kind.
+fn punctuation(b: u8, kind: u32, next: u8) -> Piece
+    requires { ⌜ (kind ≡ punctuatorKind b) × (0 < kind) ⌝ }
     ensures { λ r. ⌜ r ≡ punctuationOf b next ⌝ }
 {
     if next != b'=' {
-        return punctuator(b);
+        return Piece::Token {
+            kind,
+            len: 1,
+            taken: 1,
+        };
     }
     if b == b'=' {
         return Piece::Token {
@@ -120,7 +144,11 @@ fn punctuation(b: u8, next: u8) -> Piece
             taken: 2,
         };
     }
-    punctuator(b)
+    Piece::Token {
+        kind,
+        len: 1,
+        taken: 1,
+    }
 }
 
 // 1 where the line begins with a space.
@@ -214,14 +242,14 @@ fn double(rest: &[u8], n: usize, from: usize) -> Piece
 fn number(rest: &[u8]) -> Piece
     ensures { λ r. ⌜ r ≡ numberOf (now (rest .entry)) ⌝ }
 {
-    let n = skip_num_cont(rest);
-    let Found::At(first) = find_byte(b'.', &rest[..n]) else {
+    let first = skip_digits(rest);
+    if peek(rest, first) != b'.' {
         return Piece::Token {
             kind: Type::I,
-            len: n,
-            taken: n,
+            len: first,
+            taken: first,
         };
-    };
+    }
     if is_ident_start(peek(rest, first + 1)) {
         return Piece::Token {
             kind: Type::I,
@@ -229,6 +257,8 @@ fn number(rest: &[u8]) -> Piece
             taken: first,
         };
     }
+    let class = CLASS;
+    let n = first + skip_class(&class, Class::NUM_CONT, &rest[first..]);
     double(rest, n, first + 1)
 }
 
@@ -245,20 +275,31 @@ fn name(rest: &[u8]) -> Piece
     }
 }
 
-// A doc, a sign or an unknown character.
+// The fault of a byte that begins nothing.
+fn unknown_character(b: u8) -> Piece
+    ensures { λ r. ⌜ r ≡ Piece.Fault 33 1 b 1 ⌝ }
+{
+    Piece::Fault {
+        number: 33,
+        len: 1,
+        seen: b,
+        taken: 1,
+    }
+}
+
+// A doc or an unknown character, where no sign stands.
 fn symbol(rest: &[u8]) -> Piece
-    requires { ⌜ 0 < length (now rest) ⌝ }
+    requires { ⌜ (0 < length (now rest)) × (punctuatorKind (getD (now rest) 0 0) ≡ 0) ⌝ }
     ensures { λ r. ⌜ r ≡ symbolOf (now (rest .entry)) ⌝ }
 {
     let b = rest[0];
-    let next = peek(rest, 1);
     if b != b'#' {
-        return punctuation(b, next);
+        return unknown_character(b);
     }
-    if next == b'!' {
-        return doc(&rest[2..]);
+    if peek(rest, 1) != b'!' {
+        return unknown_character(b);
     }
-    punctuator(b)
+    doc(&rest[2..])
 }
 
 // What stands where no blank or comment begins.
@@ -267,14 +308,18 @@ fn piece(rest: &[u8]) -> Piece
     ensures { λ r. ⌜ r ≡ pieceOf (now (rest .entry)) ⌝ }
 {
     let b = rest[0];
-    if is_ident_start(b) {
-        return name(rest);
+    let kind = Type::from_punctuator(b);
+    if 0 < kind {
+        return punctuation(b, kind, peek(rest, 1));
     }
     if is_digit(b) {
         return number(rest);
     }
     if b == b'"' {
         return string(&rest[1..]);
+    }
+    if is_ident_start(b) {
+        return name(rest);
     }
     symbol(rest)
 }

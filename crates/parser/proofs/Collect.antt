@@ -29,10 +29,10 @@ use Rattle.diagnostics.proofs.Records.{holding-pushed, holding-none, holding-pa
 use Rattle.diagnostics.specs.Faults.{faultsBetween, lowDiagnostic}
 use Rattle.diagnostics.proofs.Faults.{faults-low}
 use Rattle.diagnostics.proofs.Order.{Ordered, ordered-start, ordered-error, ordered-end, ordered-room}
-use Rattle.parser_base.specs.Represents.{Code, code, going, isGoing, ahead, Represents, FailedAt}
+use Rattle.parser_base.specs.Represents.{Failed, Code, code, going, isGoing, ahead, Represents, FailedAt}
 use Rattle.parser_base.specs.Refines.{Ends, kept, Refines, deeper, wanted}
 use Rattle.parser_base.specs.declared.Parser.{Parser}
-use Rattle.parser_base.specs.declared.Status.the-variants.{Going, Failed}
+use Rattle.parser_base.specs.declared.Status.{Status}
 use Rattle.parser_base.proofs.Steps.{either, true≢false, left-some, current-represents, represents-less, represents-going, failed-fails}
 use Rattle.parser_base.proofs.Rounds.{after, iterate-suc, ifKind-is-yes, ifKind-is-no}
 use Rattle.parser_base.proofs.Loops.{wanted-going, wanted-eof}
@@ -123,22 +123,20 @@ collect-turn {script} {nodes′ = nodes′} {types′} {lists′} {roots} {diagn
     go (err e m₁) z = k e m₁ z
 
 -- 10 ends the reading
-pub ended-by-ten : {script nodes types lists : List ℕ} {d : Diagnostic} (roots array : List ℕ) (c : RootsCollected) (g : Gathered) (e : Diagnostic) (m : State) → c .parser .status ≡ Failed d → eqb (d .number) 10 ≡ true
+pub ended-by-ten : {script nodes types lists : List ℕ} {d : Diagnostic} (roots array : List ℕ) (c : RootsCollected) (g : Gathered) (e : Diagnostic) (m : State) → d ≡ c .parser .status .error → eqb (d .number) 10 ≡ true
     → FailedAt script (code nodes types lists (c .parser)) e 0 0 [] m → TurnEnds script nodes types lists roots array c (recover stageOne script g e m)
 ended-by-ten {script} {nodes} {types} {lists} {d} roots array c g e m failed ten h =
-    let met : Failed d ≡ Failed e = sym failed ∙ h .status in
-    let named : d ≡ e = cc in
+    let named : d ≡ e = failed ∙ ap (λ (s : Status). s .error) (h .status) in
     subst (TurnEnds script nodes types lists roots array c) (sym (recover-ends script g e m (ap (λ (x : Diagnostic). eqb (x .number) 10) (sym named) ∙ ten))) (h .status)
 
 -- an error is gathered, and the reading goes on
-pub gathered-error : {script nodes types lists roots array types′ lists′ array₁ array₂ : List ℕ} {c : RootsCollected} {n₁ n₂ : ℕ} {d : Diagnostic} {q₁ q₂ : Parser} (g : Gathered) (e : Diagnostic) (m : State) → c .parser .status ≡ Failed d → eqb (d .number) 10 ≡ false
+pub gathered-error : {script nodes types lists roots array types′ lists′ array₁ array₂ : List ℕ} {c : RootsCollected} {n₁ n₂ : ℕ} {d : Diagnostic} {q₁ q₂ : Parser} (g : Gathered) (e : Diagnostic) (m : State) → d ≡ c .parser .status .error → eqb (d .number) 10 ≡ false
     → diagnostics array₁ n₁ ≡ foldl pushed (diagnostics array (c .diagnostics)) (map lowDiagnostic (faultsBetween script (c .listed) (c .parser .pos))) → diagnostics array₂ n₂ ≡ pushed (diagnostics array₁ n₁) d → length array₂ ≡ length array
     → Resumes script (code nodes types lists (c .parser)) (code nodes types′ lists′ q₁) → Refines script 0 0 synchronizing (λ n. n ≡ 0) kept 0 0 0 (code nodes types′ lists′ q₁) (code nodes types′ lists′ q₂)
     → Room script roots array g → FailedAt script (code nodes types lists (c .parser)) e 0 0 [] m → Gathers script nodes types lists roots array c g
     → TurnEnds script nodes types′ lists′ roots array₂ (record { parser = q₂; members = c .members; diagnostics = n₂; listed = c .parser .pos }) (recover stageOne script g e m)
 gathered-error {script} {nodes} {types} {lists} {roots} {array} {types′} {lists′} {array₁} {array₂} {c} {n₁} {n₂} {d} {q₁} {q₂} g e m failed ten faults pushes same resumes goes room h z =
-    let met : Failed d ≡ Failed e = sym failed ∙ h .status in
-    let named : d ≡ e = cc in
+    let named : d ≡ e = failed ∙ ap (λ (s : Status). s .error) (h .status) in
     let r = recovered h resumes goes in
     let last : RootsCollected = record { parser = q₂; members = c .members; diagnostics = n₂; listed = c .parser .pos } in
     let left : length (m .left) ≡ length (ahead script (code nodes types lists (c .parser))) = ap length (h .related .left) in

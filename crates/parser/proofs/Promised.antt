@@ -17,7 +17,7 @@ use Rattle.rules.specs.Promise.{maxBytes, Arrays, Outcome, tooShort, zeroed, ho
 use Rattle.rules.specs.declared.Parsed.{Parsed}
 use Rattle.rules.specs.declared.Parsed.the-variants as P
 use Rattle.parser_base.specs.Represents.{isGoing}
-use Rattle.parser_base.specs.declared.Status.the-variants.{Going, Failed}
+use Rattle.parser_base.specs.declared.Status.{Status}
 use Rattle.parser_base.proofs.Steps.{true≢false}
 use Rattle.parser_base.proofs.Cells.{zeros-length}
 use Rattle.parser.specs.Whole.{arrays, refusal, Blank, Holds, RootsEnd}
@@ -111,26 +111,25 @@ parse-ending script = refl
 module _ (script ns ts ls rs ds ns′ ts′ ls′ rs′ : List ℕ) (r : RootsRead) (taken : Accepted (parse stageOne) script (arrays ns ts ls rs ds))
     (ends : RootsEnd ns′ ts′ ls′ rs′ r (parseRoots stageOne script (begin script)))
     (n : length ns′ ≡ length ns) (t : length ts′ ≡ length ts) (c : length ls′ ≡ length ls) (o : length rs′ ≡ length rs) where
-  pub strict-tree : (ds′ : List ℕ) → ds′ ≡ zeros (length ds) → r .parser .status ≡ Going
+  pub strict-tree : (ds′ : List ℕ) → ds′ ≡ zeros (length ds) → isGoing (r .parser .status) ≡ true
       → promised (parse stageOne) script (arrays ns ts ls rs ds) ≡ record { answer = treeOf r 0; arrays = arrays ns′ ts′ ls′ rs′ ds′ }
   unfolding ending flatten
   strict-tree ds′ blank g = go (parseRoots stageOne script (begin script)) (parse-ending script) ends
     where
       go : (res : Result (List ℕ)) → parse stageOne script ≡ ending res → RootsEnd ns′ ts′ ls′ rs′ r res → promised (parse stageOne) script (arrays ns ts ls rs ds) ≡ record { answer = treeOf r 0; arrays = arrays ns′ ts′ ls′ rs′ ds′ }
       go (ok xs m) e h = tree-promised (parse stageOne) script ns ts ls rs ds ns′ ts′ ls′ rs′ ds′ taken r [] 0 e h n t c o refl (blank ∙ ap zeros {x = length ds} {y = length ds - 0} (omega arith))
-      go (err x m) e h = absurd (true≢false (ap isGoing g) (ap isGoing h))
+      go (err x m) e h = absurd (true≢false g (ap isGoing h))
 
-  pub strict-error : (ns″ ts″ ls″ rs″ ds′ : List ℕ) (e : Diagnostic) → ns″ ≡ zeros (length ns′) → ts″ ≡ zeros (length ts′) → ls″ ≡ zeros (length ls′) → rs″ ≡ zeros (length rs′) → ds′ ≡ zeros (length ds) → r .parser .status ≡ Failed e
-      → promised (parse stageOne) script (arrays ns ts ls rs ds) ≡ record { answer = P.Error e; arrays = arrays ns″ ts″ ls″ rs″ ds′ }
+  pub strict-error : (ns″ ts″ ls″ rs″ ds′ : List ℕ) → ns″ ≡ zeros (length ns′) → ts″ ≡ zeros (length ts′) → ls″ ≡ zeros (length ls′) → rs″ ≡ zeros (length rs′) → ds′ ≡ zeros (length ds) → isGoing (r .parser .status) ≡ false
+      → promised (parse stageOne) script (arrays ns ts ls rs ds) ≡ record { answer = P.Error (r .parser .status .error); arrays = arrays ns″ ts″ ls″ rs″ ds′ }
   unfolding ending
-  strict-error ns″ ts″ ls″ rs″ ds′ e a b l d z g = go (parseRoots stageOne script (begin script)) (parse-ending script) ends
+  strict-error ns″ ts″ ls″ rs″ ds′ a b l d z g = go (parseRoots stageOne script (begin script)) (parse-ending script) ends
     where
-      go : (res : Result (List ℕ)) → parse stageOne script ≡ ending res → RootsEnd ns′ ts′ ls′ rs′ r res → promised (parse stageOne) script (arrays ns ts ls rs ds) ≡ record { answer = P.Error e; arrays = arrays ns″ ts″ ls″ rs″ ds′ }
-      go (ok xs m) w h = absurd (true≢false (ap isGoing (h .going)) (ap isGoing g))
+      go : (res : Result (List ℕ)) → parse stageOne script ≡ ending res → RootsEnd ns′ ts′ ls′ rs′ r res → promised (parse stageOne) script (arrays ns ts ls rs ds) ≡ record { answer = P.Error (r .parser .status .error); arrays = arrays ns″ ts″ ls″ rs″ ds′ }
+      go (ok xs m) w h = absurd (true≢false (ap isGoing (h .going)) g)
       go (err x m) w h =
-          let s : Failed x ≡ Failed e = sym h ∙ g in
-          let same : x ≡ e = cc in
-          error-promised (parse stageOne) script ns ts ls rs ds ns″ ts″ ls″ rs″ ds′ taken e (w ∙ ap ended same) (a ∙ ap zeros n) (b ∙ ap zeros t) (l ∙ ap zeros c) (d ∙ ap zeros o) z
+          let same : x ≡ r .parser .status .error = sym (ap (λ (s : Status). s .error) h) in
+          error-promised (parse stageOne) script ns ts ls rs ds ns″ ts″ ls″ rs″ ds′ taken (r .parser .status .error) (w ∙ ap ended same) (a ∙ ap zeros n) (b ∙ ap zeros t) (l ∙ ap zeros c) (d ∙ ap zeros o) z
 
 -- ---- collecting
 
@@ -147,25 +146,24 @@ module _ (script ns ts ls rs ds ns′ ts′ ls′ rs′ ds′ : List ℕ) (r : R
   abbrev roots : RootsRead
   roots = record { parser = r .parser; members = r .members }
 
-  pub collect-tree : r .parser .status ≡ Going → promised (parseCollect stageOne) script (arrays ns ts ls rs ds) ≡ record { answer = treeOf roots (r .diagnostics); arrays = arrays ns′ ts′ ls′ rs′ ds′ }
+  pub collect-tree : isGoing (r .parser .status) ≡ true → promised (parseCollect stageOne) script (arrays ns ts ls rs ds) ≡ record { answer = treeOf roots (r .diagnostics); arrays = arrays ns′ ts′ ls′ rs′ ds′ }
   unfolding collectEnding
   collect-tree g = go (parseRootsCollect stageOne script (begin script)) (collect-ending script) ends
     where
       go : (res : Result Gathered) → parseCollect stageOne script ≡ collectEnding script res → CollectEnds script ns′ ts′ ls′ rs′ ds′ r res → promised (parseCollect stageOne) script (arrays ns ts ls rs ds) ≡ record { answer = treeOf roots (r .diagnostics); arrays = arrays ns′ ts′ ls′ rs′ ds′ }
       go (ok w m) e h = tree-promised (parseCollect stageOne) script ns ts ls rs ds ns′ ts′ ls′ rs′ ds′ taken roots (inOrder script w) (r .diagnostics) e (h .0) n t c o (h .2) (h .1 ∙ ap (λ (j : ℕ). padded j (flatten (map diagnosticCells (inOrder script w)))) k)
-      go (err x m) e h = absurd (true≢false (ap isGoing g) (ap isGoing h))
+      go (err x m) e h = absurd (true≢false g (ap isGoing h))
 
-  pub collect-error : (ns″ ts″ ls″ rs″ ds″ : List ℕ) (e : Diagnostic) → ns″ ≡ zeros (length ns′) → ts″ ≡ zeros (length ts′) → ls″ ≡ zeros (length ls′) → rs″ ≡ zeros (length rs′) → ds″ ≡ take 0 ds′ ++ zeros (length ds′ - 0) → r .parser .status ≡ Failed e
-      → promised (parseCollect stageOne) script (arrays ns ts ls rs ds) ≡ record { answer = P.Error e; arrays = arrays ns″ ts″ ls″ rs″ ds″ }
+  pub collect-error : (ns″ ts″ ls″ rs″ ds″ : List ℕ) → ns″ ≡ zeros (length ns′) → ts″ ≡ zeros (length ts′) → ls″ ≡ zeros (length ls′) → rs″ ≡ zeros (length rs′) → ds″ ≡ take 0 ds′ ++ zeros (length ds′ - 0) → isGoing (r .parser .status) ≡ false
+      → promised (parseCollect stageOne) script (arrays ns ts ls rs ds) ≡ record { answer = P.Error (r .parser .status .error); arrays = arrays ns″ ts″ ls″ rs″ ds″ }
   unfolding collectEnding
-  collect-error ns″ ts″ ls″ rs″ ds″ e a b l d z g = go (parseRootsCollect stageOne script (begin script)) (collect-ending script) ends
+  collect-error ns″ ts″ ls″ rs″ ds″ a b l d z g = go (parseRootsCollect stageOne script (begin script)) (collect-ending script) ends
     where
-      go : (res : Result Gathered) → parseCollect stageOne script ≡ collectEnding script res → CollectEnds script ns′ ts′ ls′ rs′ ds′ r res → promised (parseCollect stageOne) script (arrays ns ts ls rs ds) ≡ record { answer = P.Error e; arrays = arrays ns″ ts″ ls″ rs″ ds″ }
-      go (ok w m) v h = absurd (true≢false (ap isGoing (h .0 .going)) (ap isGoing g))
+      go : (res : Result Gathered) → parseCollect stageOne script ≡ collectEnding script res → CollectEnds script ns′ ts′ ls′ rs′ ds′ r res → promised (parseCollect stageOne) script (arrays ns ts ls rs ds) ≡ record { answer = P.Error (r .parser .status .error); arrays = arrays ns″ ts″ ls″ rs″ ds″ }
+      go (ok w m) v h = absurd (true≢false (ap isGoing (h .0 .going)) g)
       go (err x m) v h =
-          let s : Failed x ≡ Failed e = sym h ∙ g in
-          let same : x ≡ e = cc in
-          error-promised (parseCollect stageOne) script ns ts ls rs ds ns″ ts″ ls″ rs″ ds″ taken e (v ∙ ap ended same) (a ∙ ap zeros n) (b ∙ ap zeros t) (l ∙ ap zeros c) (d ∙ ap zeros o) (cleared-all ds′ z ∙ ap zeros k)
+          let same : x ≡ r .parser .status .error = sym (ap (λ (s : Status). s .error) h) in
+          error-promised (parseCollect stageOne) script ns ts ls rs ds ns″ ts″ ls″ rs″ ds″ taken (r .parser .status .error) (v ∙ ap ended same) (a ∙ ap zeros n) (b ∙ ap zeros t) (l ∙ ap zeros c) (d ∙ ap zeros o) (cleared-all ds′ z ∙ ap zeros k)
 
 -- ---- what is cleared is blank, and enough of it
 

@@ -23,7 +23,6 @@ use Rattle.parser_base.specs.Represents.{Code, code, going, isGoing, ahead, doc
 use Rattle.parser_base.specs.Refines.{Ends, kept, Refines, deeper, wanted}
 use Rattle.parser_base.specs.declared.Parser.{Parser}
 use Rattle.parser_base.specs.declared.Used.{Used}
-use Rattle.parser_base.specs.declared.Status.the-variants.{Going, Failed}
 use Rattle.parser_base.proofs.Steps.{either, true≢false, left-some, current-represents, represents-less, represents-going, failed-fails}
 use Rattle.parser_base.proofs.Leaves.{from-next, next-near}
 use Rattle.parser_base.proofs.Cells.{withUsed, types-length, nodes-length}

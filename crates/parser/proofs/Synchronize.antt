@@ -16,11 +16,11 @@ use Rattle.rules.specs.Combinators.{Rule, _>>_, pure, advance, choose, withDocs
 use Rattle.rules.specs.Parse.{synchronizeByKind, synchronizeStep, synchronizeRoot}
 use Rattle.rules.specs.Layout.{zeros}
 use Rattle.rules.proofs.Results as Results
-use Rattle.parser_base.specs.Represents.{Code, code, isGoing, Represents, FailedAt}
+use Rattle.parser_base.specs.Represents.{Going, Code, code, isGoing, Represents, FailedAt}
 use Rattle.parser_base.specs.Refines.{Ends, kept, Refines}
 use Rattle.parser_base.specs.declared.Parser.{Parser}
+use Rattle.parser_base.specs.declared.Status.{Status}
 use Rattle.parser_base.specs.declared.Used.{Used}
-use Rattle.parser_base.specs.declared.Status.the-variants.{Going}
 use Rattle.parser_base.proofs.Steps.{either, true≢false, at-kind, then, done, enough, represents-less}
 use Rattle.parser_base.proofs.Leaves.{idle}
 use Rattle.parser_leaves.proofs.Tables.{past, past-all}
@@ -29,12 +29,12 @@ use Rattle.parser.proofs.Clear.{end-cleared}
 
 -- ---- what was under construction is cleared
 
-abbrev pub resumed : Parser → Parser
-resumed p = record { cur = p .cur; pos = p .pos; used = record { nodes = p .used .nodes; values = p .used .values; types = p .used .types; docs = p .used .docs; cells = p .used .cells; scratch = 0 }; status = Going }
+abbrev pub resumed : Parser → Status → Parser
+resumed p s = record { cur = p .cur; pos = p .pos; used = record { nodes = p .used .nodes; values = p .used .values; types = p .used .types; docs = p .used .docs; cells = p .used .cells; scratch = 0 }; status = s }
 
-pub resuming : {script nodes types lists lists′ : List ℕ} {p : Parser} {e : Diagnostic} {R L : ℕ} {stack : List ℕ} {m : State} → lists′ ≡ take (length lists - p .used .scratch) lists ++ zeros (length lists - (length lists - p .used .scratch))
-    → FailedAt script (code nodes types lists p) e R L stack m → Represents script (code nodes types lists′ (resumed p)) R L [] m
-resuming {lists = lists} {p = p} {stack = stack} {m} w h =
+pub resuming : {script nodes types lists lists′ : List ℕ} {p : Parser} {e : Diagnostic} {R L : ℕ} {stack : List ℕ} {m : State} {s : Status} → s ≡ Going → lists′ ≡ take (length lists - p .used .scratch) lists ++ zeros (length lists - (length lists - p .used .scratch))
+    → FailedAt script (code nodes types lists p) e R L stack m → Represents script (code nodes types lists′ (resumed p s)) R L [] m
+resuming {lists = lists} {p = p} {stack = stack} {m} g w h =
     let u : Used = p .used in
     let r = h .related in
     let old = r .lists in
@@ -43,7 +43,7 @@ resuming {lists = lists} {p = p} {stack = stack} {m} w h =
     let cells : length (m .arena .cells) ≡ u .cells + 0 = omega (arith, old .counted) in
     let new = end-cleared (m .arena .cells) back (length lists - (u .cells + u .scratch)) (u .scratch) (u .cells + 0) (old .laid) top cells w in
     record {
-      status = refl;
+      status = g;
       related = record {
         left = r .left;
         inRange = r .inRange;

@@ -13,9 +13,8 @@ use Rattle.rules.specs.Parse.{Gathered, merged, recover}
 use Rattle.rules.specs.Layout.{padded, diagnosticCells}
 use Rattle.diagnostics.specs.Records.{diagnostics, holding}
 use Rattle.diagnostics.proofs.Order.{Ordered}
-use Rattle.parser_base.specs.Represents.{Code, code, ahead, Represents, FailedAt}
+use Rattle.parser_base.specs.Represents.{Failed, Code, code, ahead, Represents, FailedAt}
 use Rattle.parser_base.specs.Refines.{deeper, wanted}
-use Rattle.parser_base.specs.declared.Status.the-variants.{Failed}
 use Rattle.parser.specs.Whole.{Blank, RootsAre, Holds}
 use Rattle.parser.specs.declared.RootsRead.{RootsRead}
 use Rattle.parser.specs.declared.RootsCollected.{RootsCollected}

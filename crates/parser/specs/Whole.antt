@@ -15,10 +15,9 @@ use Rattle.rules.specs.Rules.{maxLevels}
 use Rattle.rules.specs.Parse.{synchronizeStep}
 use Rattle.rules.specs.Layout.{nodeWidth, typeWidth, zeros, padded, nodeCells, typeCells}
 use Rattle.rules.specs.Promise.{maxBytes, Arrays}
-use Rattle.parser_base.specs.Represents.{Code, ahead, isGoing, EnoughLent, Represents, FailedAt}
+use Rattle.parser_base.specs.Represents.{Going, Failed, Code, ahead, isGoing, EnoughLent, Represents, FailedAt}
 use Rattle.parser_base.specs.Refines.{deeper}
 use Rattle.parser_base.specs.declared.Parser.{Parser}
-use Rattle.parser_base.specs.declared.Status.the-variants.{Going, Failed}
 use Rattle.parser.specs.declared.RootsRead.{RootsRead}
 
 abbrev pub arrays : List ℕ → List ℕ → List ℕ → List ℕ → List ℕ → Arrays

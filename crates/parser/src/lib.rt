@@ -8,9 +8,9 @@ use diagnostics::push_faults;
 use lex::Type;
 use lex::next_token;
 use parser_base::Parser;
-use parser_base::Status;
 use parser_base::Used;
 use parser_base::going;
+use parser_base::not_failed;
 use parser_base::wants;
 use parser_items::prefix;
 use rules::Counts;
@@ -165,11 +165,12 @@ fn first(script: &[u8]) -> Parser
         cells: 0,
         scratch: 0,
     };
+    let status = not_failed();
     Parser {
         cur,
         pos: next.next,
         used,
-        status: Status::Going,
+        status,
     }
 }
 
@@ -215,10 +216,10 @@ fn recover(
     ensures { λ r. ⌜ ((nodes roots : List ℕ) (g : Gathered) (e : Diagnostic) (m : State) → Room (now (script .entry)) roots (now (diagnostics .entry)) g → FailedAt (now (script .entry)) (code nodes (now (types .entry)) (now (lists .entry)) (c .parser)) e 0 0 [] m → Gathers (now (script .entry)) nodes (now (types .entry)) (now (lists .entry)) roots (now (diagnostics .entry)) c g → TurnEnds (now (script .entry)) nodes (now (types .exit)) (now (lists .exit)) roots (now (diagnostics .exit)) r (recoverRule stageOne (now (script .entry)) g e m)) ⌝ }
 {
     let p = c.parser;
-    let status = p.status;
-    let Status::Failed(d) = status else {
+    if going(p) {
         return c;
-    };
+    }
+    let d = p.status.error;
     if d.number == 10 {
         return c;
     }
@@ -338,21 +339,19 @@ pub fn parse(
     let members = r.members;
     let p = r.parser;
     let u = p.used;
-    let status = p.status;
-    match status {
-        Status::Going => Parsed::Tree(Counts {
+    if going(p) {
+        return Parsed::Tree(Counts {
             nodes: u.nodes,
             types: u.types,
             cells: u.cells,
             roots: members,
             values: u.values,
             diagnostics: 0,
-        }),
-        Status::Failed(d) => {
-            clear_tree(nodes, types, lists, roots);
-            Parsed::Error(d)
-        }
+        });
     }
+    clear_tree(nodes, types, lists, roots);
+    let d = p.status.error;
+    Parsed::Error(d)
 }
 
 // The same, each error gathered with the faults of the lexer in the order in which they are met; 10 ends it.
@@ -382,20 +381,18 @@ pub fn parse_collect(
     let c = parse_roots_collect(script, nodes, types, lists, roots, diagnostics);
     let p = c.parser;
     let u = p.used;
-    let status = p.status;
-    match status {
-        Status::Going => Parsed::Tree(Counts {
+    if going(p) {
+        return Parsed::Tree(Counts {
             nodes: u.nodes,
             types: u.types,
             cells: u.cells,
             roots: c.members,
             values: u.values,
             diagnostics: c.diagnostics,
-        }),
-        Status::Failed(d) => {
-            clear_tree(nodes, types, lists, roots);
-            clear_from(diagnostics, 0);
-            Parsed::Error(d)
-        }
+        });
     }
+    clear_tree(nodes, types, lists, roots);
+    clear_from(diagnostics, 0); // what was gathered before 10 goes too
+    let d = p.status.error;
+    Parsed::Error(d)
 }

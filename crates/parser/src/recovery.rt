@@ -3,10 +3,10 @@ use crate::clear_from;
 use crate::drop_docs;
 use lex::Type;
 use parser_base::Parser;
-use parser_base::Status;
 use parser_base::Used;
 use parser_base::advance;
 use parser_base::going;
+use parser_base::not_failed;
 ghost use mathlib.Core.Path.{_≡_};
 ghost use mathlib.Core.List.{List};
 ghost use Prim.Native.Nat.{ℕ};
@@ -33,13 +33,14 @@ pub(crate) fn resume(types: &mut [u32], lists: &mut [u32], p: Parser) -> Parser
         scratch: 0,
     };
     let cur = p.cur;
+    let status = not_failed();
     drop_docs(
         types,
         Parser {
             cur,
             pos: p.pos,
             used,
-            status: Status::Going,
+            status,
         },
     )
 }

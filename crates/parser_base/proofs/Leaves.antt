@@ -18,10 +18,9 @@ use Rattle.lex.proofs.Steps.{Forward, cut-ind, next-first}
 use Rattle.lex.proofs.Passed.{stands-next}
 use Rattle.rules.specs.Tree.{State}
 use Rattle.rules.specs.Combinators.{Rule, current, rest, advance, atToken}
-use Rattle.parser_base.specs.Represents.{lowToken, InRange, Code, code, going, isGoing, from, Related, Represents, FailedAt}
+use Rattle.parser_base.specs.Represents.{Failed, lowToken, InRange, Code, code, going, isGoing, from, Related, Represents, FailedAt}
 use Rattle.parser_base.specs.Refines.{kept, Refines, Refuses, Takes, Lists, failAt, failed}
 use Rattle.parser_base.specs.declared.Parser.{Parser}
-use Rattle.parser_base.specs.declared.Status.the-variants.{Failed}
 use Rattle.parser_base.proofs.Steps.{either, true≢false, represents-going, represents-less, current-represents, low-near}
 
 -- ---- nothing is done

@@ -14,12 +14,11 @@ use Rattle.rules.specs.Rules.{readers, stageOne, requireNoDocs}
 use Rattle.rules.specs.declared.Run.{Run}
 use Rattle.rules.specs.declared.NodeId.{NodeId}
 use Rattle.rules.specs.declared.TypeExprId.{TypeExprId}
-use Rattle.parser_base.specs.Represents.{Code, code, going, ahead, Represents, FailedAt, isGoing}
+use Rattle.parser_base.specs.Represents.{Failed, Code, code, going, ahead, Represents, FailedAt, isGoing}
 use Rattle.parser_base.specs.declared.Parser.{Parser}
 use Rattle.parser_base.specs.declared.TypeRead.{TypeRead}
 use Rattle.parser_base.specs.declared.NodeRead.{NodeRead}
 use Rattle.parser_base.specs.declared.ListRead.{ListRead}
-use Rattle.parser_base.specs.declared.Status.the-variants.{Failed}
 
 -- the readers with so many levels left
 abbrev pub deeper : List ℕ → ℕ → Readers

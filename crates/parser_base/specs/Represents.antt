@@ -21,7 +21,6 @@ use Rattle.rules.specs.declared.TypeExpr.the-variants as T
 use Rattle.parser_base.specs.declared.Parser.{Parser}
 use Rattle.parser_base.specs.declared.Used.{Used}
 use Rattle.parser_base.specs.declared.Status.{Status}
-use Rattle.parser_base.specs.declared.Status.the-variants.{Going, Failed}
 
 -- ---- what an array holds of a token: the low 24 bits of its numbers
 
@@ -62,8 +61,13 @@ pub record InRange (script : List ℕ) (t : Token) : Type 0 where
 -- ---- the code and the state
 
 abbrev pub isGoing : Status → Bool
-isGoing Going = true
-isGoing (Failed d) = false
+isGoing s = eqb (s .failed) 0
+
+abbrev pub Going : Status
+Going = record { failed = 0; error = record { number = 0; start = 0; len = 0; wanted = 0; seen = 0 } }
+
+abbrev pub Failed : Diagnostic → Status
+Failed e = record { failed = 1; error = e }
 
 -- all that the code changes
 pub record Code : Type 0 where

@@ -17,12 +17,13 @@ ghost use lib.Seq.{paste};
 ghost use Rattle.rules.specs.Layout.{nodeWidth, padded, nodeCells, typeCells};
 ghost use Rattle.rules.specs.Combinators.{continue, atToken, advance, expect, expectIdent, rejectKind, pushNode, pushNodeAnd, pushType, allocSlice, tokenCells, runCells, keepDoc, collectDocs, takeDocs};
 ghost use Rattle.rules.specs.declared.Node.the-variants as N;
-ghost use Rattle.parser_base.specs.Represents.{code, isGoing, low, lowToken, lowType, lowNode};
+ghost use Rattle.parser_base.specs.Represents.{Going, code, isGoing, low, lowToken, lowType, lowNode};
 ghost use Rattle.parser_base.specs.Refines.{Refines, kept, Takes, Refuses, Pushes, Lists, failAt, noDocsWait, failed, tokenAt, hasRoom, wanted, closed, stands};
 
-pub enum Status {
-    Going,
-    Failed(Diagnostic),
+// Whether the reading has failed, and its error: numbers only, since an enum in the parser's state is copied in odd pieces.
+pub struct Status {
+    pub failed: u32,
+    pub error: Diagnostic,
 }
 
 // How much is made: node and type records, value numbers, list cells; and what waits: docs, and cells of lists under construction.
@@ -69,10 +70,22 @@ pub struct ListRead {
 pub fn going(p: Parser) -> bool
     ensures { λ r. ⌜ r ≡ isGoing (p .status) ⌝ }
 {
-    let status = p.status;
-    match status {
-        Status::Going => true,
-        Status::Failed(_) => false,
+    p.status.failed == 0
+}
+
+// The status of a reading that has not failed.
+pub fn not_failed() -> Status
+    ensures { λ r. ⌜ r ≡ Going ⌝ }
+{
+    Status {
+        failed: 0,
+        error: Diagnostic {
+            number: 0,
+            start: 0,
+            len: 0,
+            wanted: 0,
+            seen: 0,
+        },
     }
 }
 
@@ -133,7 +146,10 @@ fn fail_with(p: Parser, number: u32, wanted: u32, t: Token) -> Parser
         cur,
         pos: p.pos,
         used,
-        status: Status::Failed(d),
+        status: Status {
+            failed: 1,
+            error: d,
+        },
     }
 }
 

@@ -1,25 +1,33 @@
 -- `piece` meets its contract: the tests that led to each return pick the case.
 -- Assumes nothing.
-use mathlib.Core.Path.{_∙_, sym}
+use mathlib.Core.Path.{_∙_, sym, ap}
+use native.Mathlib.Omega.{arith}
 use borrow.Rule.Slice.PartAt.{part-to-end}
 use borrow.Author.Needs.{needs}
 use borrow.Author.Tests.{eq-eqb, ne-eqb}
-use Rattle.lex.specs.Lex.{piece}
+use Rattle.lex.specs.Lex.{punctuation, piece}
+use Rattle.lex.proofs.Signs.{sign-piece, digit-no-name, quote-no-name}
 use Rattle.lex.proofs.piece.Statement.{statement}
 use Rattle.lex.proofs.piece.Tie as tie
 
 shared-slice-read-b : tie.Need-shared-slice-read-b
 shared-slice-read-b c = search needs
 
-is-ident-start-requires : tie.Need-is-ident-start-requires
-is-ident-start-requires c κs = search needs
+from-punctuator-requires : tie.Need-from-punctuator-requires
+from-punctuator-requires c κs = search needs
 
-name-requires : tie.Need-name-requires
-name-requires c κs = search needs
+peek-requires : tie.Need-peek-requires
+peek-requires c κs = search needs
+
+punctuation-requires : tie.Need-punctuation-requires
+punctuation-requires c κs = search needs
 
 returns : tie.Need-returns
-unfolding piece
-returns c = rw (sym (c .before .before .is-ident-start .ensures) ∙ c .before .if1 .taken, piece) (c .name .ensures)
+returns c =
+    let c3 = c .before .before .before in
+    let c4 = c3 .before in
+    let c6 = c4 .before .before in
+    c .punctuation .ensures ∙ ap (punctuation _) (c .before .peek .ensures) ∙ sym (sign-piece (c6 .args .rest .now) (omega (arith, c4 .shared-slice-known2 .given 0)) (rw (c3 .from-punctuator .ensures) at (c .before .before .if1 .taken)))
 
 is-digit-requires : tie.Need-is-digit-requires
 is-digit-requires c κs = search needs
@@ -30,9 +38,8 @@ number-requires c κs = search needs
 returns-2 : tie.Need-returns-2
 unfolding piece
 returns-2 c =
-    let c3 = c .before .before .before in
-    let c4 = c3 .before in
-    rw (sym (c4 .is-ident-start .ensures) ∙ c3 .if1 .left, sym (c .before .before .is-digit .ensures) ∙ c .before .if2 .taken, piece) (c .number .ensures)
+    let c5 = c .before .before .before .before .before in
+    let digit = sym (c .before .before .is-digit .ensures) ∙ c .before .if2 .taken in rw (digit-no-name _ (omega (arith, c5 .shared-slice-known2 .given 0)) digit, digit, piece) (c .number .ensures)
 
 sub-string : tie.Need-sub-string
 sub-string c = search needs
@@ -51,30 +58,37 @@ unfolding piece
 returns-3 c =
     let c3 = c .before .before .before in
     let c4 = c3 .before in
-    let c5 = c4 .before in
-    let c6 = c5 .before in
-    rw (sym (c6 .is-ident-start .ensures) ∙ c5 .if1 .left, sym (c4 .is-digit .ensures) ∙ c3 .if2 .left, eq-eqb _ _ (c .before .before .if3 .taken), piece)
-    (rw part-to-end at (c .string .ensures))
+    rw (quote-no-name _ (c .before .before .if3 .taken), sym (c4 .is-digit .ensures) ∙ c3 .if2 .left, eq-eqb _ _ (c .before .before .if3 .taken), piece) (rw part-to-end at (c .string .ensures))
+
+is-ident-start-requires : tie.Need-is-ident-start-requires
+is-ident-start-requires c κs = search needs
+
+name-requires : tie.Need-name-requires
+name-requires c κs = search needs
+
+returns-4 : tie.Need-returns-4
+unfolding piece
+returns-4 c = rw (sym (c .before .before .is-ident-start .ensures) ∙ c .before .if4 .taken, piece) (c .name .ensures)
 
 symbol-requires : tie.Need-symbol-requires
 symbol-requires c κs = search needs
 
-returns-4 : tie.Need-returns-4
+returns-5 : tie.Need-returns-5
 unfolding piece
-returns-4 c =
+returns-5 c =
     let c3 = c .before .before .before in
     let c4 = c3 .before in
     let c5 = c4 .before in
-    rw (sym (c5 .is-ident-start .ensures) ∙ c4 .if1 .left, sym (c3 .is-digit .ensures) ∙ c .before .before .if2 .left, ne-eqb _ _ (c .before .if3 .left), piece)
-    (c .symbol .ensures)
+    rw (sym (c .before .before .is-ident-start .ensures) ∙ c .before .if4 .left, sym (c5 .is-digit .ensures) ∙ c4 .if2 .left, ne-eqb _ _ (c3 .if3 .left), piece) (c .symbol .ensures)
 
 pub piece-spec : {M : Type 1} → statement M
 piece-spec =
     tie.close
     (tie.spec
     shared-slice-read-b
-    is-ident-start-requires
-    name-requires
+    from-punctuator-requires
+    peek-requires
+    punctuation-requires
     returns
     is-digit-requires
     number-requires
@@ -84,5 +98,8 @@ piece-spec =
     part-string-end
     string-requires
     returns-3
+    is-ident-start-requires
+    name-requires
+    returns-4
     symbol-requires
-    returns-4)
+    returns-5)

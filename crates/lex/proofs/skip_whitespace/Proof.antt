@@ -1,140 +1,44 @@
--- `skip_whitespace` meets its contract: each turn passes over a blank or a comment.
+-- `skip_whitespace` meets its contract.
 -- Assumes nothing.
-use mathlib.Core.Bool.{false}
-use mathlib.Core.Path.{_≡_, _∙_, sym, ap}
-use Prim.Native.Nat.{_+_, _-_}
-use native.Mathlib.Omega.{arith}
-use lib.ListN.{length, drop, length-drop}
-use borrow.Rule.Slice.PartAt.{part-to-end}
 use borrow.Author.Needs.{needs}
-use Rattle.lex.proofs.Skips.{skip-end, skip-blank, skip-stop, skip-comment, line-pos}
-use Rattle.lex.proofs.Laws.{before-le}
-use Rattle.lex.specs.Lex.{beginsComment, skipped}
+use Rattle.lex.specs.Bytes.{classOf, bit, isIdentCont, isIdentStart, isDigit, isNumCont, isWs, or, between}
+use Rattle.lex.proofs.Bits.{classes}
+use Rattle.lex.proofs.Skips.{stands, skip-end, skip-stop}
 use Rattle.lex.proofs.skip_whitespace.Statement.{statement}
 use Rattle.lex.proofs.skip_whitespace.Tie as tie
 
-abbrev Inv-loop : tie.InvT-loop
-Inv-loop script pos p₀ p = p + skipped false (drop p script) ≡ pos + skipped false (drop pos script)
+skip-spaces-requires : tie.Need-skip-spaces-requires
+skip-spaces-requires c κs = search needs
 
-abbrev μ-loop : tie.MeasureT-loop
-μ-loop script pos p₀ p = length script - p
-
-loop-holds : tie.Need-loop-holds Inv-loop μ-loop
-loop-holds c = search needs
-
-shared-slice-read-b : tie.Need-shared-slice-read-b Inv-loop μ-loop
-shared-slice-read-b c = search needs
-
-is-ws-requires : tie.Need-is-ws-requires Inv-loop μ-loop
-is-ws-requires c κs = search needs
-
-add-p : tie.Need-add-p Inv-loop μ-loop
-add-p c = search needs
-
-loop-less : tie.Need-loop-less Inv-loop μ-loop
-loop-less c = search needs
-
-loop-again : tie.Need-loop-again Inv-loop μ-loop
-loop-again c =
-    let c3 = c .before .before .before in
-    let c4 = c3 .before in
-    let c6 = c4 .before .before in
-    skip-blank (c6 .args .script .now) _ _ (c4 .loop .inv) (c3 .loop-test .taken) (sym (c .before .is-ws .ensures) ∙ c .if1 .taken)
-
-add-peek : tie.Need-add-peek Inv-loop μ-loop
-add-peek c = search needs
-
-peek-requires : tie.Need-peek-requires Inv-loop μ-loop
-peek-requires c κs = search needs
-
-begins-comment-requires : tie.Need-begins-comment-requires Inv-loop μ-loop
-begins-comment-requires c κs = search needs
-
-sub-line-end : tie.Need-sub-line-end Inv-loop μ-loop
-sub-line-end c = search needs
-
-part-line-end-start : tie.Need-part-line-end-start Inv-loop μ-loop
-part-line-end-start c = search needs
-
-part-line-end-end : tie.Need-part-line-end-end Inv-loop μ-loop
-part-line-end-end c = search needs
-
-line-end-requires : tie.Need-line-end-requires Inv-loop μ-loop
-line-end-requires c κs = search needs
-
-add-p-2 : tie.Need-add-p-2 Inv-loop μ-loop
-add-p-2 c =
-    let c9 = c .before .before .before .before .before .before .before .before .before in
-    let c11 = c9 .before .before in
-    omega (
-      arith,
-      before-le 10 (drop (c9 .loop .p) (c11 .args .script .now)),
-      length-drop (c9 .loop .p) (c11 .args .script .now),
-      rw part-to-end at (c .line-end .ensures),
-    )
-
-loop-less-2 : tie.Need-loop-less-2 Inv-loop μ-loop
-loop-less-2 c =
-    let c3 = c .before .before .before in
-    let c4 = c3 .before in
-    let c8 = c4 .before .before .before .before in
-    let c9 = c8 .before in
-    let c11 = c9 .before .before in
-    omega (
-      arith,
-      line-pos (c11 .args .script .now) (c9 .loop .p) _ (c8 .loop-test .taken)
-          (ap (beginsComment _) (sym (c4 .peek .ensures)) ∙ sym (c3 .begins-comment .ensures) ∙ c .before .before .if2 .taken),
-      rw part-to-end at (c .line-end .ensures),
-    )
-
-loop-again-2 : tie.Need-loop-again-2 Inv-loop μ-loop
-loop-again-2 c =
-    let c3 = c .before .before .before in
-    let c4 = c3 .before in
-    let c5 = c4 .before in
-    let c6 = c5 .before in
-    let c8 = c6 .before .before in
-    let c9 = c8 .before in
-    let c11 = c9 .before .before in
-    skip-comment (c11 .args .script .now) _ _ (c9 .loop .inv) (c8 .loop-test .taken) (sym (c6 .is-ws .ensures) ∙ c5 .if1 .left)
-    (ap (beginsComment _) (sym (c4 .peek .ensures)) ∙ sym (c3 .begins-comment .ensures) ∙ c .before .before .if2 .taken) _ (rw part-to-end at (c .line-end .ensures))
-
-returns : tie.Need-returns Inv-loop μ-loop
+returns : tie.Need-returns
 returns c =
     let c3 = c .before .before .before in
-    let c4 = c3 .before in
-    let c6 = c4 .before .before in
-    let c7 = c6 .before in
-    let c9 = c7 .before .before in
-    skip-stop (c9 .args .script .now) _ _ (c7 .loop .inv) (c6 .loop-test .taken) (sym (c4 .is-ws .ensures) ∙ c3 .if1 .left)
-    (ap (beginsComment _) (sym (c .before .before .peek .ensures)) ∙ sym (c .before .begins-comment .ensures) ∙ c .if2 .left)
+    skip-end (c3 .args .script .now) _ _ (c .before .skip-spaces .ensures) (c .if1 .taken)
 
-returns-2 : tie.Need-returns-2 Inv-loop μ-loop
+shared-slice-read-b : tie.Need-shared-slice-read-b
+shared-slice-read-b c = search needs
+
+returns-2 : tie.Need-returns-2
 returns-2 c =
     let c3 = c .before .before .before in
-    skip-end (c3 .args .script .now) _ _ (c .before .loop .inv) (c .loop-test .left)
+    let c4 = c3 .before in
+    let c6 = c4 .before .before in
+    let here = stands _ _ (c .before .if2 .taken) (c .if3 .taken) in skip-stop (c6 .args .script .now) _ _ (c4 .skip-spaces .ensures) (c3 .if1 .left) (here .0) (here .1)
+
+skip-separators-requires : tie.Need-skip-separators-requires
+unfolding classOf bit isIdentCont isIdentStart isDigit isNumCont isWs or between
+skip-separators-requires c κs = classes
+
+returns-3 : tie.Need-returns-3
+returns-3 c = search needs
 
 pub skip-whitespace-spec : {M : Type 1} → statement M
 skip-whitespace-spec =
     tie.close
     (tie.spec
-    Inv-loop
-    μ-loop
-    loop-holds
-    shared-slice-read-b
-    is-ws-requires
-    add-p
-    loop-less
-    loop-again
-    add-peek
-    peek-requires
-    begins-comment-requires
-    sub-line-end
-    part-line-end-start
-    part-line-end-end
-    line-end-requires
-    add-p-2
-    loop-less-2
-    loop-again-2
+    skip-spaces-requires
     returns
-    returns-2)
+    shared-slice-read-b
+    returns-2
+    skip-separators-requires
+    returns-3)

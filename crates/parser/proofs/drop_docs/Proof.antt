@@ -23,9 +23,9 @@ returns-3 c = (λ script nodes lists. full (λ R L stack m h. omega (arith, h .c
 
 returns-4 : tie.Need-returns-4
 returns-4 c =
-    let going = c .before .before .before .before .before .before .before .before .before .going in
-    let if1 = c .before .before .before .before .before .before .before .before .if1 in
-    let clear-from = c .before .before .before .clear-from in
+    let going = c .before .before .before .before .before .before .before .before .before .before .going in
+    let if1 = c .before .before .before .before .before .before .before .before .before .if1 in
+    let clear-from = c .before .before .before .before .clear-from in
     (λ script nodes lists. dropping script nodes _ _ lists _ (sym (going .ensures) ∙ not-false _ (if1 .left)) (clear-from .ensures), refl, refl)
 
 pub drop-docs-spec : {M : Type 1} → statement M

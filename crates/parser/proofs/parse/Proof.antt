@@ -1,5 +1,6 @@
 -- `parser::parse` meets its contract.
 use borrow.Author.Needs.{needs}
+use mathlib.Core.Path.{sym, _∙_}
 use native.Mathlib.Omega.{arith}
 use Rattle.rules.specs.Rules.{stageOne}
 use Rattle.rules.specs.Parse.{parse}
@@ -30,8 +31,9 @@ returns-2 c =
     let parse-roots = c .before .before .before .before .before .before .before .before .before .before .before .before .parse-roots in
     let clear-tree = c .before .before .before .before .before .before .before .before .before .before .before .before .before .before .before .before .before .before .before .before .before .before .before .before .before .before .before .before .before .clear-tree in
     let clear-from = c .before .before .before .before .before .before .before .before .before .before .before .before .before .before .before .before .before .before .before .clear-from in
-    let enum-told = c .enum-told in
-    strict-tree (args .script .now) (args .nodes .now) (args .types .now) (args .lists .now) (args .roots .now) (args .diagnostics .now) _ _ _ _ _ (accepted (parse stageOne) _ _ _ (refusal .ensures) (if1 .left)) (parse-roots .ensures) (omega (arith, clear-tree .kept, clear-from .kept, parse-roots .kept)) (omega (arith, clear-tree .kept, clear-from .kept, parse-roots .kept)) (omega (arith, clear-tree .kept, clear-from .kept, parse-roots .kept)) (omega (arith, clear-tree .kept, clear-from .kept, parse-roots .kept)) _ (cleared-all (args .diagnostics .now) (clear-from .ensures)) (enum-told .given .1)
+    let going = c .before .going in
+    let if2 = c .if2 in
+    strict-tree (args .script .now) (args .nodes .now) (args .types .now) (args .lists .now) (args .roots .now) (args .diagnostics .now) _ _ _ _ _ (accepted (parse stageOne) _ _ _ (refusal .ensures) (if1 .left)) (parse-roots .ensures) (omega (arith, clear-tree .kept, clear-from .kept, parse-roots .kept)) (omega (arith, clear-tree .kept, clear-from .kept, parse-roots .kept)) (omega (arith, clear-tree .kept, clear-from .kept, parse-roots .kept)) (omega (arith, clear-tree .kept, clear-from .kept, parse-roots .kept)) _ (cleared-all (args .diagnostics .now) (clear-from .ensures)) (sym (going .ensures) ∙ if2 .taken)
 
 returns-3 : tie.Need-returns-3
 returns-3 c =
@@ -41,9 +43,10 @@ returns-3 c =
     let parse-roots = c .before .before .before .before .before .before .before .before .before .before .before .before .before .before .before .before .before .before .before .before .before .before .before .before .before .before .parse-roots in
     let clear-tree = c .before .before .before .before .before .before .before .before .before .before .before .before .before .before .before .before .before .before .before .before .before .before .before .before .before .before .before .before .before .before .before .before .before .before .before .before .before .before .before .before .before .before .before .clear-tree in
     let clear-from = c .before .before .before .before .before .before .before .before .before .before .before .before .before .before .before .before .before .before .before .before .before .before .before .before .before .before .before .before .before .before .before .before .before .clear-from in
-    let clear-tree2 = c .before .before .before .before .before .before .before .before .clear-tree2 in
-    let status = c .before .before .before .before .before .before .before .before .before .before .before .before .before .before .status in
-    strict-error (args .script .now) (args .nodes .now) (args .types .now) (args .lists .now) (args .roots .now) (args .diagnostics .now) _ _ _ _ _ (accepted (parse stageOne) _ _ _ (refusal .ensures) (if1 .left)) (parse-roots .ensures) (omega (arith, clear-tree .kept, clear-from .kept, parse-roots .kept)) (omega (arith, clear-tree .kept, clear-from .kept, parse-roots .kept)) (omega (arith, clear-tree .kept, clear-from .kept, parse-roots .kept)) (omega (arith, clear-tree .kept, clear-from .kept, parse-roots .kept)) _ _ _ _ _ _ (clear-tree2 .ensures .0) (clear-tree2 .ensures .1) (clear-tree2 .ensures .2) (clear-tree2 .ensures .3) (cleared-all (args .diagnostics .now) (clear-from .ensures)) (status .given .1)
+    let clear-tree2 = c .before .before .before .before .before .before .before .before .before .clear-tree2 in
+    let if2 = c .before .before .before .before .before .before .before .before .before .before .before .before .before .before .if2 in
+    let going = c .before .before .before .before .before .before .before .before .before .before .before .before .before .before .before .going in
+    strict-error (args .script .now) (args .nodes .now) (args .types .now) (args .lists .now) (args .roots .now) (args .diagnostics .now) _ _ _ _ _ (accepted (parse stageOne) _ _ _ (refusal .ensures) (if1 .left)) (parse-roots .ensures) (omega (arith, clear-tree .kept, clear-from .kept, parse-roots .kept)) (omega (arith, clear-tree .kept, clear-from .kept, parse-roots .kept)) (omega (arith, clear-tree .kept, clear-from .kept, parse-roots .kept)) (omega (arith, clear-tree .kept, clear-from .kept, parse-roots .kept)) _ _ _ _ _ (clear-tree2 .ensures .0) (clear-tree2 .ensures .1) (clear-tree2 .ensures .2) (clear-tree2 .ensures .3) (cleared-all (args .diagnostics .now) (clear-from .ensures)) (sym (going .ensures) ∙ if2 .left)
 
 same-length : tie.Need-same-length
 same-length c =
@@ -85,7 +88,7 @@ same-length-6 c =
     let clear-tree = c .before .before .before .before .before .before .before .before .before .before .before .before .before .before .before .before .before .before .before .before .before .before .before .before .before .before .before .before .before .before .before .before .before .before .before .before .before .before .before .before .before .before .before .clear-tree in
     let clear-from = c .before .before .before .before .before .before .before .before .before .before .before .before .before .before .before .before .before .before .before .before .before .before .before .before .before .before .before .before .before .before .before .before .before .clear-from in
     let parse-roots = c .before .before .before .before .before .before .before .before .before .before .before .before .before .before .before .before .before .before .before .before .before .before .before .before .before .before .parse-roots in
-    let clear-tree2 = c .before .before .before .before .before .before .before .before .clear-tree2 in
+    let clear-tree2 = c .before .before .before .before .before .before .before .before .before .clear-tree2 in
     omega (arith, clear-tree .kept, clear-from .kept, parse-roots .kept, clear-tree2 .kept)
 
 same-length-7 : tie.Need-same-length-7
@@ -93,7 +96,7 @@ same-length-7 c =
     let clear-tree = c .before .before .before .before .before .before .before .before .before .before .before .before .before .before .before .before .before .before .before .before .before .before .before .before .before .before .before .before .before .before .before .before .before .before .before .before .before .before .before .before .before .before .before .clear-tree in
     let clear-from = c .before .before .before .before .before .before .before .before .before .before .before .before .before .before .before .before .before .before .before .before .before .before .before .before .before .before .before .before .before .before .before .before .before .clear-from in
     let parse-roots = c .before .before .before .before .before .before .before .before .before .before .before .before .before .before .before .before .before .before .before .before .before .before .before .before .before .before .parse-roots in
-    let clear-tree2 = c .before .before .before .before .before .before .before .before .clear-tree2 in
+    let clear-tree2 = c .before .before .before .before .before .before .before .before .before .clear-tree2 in
     omega (arith, clear-tree .kept, clear-from .kept, parse-roots .kept, clear-tree2 .kept)
 
 same-length-8 : tie.Need-same-length-8
@@ -101,7 +104,7 @@ same-length-8 c =
     let clear-tree = c .before .before .before .before .before .before .before .before .before .before .before .before .before .before .before .before .before .before .before .before .before .before .before .before .before .before .before .before .before .before .before .before .before .before .before .before .before .before .before .before .before .before .before .clear-tree in
     let clear-from = c .before .before .before .before .before .before .before .before .before .before .before .before .before .before .before .before .before .before .before .before .before .before .before .before .before .before .before .before .before .before .before .before .before .clear-from in
     let parse-roots = c .before .before .before .before .before .before .before .before .before .before .before .before .before .before .before .before .before .before .before .before .before .before .before .before .before .before .parse-roots in
-    let clear-tree2 = c .before .before .before .before .before .before .before .before .clear-tree2 in
+    let clear-tree2 = c .before .before .before .before .before .before .before .before .before .clear-tree2 in
     omega (arith, clear-tree .kept, clear-from .kept, parse-roots .kept, clear-tree2 .kept)
 
 same-length-9 : tie.Need-same-length-9
@@ -109,7 +112,7 @@ same-length-9 c =
     let clear-tree = c .before .before .before .before .before .before .before .before .before .before .before .before .before .before .before .before .before .before .before .before .before .before .before .before .before .before .before .before .before .before .before .before .before .before .before .before .before .before .before .before .before .before .before .clear-tree in
     let clear-from = c .before .before .before .before .before .before .before .before .before .before .before .before .before .before .before .before .before .before .before .before .before .before .before .before .before .before .before .before .before .before .before .before .before .clear-from in
     let parse-roots = c .before .before .before .before .before .before .before .before .before .before .before .before .before .before .before .before .before .before .before .before .before .before .before .before .before .before .parse-roots in
-    let clear-tree2 = c .before .before .before .before .before .before .before .before .clear-tree2 in
+    let clear-tree2 = c .before .before .before .before .before .before .before .before .before .clear-tree2 in
     omega (arith, clear-tree .kept, clear-from .kept, parse-roots .kept, clear-tree2 .kept)
 
 same-length-10 : tie.Need-same-length-10
@@ -117,7 +120,7 @@ same-length-10 c =
     let clear-tree = c .before .before .before .before .before .before .before .before .before .before .before .before .before .before .before .before .before .before .before .before .before .before .before .before .before .before .before .before .before .before .before .before .before .before .before .before .before .before .before .before .before .before .before .clear-tree in
     let clear-from = c .before .before .before .before .before .before .before .before .before .before .before .before .before .before .before .before .before .before .before .before .before .before .before .before .before .before .before .before .before .before .before .before .before .clear-from in
     let parse-roots = c .before .before .before .before .before .before .before .before .before .before .before .before .before .before .before .before .before .before .before .before .before .before .before .before .before .before .parse-roots in
-    let clear-tree2 = c .before .before .before .before .before .before .before .before .clear-tree2 in
+    let clear-tree2 = c .before .before .before .before .before .before .before .before .before .clear-tree2 in
     omega (arith, clear-tree .kept, clear-from .kept, parse-roots .kept, clear-tree2 .kept)
 
 pub parse-spec : {M : Type 1} → statement M
@@ -129,8 +132,6 @@ parse-spec =
     (λ c κs. search needs)
     (λ c κs. search needs)
     parse-roots-requires
-    (λ c. search needs)
-    (λ c. search needs)
     (λ c κs. search needs)
     same-length
     same-length-2
@@ -138,6 +139,7 @@ parse-spec =
     same-length-4
     same-length-5
     returns-2
+    (λ c κs. search needs)
     same-length-6
     same-length-7
     same-length-8

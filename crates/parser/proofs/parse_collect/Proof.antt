@@ -1,5 +1,6 @@
 -- `parser::parse_collect` meets its contract.
 use borrow.Author.Needs.{needs}
+use mathlib.Core.Path.{sym, _∙_}
 use native.Mathlib.Omega.{arith}
 use Rattle.rules.specs.Rules.{stageOne}
 use Rattle.rules.specs.Parse.{parseCollect}
@@ -31,8 +32,9 @@ returns-2 c =
     let parse-roots-collect = c .before .before .before .before .before .before .before .before .before .before .before .before .before .before .parse-roots-collect in
     let clear-tree = c .before .before .before .before .before .before .before .before .before .before .before .before .before .before .before .before .before .before .before .before .before .before .before .before .before .before .before .before .before .before .before .before .clear-tree in
     let clear-from = c .before .before .before .before .before .before .before .before .before .before .before .before .before .before .before .before .before .before .before .before .before .before .clear-from in
-    let enum-told = c .enum-told in
-    collect-tree (args .script .now) (args .nodes .now) (args .types .now) (args .lists .now) (args .roots .now) (args .diagnostics .now) _ _ _ _ _ _ (accepted (parseCollect stageOne) _ _ _ (refusal .ensures) (if1 .left)) (parse-roots-collect .ensures) (omega (arith, clear-tree .kept, clear-from .kept, parse-roots-collect .kept)) (omega (arith, clear-tree .kept, clear-from .kept, parse-roots-collect .kept)) (omega (arith, clear-tree .kept, clear-from .kept, parse-roots-collect .kept)) (omega (arith, clear-tree .kept, clear-from .kept, parse-roots-collect .kept)) (omega (arith, clear-tree .kept, clear-from .kept, parse-roots-collect .kept)) (enum-told .given .1)
+    let going = c .before .going in
+    let if2 = c .if2 in
+    collect-tree (args .script .now) (args .nodes .now) (args .types .now) (args .lists .now) (args .roots .now) (args .diagnostics .now) _ _ _ _ _ _ (accepted (parseCollect stageOne) _ _ _ (refusal .ensures) (if1 .left)) (parse-roots-collect .ensures) (omega (arith, clear-tree .kept, clear-from .kept, parse-roots-collect .kept)) (omega (arith, clear-tree .kept, clear-from .kept, parse-roots-collect .kept)) (omega (arith, clear-tree .kept, clear-from .kept, parse-roots-collect .kept)) (omega (arith, clear-tree .kept, clear-from .kept, parse-roots-collect .kept)) (omega (arith, clear-tree .kept, clear-from .kept, parse-roots-collect .kept)) (sym (going .ensures) ∙ if2 .taken)
 
 returns-3 : tie.Need-returns-3
 returns-3 c =
@@ -42,10 +44,11 @@ returns-3 c =
     let parse-roots-collect = c .before .before .before .before .before .before .before .before .before .before .before .before .before .before .before .before .before .before .before .before .before .before .before .before .before .before .before .before .before .before .before .before .parse-roots-collect in
     let clear-tree = c .before .before .before .before .before .before .before .before .before .before .before .before .before .before .before .before .before .before .before .before .before .before .before .before .before .before .before .before .before .before .before .before .before .before .before .before .before .before .before .before .before .before .before .before .before .before .before .before .before .before .clear-tree in
     let clear-from = c .before .before .before .before .before .before .before .before .before .before .before .before .before .before .before .before .before .before .before .before .before .before .before .before .before .before .before .before .before .before .before .before .before .before .before .before .before .before .before .before .clear-from in
-    let clear-tree2 = c .before .before .before .before .before .before .before .before .before .before .before .before .clear-tree2 in
-    let clear-from2 = c .before .before .clear-from2 in
-    let status = c .before .before .before .before .before .before .before .before .before .before .before .before .before .before .before .before .before .before .status in
-    collect-error (args .script .now) (args .nodes .now) (args .types .now) (args .lists .now) (args .roots .now) (args .diagnostics .now) _ _ _ _ _ _ (accepted (parseCollect stageOne) _ _ _ (refusal .ensures) (if1 .left)) (parse-roots-collect .ensures) (omega (arith, clear-tree .kept, clear-from .kept, parse-roots-collect .kept)) (omega (arith, clear-tree .kept, clear-from .kept, parse-roots-collect .kept)) (omega (arith, clear-tree .kept, clear-from .kept, parse-roots-collect .kept)) (omega (arith, clear-tree .kept, clear-from .kept, parse-roots-collect .kept)) (omega (arith, clear-tree .kept, clear-from .kept, parse-roots-collect .kept)) _ _ _ _ _ _ (clear-tree2 .ensures .0) (clear-tree2 .ensures .1) (clear-tree2 .ensures .2) (clear-tree2 .ensures .3) (clear-from2 .ensures) (status .given .1)
+    let clear-tree2 = c .before .before .before .before .before .before .before .before .before .before .before .before .before .clear-tree2 in
+    let clear-from2 = c .before .before .before .clear-from2 in
+    let if2 = c .before .before .before .before .before .before .before .before .before .before .before .before .before .before .before .before .before .before .if2 in
+    let going = c .before .before .before .before .before .before .before .before .before .before .before .before .before .before .before .before .before .before .before .going in
+    collect-error (args .script .now) (args .nodes .now) (args .types .now) (args .lists .now) (args .roots .now) (args .diagnostics .now) _ _ _ _ _ _ (accepted (parseCollect stageOne) _ _ _ (refusal .ensures) (if1 .left)) (parse-roots-collect .ensures) (omega (arith, clear-tree .kept, clear-from .kept, parse-roots-collect .kept)) (omega (arith, clear-tree .kept, clear-from .kept, parse-roots-collect .kept)) (omega (arith, clear-tree .kept, clear-from .kept, parse-roots-collect .kept)) (omega (arith, clear-tree .kept, clear-from .kept, parse-roots-collect .kept)) (omega (arith, clear-tree .kept, clear-from .kept, parse-roots-collect .kept)) _ _ _ _ _ (clear-tree2 .ensures .0) (clear-tree2 .ensures .1) (clear-tree2 .ensures .2) (clear-tree2 .ensures .3) (clear-from2 .ensures) (sym (going .ensures) ∙ if2 .left)
 
 same-length : tie.Need-same-length
 same-length c =
@@ -87,8 +90,8 @@ same-length-6 c =
     let clear-tree = c .before .before .before .before .before .before .before .before .before .before .before .before .before .before .before .before .before .before .before .before .before .before .before .before .before .before .before .before .before .before .before .before .before .before .before .before .before .before .before .before .before .before .before .before .before .before .before .before .before .before .clear-tree in
     let clear-from = c .before .before .before .before .before .before .before .before .before .before .before .before .before .before .before .before .before .before .before .before .before .before .before .before .before .before .before .before .before .before .before .before .before .before .before .before .before .before .before .before .clear-from in
     let parse-roots-collect = c .before .before .before .before .before .before .before .before .before .before .before .before .before .before .before .before .before .before .before .before .before .before .before .before .before .before .before .before .before .before .before .before .parse-roots-collect in
-    let clear-tree2 = c .before .before .before .before .before .before .before .before .before .before .before .before .clear-tree2 in
-    let clear-from2 = c .before .before .clear-from2 in
+    let clear-tree2 = c .before .before .before .before .before .before .before .before .before .before .before .before .before .clear-tree2 in
+    let clear-from2 = c .before .before .before .clear-from2 in
     omega (arith, clear-tree .kept, clear-from .kept, parse-roots-collect .kept, clear-tree2 .kept, clear-from2 .kept)
 
 same-length-7 : tie.Need-same-length-7
@@ -96,8 +99,8 @@ same-length-7 c =
     let clear-tree = c .before .before .before .before .before .before .before .before .before .before .before .before .before .before .before .before .before .before .before .before .before .before .before .before .before .before .before .before .before .before .before .before .before .before .before .before .before .before .before .before .before .before .before .before .before .before .before .before .before .before .clear-tree in
     let clear-from = c .before .before .before .before .before .before .before .before .before .before .before .before .before .before .before .before .before .before .before .before .before .before .before .before .before .before .before .before .before .before .before .before .before .before .before .before .before .before .before .before .clear-from in
     let parse-roots-collect = c .before .before .before .before .before .before .before .before .before .before .before .before .before .before .before .before .before .before .before .before .before .before .before .before .before .before .before .before .before .before .before .before .parse-roots-collect in
-    let clear-tree2 = c .before .before .before .before .before .before .before .before .before .before .before .before .clear-tree2 in
-    let clear-from2 = c .before .before .clear-from2 in
+    let clear-tree2 = c .before .before .before .before .before .before .before .before .before .before .before .before .before .clear-tree2 in
+    let clear-from2 = c .before .before .before .clear-from2 in
     omega (arith, clear-tree .kept, clear-from .kept, parse-roots-collect .kept, clear-tree2 .kept, clear-from2 .kept)
 
 same-length-8 : tie.Need-same-length-8
@@ -105,8 +108,8 @@ same-length-8 c =
     let clear-tree = c .before .before .before .before .before .before .before .before .before .before .before .before .before .before .before .before .before .before .before .before .before .before .before .before .before .before .before .before .before .before .before .before .before .before .before .before .before .before .before .before .before .before .before .before .before .before .before .before .before .before .clear-tree in
     let clear-from = c .before .before .before .before .before .before .before .before .before .before .before .before .before .before .before .before .before .before .before .before .before .before .before .before .before .before .before .before .before .before .before .before .before .before .before .before .before .before .before .before .clear-from in
     let parse-roots-collect = c .before .before .before .before .before .before .before .before .before .before .before .before .before .before .before .before .before .before .before .before .before .before .before .before .before .before .before .before .before .before .before .before .parse-roots-collect in
-    let clear-tree2 = c .before .before .before .before .before .before .before .before .before .before .before .before .clear-tree2 in
-    let clear-from2 = c .before .before .clear-from2 in
+    let clear-tree2 = c .before .before .before .before .before .before .before .before .before .before .before .before .before .clear-tree2 in
+    let clear-from2 = c .before .before .before .clear-from2 in
     omega (arith, clear-tree .kept, clear-from .kept, parse-roots-collect .kept, clear-tree2 .kept, clear-from2 .kept)
 
 same-length-9 : tie.Need-same-length-9
@@ -114,8 +117,8 @@ same-length-9 c =
     let clear-tree = c .before .before .before .before .before .before .before .before .before .before .before .before .before .before .before .before .before .before .before .before .before .before .before .before .before .before .before .before .before .before .before .before .before .before .before .before .before .before .before .before .before .before .before .before .before .before .before .before .before .before .clear-tree in
     let clear-from = c .before .before .before .before .before .before .before .before .before .before .before .before .before .before .before .before .before .before .before .before .before .before .before .before .before .before .before .before .before .before .before .before .before .before .before .before .before .before .before .before .clear-from in
     let parse-roots-collect = c .before .before .before .before .before .before .before .before .before .before .before .before .before .before .before .before .before .before .before .before .before .before .before .before .before .before .before .before .before .before .before .before .parse-roots-collect in
-    let clear-tree2 = c .before .before .before .before .before .before .before .before .before .before .before .before .clear-tree2 in
-    let clear-from2 = c .before .before .clear-from2 in
+    let clear-tree2 = c .before .before .before .before .before .before .before .before .before .before .before .before .before .clear-tree2 in
+    let clear-from2 = c .before .before .before .clear-from2 in
     omega (arith, clear-tree .kept, clear-from .kept, parse-roots-collect .kept, clear-tree2 .kept, clear-from2 .kept)
 
 same-length-10 : tie.Need-same-length-10
@@ -123,8 +126,8 @@ same-length-10 c =
     let clear-tree = c .before .before .before .before .before .before .before .before .before .before .before .before .before .before .before .before .before .before .before .before .before .before .before .before .before .before .before .before .before .before .before .before .before .before .before .before .before .before .before .before .before .before .before .before .before .before .before .before .before .before .clear-tree in
     let clear-from = c .before .before .before .before .before .before .before .before .before .before .before .before .before .before .before .before .before .before .before .before .before .before .before .before .before .before .before .before .before .before .before .before .before .before .before .before .before .before .before .before .clear-from in
     let parse-roots-collect = c .before .before .before .before .before .before .before .before .before .before .before .before .before .before .before .before .before .before .before .before .before .before .before .before .before .before .before .before .before .before .before .before .parse-roots-collect in
-    let clear-tree2 = c .before .before .before .before .before .before .before .before .before .before .before .before .clear-tree2 in
-    let clear-from2 = c .before .before .clear-from2 in
+    let clear-tree2 = c .before .before .before .before .before .before .before .before .before .before .before .before .before .clear-tree2 in
+    let clear-from2 = c .before .before .before .clear-from2 in
     omega (arith, clear-tree .kept, clear-from .kept, parse-roots-collect .kept, clear-tree2 .kept, clear-from2 .kept)
 
 pub parse-collect-spec : {M : Type 1} → statement M
@@ -136,9 +139,6 @@ parse-collect-spec =
     (λ c κs. search needs)
     (λ c κs. search needs)
     parse-roots-collect-requires
-    (λ c. search needs)
-    (λ c. search needs)
-    (λ c κs. search needs)
     (λ c κs. search needs)
     same-length
     same-length-2
@@ -146,6 +146,8 @@ parse-collect-spec =
     same-length-4
     same-length-5
     returns-2
+    (λ c κs. search needs)
+    (λ c κs. search needs)
     same-length-6
     same-length-7
     same-length-8

@@ -1,7 +1,7 @@
 -- `parser::recover` meets its contract.
 use borrow.Author.Needs.{needs}
 use native.Mathlib.Omega.{arith}
-use mathlib.Core.Path.{ap}
+use mathlib.Core.Path.{refl, sym, ap, _∙_}
 use borrow.Author.Tests.{eq-eqb, ne-eqb}
 use Rattle.parser_base.specs.Represents.{isGoing}
 use Rattle.parser_base.proofs.Steps.{true≢false}
@@ -11,31 +11,35 @@ use Rattle.parser.proofs.recover.Tie as tie
 
 returns : tie.Need-returns
 returns c =
-    let enum-told = c .enum-told in
-    λ nodes roots g e m room h z. absurd (true≢false (ap isGoing (enum-told .given .1)) (ap isGoing (h .status)))
+    let going = c .before .going in
+    let if1 = c .if1 in
+    λ nodes roots g e m room h z. absurd (true≢false (sym (going .ensures) ∙ if1 .taken) (ap isGoing (h .status)))
 
 returns-2 : tie.Need-returns-2
 returns-2 c =
-    let status = c .before .before .before .status in
-    let if1 = c .if1 in
-    λ nodes roots g e m room h z. ended-by-ten roots _ _ g e m (status .given .1) (eq-eqb _ _ (if1 .taken)) h
+    let if2 = c .if2 in
+    λ nodes roots g e m room h z. ended-by-ten roots _ _ g e m refl (eq-eqb _ _ (if2 .taken)) h
 
 returns-3 : tie.Need-returns-3
 returns-3 c =
-    let status = c .before .before .before .before .before .before .before .before .before .before .before .before .before .before .before .before .before .before .before .status in
-    let if1 = c .before .before .before .before .before .before .before .before .before .before .before .before .before .before .before .before .if1 in
+    let if2 = c .before .before .before .before .before .before .before .before .before .before .before .before .before .before .before .before .if2 in
     let push-faults = c .before .before .before .before .before .before .before .before .before .before .before .before .before .before .push-faults in
     let push-diagnostic = c .before .before .before .before .before .before .before .before .before .before .push-diagnostic in
     let resume = c .before .before .before .before .before .resume in
     let synchronize-root = c .synchronize-root in
-    λ nodes roots g e m room h z. gathered-error g e m (status .given .1) (ne-eqb _ _ (if1 .left)) (push-faults .ensures) (push-diagnostic .ensures) (omega (arith, push-faults .kept, push-diagnostic .kept)) (resume .ensures _ nodes) (synchronize-root .ensures nodes _ _) room h z
+    λ nodes roots g e m room h z. gathered-error g e m refl (ne-eqb _ _ (if2 .left)) (push-faults .ensures) (push-diagnostic .ensures) (omega (arith, push-faults .kept, push-diagnostic .kept)) (resume .ensures _ nodes) (synchronize-root .ensures nodes _ _) room h z
+
+same-length-3 : tie.Need-same-length-3
+same-length-3 c =
+    let push-faults = c .before .before .before .before .before .before .before .before .before .before .before .before .before .before .push-faults in
+    let push-diagnostic = c .before .before .before .before .before .before .before .before .before .before .push-diagnostic in
+    omega (arith, push-faults .kept, push-diagnostic .kept)
 
 pub recover-spec : {M : Type 1} → statement M
 recover-spec =
     tie.close
     (tie.spec
-    (λ c. search needs)
-    (λ c. search needs)
+    (λ c κs. search needs)
     returns
     returns-2
     (λ c κs. search needs)
@@ -44,5 +48,5 @@ recover-spec =
     (λ c κs. search needs)
     (λ c. search needs)
     (λ c. search needs)
-    (λ c. search needs)
+    same-length-3
     returns-3)

@@ -34,10 +34,10 @@ returns-6 c = ((λ script nodes types. lists-full (λ R L stack xs m a b few h. 
 
 returns-7 : tie.Need-returns-7
 returns-7 c =
-    let args = c .before .before .before .before .before .before .before .before .before .before .before .before .before .before .before .before .before .before .args in
-    let going = c .before .before .before .before .before .before .before .before .before .before .before .before .before .before .before .before .going in
-    let if1 = c .before .before .before .before .before .before .before .before .before .before .before .before .before .before .before .if1 in
-    let settle = c .before .before .before .settle in
+    let args = c .before .before .before .before .before .before .before .before .before .before .before .before .before .before .before .before .before .before .before .args in
+    let going = c .before .before .before .before .before .before .before .before .before .before .before .before .before .before .before .before .before .going in
+    let if1 = c .before .before .before .before .before .before .before .before .before .before .before .before .before .before .before .before .if1 in
+    let settle = c .before .before .before .before .settle in
     ((λ script nodes types. finishing script nodes types _ _ _ _ _ (sym (going .ensures) ∙ not-false _ (if1 .left)) (λ top base z e n b k. tail-put (args .p .used .cells) (args .lists .now) _ _ (settle .ensures top base z (tail-mid (args .p .used .cells) (args .lists .now) ∙ e) n b k))), omega arith)
 
 pub finish-spec : {M : Type 1} → statement M

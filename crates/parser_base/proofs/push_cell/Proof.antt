@@ -20,8 +20,8 @@ returns-3 c = λ script nodes types. full (λ R L stack m h. omega (arith, h .cr
 
 returns-4 : tie.Need-returns-4
 returns-4 c =
-    let going = c .before .before .before .before .before .before .before .before .going in
-    let if1 = c .before .before .before .before .before .before .before .if1 in
+    let going = c .before .before .before .before .before .before .before .before .before .going in
+    let if1 = c .before .before .before .before .before .before .before .before .if1 in
     λ script nodes types. pushing script nodes types _ _ _ _ (sym (going .ensures) ∙ not-false _ (if1 .left)) refl
 
 pub push-cell-spec : {M : Type 1} → statement M

@@ -25,11 +25,11 @@ returns-3 c = λ script nodes lists n. full (λ R L stack m h. omega (arith, h .
 
 returns-4 : tie.Need-returns-4
 returns-4 c =
-    let low = c .before .before .before .before .before .before .before .low in
-    let low2 = c .before .before .before .before .before .before .low2 in
-    let going = c .before .before .before .before .before .before .before .before .before .before .before .before .going in
-    let if1 = c .before .before .before .before .before .before .before .before .before .before .before .if1 in
-    let put = c .before .before .before .put in
+    let low = c .before .before .before .before .before .before .before .before .low in
+    let low2 = c .before .before .before .before .before .before .before .low2 in
+    let going = c .before .before .before .before .before .before .before .before .before .before .before .before .before .going in
+    let if1 = c .before .before .before .before .before .before .before .before .before .before .before .before .if1 in
+    let put = c .before .before .before .before .put in
     λ script nodes lists n. keeping script nodes _ _ lists _ _ n _ (sym (going .ensures) ∙ not-false _ (if1 .left)) (two-cells [] _ (low .ensures) (low2 .ensures)) (put .ensures)
 
 pub push-doc-spec : {M : Type 1} → statement M

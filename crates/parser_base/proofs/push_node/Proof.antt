@@ -28,9 +28,9 @@ add-t25 c =
 
 returns-2 : tie.Need-returns-2
 returns-2 c =
-    let fits = room _ _ (sym (c .before .before .before .before .before .before .before .before .before .has-room .ensures) ∙ not-false _ (c .before .before .before .before .before .before .before .before .if1 .left)) in
-    let node-cells = c .before .before .before .before .before .before .node-cells in
-    let put = c .before .before .before .put in
+    let fits = room _ _ (sym (c .before .before .before .before .before .before .before .before .before .before .has-room .ensures) ∙ not-false _ (c .before .before .before .before .before .before .before .before .before .if1 .left)) in
+    let node-cells = c .before .before .before .before .before .before .before .node-cells in
+    let put = c .before .before .before .before .put in
     λ script types lists f rooms few e. node-making script _ _ types lists _ _ f _ rooms few (fits .going) (node-cells .ensures ∙ ap nodeCells e) (put .ensures)
 
 pub push-node-spec : {M : Type 1} → statement M

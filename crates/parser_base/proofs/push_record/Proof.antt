@@ -27,8 +27,8 @@ add-t27 c =
 
 returns-2 : tie.Need-returns-2
 returns-2 c =
-    let fits = room _ _ (sym (c .before .before .before .before .before .before .before .before .has-room .ensures) ∙ not-false _ (c .before .before .before .before .before .before .before .if1 .left)) in
-    let put = c .before .before .before .put in
+    let fits = room _ _ (sym (c .before .before .before .before .before .before .before .before .before .has-room .ensures) ∙ not-false _ (c .before .before .before .before .before .before .before .before .if1 .left)) in
+    let put = c .before .before .before .before .put in
     λ script types lists f e. node-making script _ _ types lists _ _ f 0 1 (omega arith) (fits .going) (sym e) (put .ensures)
 
 pub push-record-spec : {M : Type 1} → statement M

@@ -20,10 +20,10 @@ returns-3 c = λ script nodes lists. full (λ R L stack m h. omega (arith, h .cr
 
 returns-4 : tie.Need-returns-4
 returns-4 c =
-    let going = c .before .before .before .before .before .before .before .before .before .before .before .going in
-    let if1 = c .before .before .before .before .before .before .before .before .before .before .if1 in
-    let type-cells = c .before .before .before .before .before .before .type-cells in
-    let put = c .before .before .before .put in
+    let going = c .before .before .before .before .before .before .before .before .before .before .before .before .going in
+    let if1 = c .before .before .before .before .before .before .before .before .before .before .before .if1 in
+    let type-cells = c .before .before .before .before .before .before .before .type-cells in
+    let put = c .before .before .before .before .put in
     λ script nodes lists. making script nodes _ _ lists _ _ _ (sym (going .ensures) ∙ not-false _ (if1 .left)) (type-cells .ensures) (put .ensures)
 
 pub push-type-spec : {M : Type 1} → statement M

@@ -29,9 +29,9 @@ returns-5 c = ((λ script nodes. full (λ R L stack m h. omega (arith, h .credit
 
 returns-6 : tie.Need-returns-6
 returns-6 c =
-    let going = c .before .before .before .before .before .before .before .before .before .before .before .before .before .before .going in
-    let if1 = c .before .before .before .before .before .before .before .before .before .before .before .before .before .if1 in
-    let carry = c .before .before .before .before .before .carry in
+    let going = c .before .before .before .before .before .before .before .before .before .before .before .before .before .before .before .going in
+    let if1 = c .before .before .before .before .before .before .before .before .before .before .before .before .before .before .if1 in
+    let carry = c .before .before .before .before .before .before .carry in
     ((λ script nodes. attaching script nodes _ _ _ _ _ (sym (going .ensures) ∙ not-false _ (if1 .left)) (carry .ensures)), refl)
 
 pub take-docs-spec : {M : Type 1} → statement M

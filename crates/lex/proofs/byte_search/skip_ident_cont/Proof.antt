@@ -1,60 +1,64 @@
--- `skip_ident_cont` meets its contract: the run is scanned one byte at a time.
+-- `skip_ident_cont` meets its contract: the run goes on behind the letters and digits, if it does.
 -- Assumes nothing.
-use mathlib.Core.Path.{_≡_, _∙_, sym}
-use Prim.Native.Nat.{_+_, _-_, _≤_}
-use lib.ListN.{length, drop}
+use native.Mathlib.Omega.{arith}
+use borrow.Rule.Slice.PartAt.{part-to-end}
 use borrow.Author.Needs.{needs}
-use borrow.Author.Tests.{not-true, not-false}
-use Rattle.lex.specs.Bytes.{countWhile, isIdentCont}
-use Rattle.lex.proofs.Laws.{run-more, run-stop, run-end}
+use Rattle.lex.specs.Bytes.{classOf, bit, isIdentCont, isIdentStart, isDigit, isNumCont, isWs, or, between}
+use Rattle.lex.proofs.Bits.{classes}
+use Rattle.lex.proofs.Laws.{run-stop, run-end, run-le}
+use Rattle.lex.proofs.Runs.{name-split, name-rest, below-names}
 use Rattle.lex.proofs.byte_search.skip_ident_cont.Statement.{statement}
 use Rattle.lex.proofs.byte_search.skip_ident_cont.Tie as tie
 
-abbrev Inv-loop : tie.InvT-loop
-Inv-loop haystack i₀ i = (i ≤ length haystack) × (i + countWhile isIdentCont (drop i haystack) ≡ countWhile isIdentCont haystack)
+skip-alphanumeric-requires : tie.Need-skip-alphanumeric-requires
+skip-alphanumeric-requires c κs = search needs
 
-abbrev μ-loop : tie.MeasureT-loop
-μ-loop haystack i₀ i = length haystack - i
+returns : tie.Need-returns
+returns c = run-end isIdentCont _ _ _ (name-split _ _ (c .before .skip-alphanumeric .ensures)) (c .if1 .taken)
 
-loop-holds : tie.Need-loop-holds Inv-loop μ-loop
-loop-holds c = search needs
+shared-slice-read-if2 : tie.Need-shared-slice-read-if2
+shared-slice-read-if2 c = search needs
 
-shared-slice-read-is-ident-cont : tie.Need-shared-slice-read-is-ident-cont Inv-loop μ-loop
-shared-slice-read-is-ident-cont c = search needs
+returns-2 : tie.Need-returns-2
+returns-2 c =
+    let c3 = c .before .before .before in
+    run-stop isIdentCont _ _ _ (name-split _ _ (c3 .skip-alphanumeric .ensures)) (c .before .before .if1 .left) (below-names _ (c .if2 .taken))
 
-is-ident-cont-requires : tie.Need-is-ident-cont-requires Inv-loop μ-loop
-is-ident-cont-requires c κs = search needs
+sub-skip-class : tie.Need-sub-skip-class
+sub-skip-class c = search needs
 
-returns : tie.Need-returns Inv-loop μ-loop
-returns c =
-    let c4 = c .before .before .before .before in
-    run-stop isIdentCont _ _ _ (c4 .loop .inv .1) (search needs) (sym (c .before .is-ident-cont .ensures) ∙ not-true _ (c .if1 .taken))
+part-skip-class-start : tie.Need-part-skip-class-start
+part-skip-class-start c = search needs
 
-add-i : tie.Need-add-i Inv-loop μ-loop
-add-i c = search needs
+part-skip-class-end : tie.Need-part-skip-class-end
+part-skip-class-end c = search needs
 
-loop-less : tie.Need-loop-less Inv-loop μ-loop
-loop-less c = search needs
+skip-class-requires : tie.Need-skip-class-requires
+unfolding classOf bit isIdentCont isIdentStart isDigit isNumCont isWs or between
+skip-class-requires c κs = classes
 
-loop-again : tie.Need-loop-again Inv-loop μ-loop
-loop-again c =
-    let c4 = c .before .before .before .before in
-    (search needs, run-more isIdentCont _ _ _ (c4 .loop .inv .1) (search needs) (sym (c .before .is-ident-cont .ensures) ∙ not-false _ (c .if1 .left)))
+add-result : tie.Need-add-result
+add-result c =
+    let c6 = c .before .before .before .before .before .before in
+    let c8 = c6 .before .before in
+    omega (arith, name-rest (c8 .args .haystack .now) _ (c6 .skip-alphanumeric .ensures) _ (rw part-to-end at (c .skip-class .ensures)), run-le isIdentCont (c8 .args .haystack .now))
 
-returns-2 : tie.Need-returns-2 Inv-loop μ-loop
-returns-2 c = run-end isIdentCont _ _ _ (c .before .loop .inv .1) (search needs)
+returns-3 : tie.Need-returns-3
+returns-3 c =
+    let c6 = c .before .before .before .before .before .before in
+    name-rest _ _ (c6 .skip-alphanumeric .ensures) _ (rw part-to-end at (c .skip-class .ensures))
 
 pub skip-ident-cont-spec : {M : Type 1} → statement M
 skip-ident-cont-spec =
     tie.close
     (tie.spec
-    Inv-loop
-    μ-loop
-    loop-holds
-    shared-slice-read-is-ident-cont
-    is-ident-cont-requires
+    skip-alphanumeric-requires
     returns
-    add-i
-    loop-less
-    loop-again
-    returns-2)
+    shared-slice-read-if2
+    returns-2
+    sub-skip-class
+    part-skip-class-start
+    part-skip-class-end
+    skip-class-requires
+    add-result
+    returns-3)

@@ -15,11 +15,12 @@ returns c = λ script nodes. record { same = refl; resumes = λ e R L stack m h.
 returns-2 : tie.Need-returns-2
 unfolding dropDocs
 returns-2 c =
-    let clear-from = c .before .before .before .before .before .before .before .clear-from in
+    let clear-from = c .before .before .before .before .before .before .before .before .clear-from in
+    let not-failed = c .before .before .before .before .not-failed in
     let drop-docs = c .before .before .drop-docs in
     λ script nodes. record {
       same = λ i. from script (drop-docs .ensures .1 i) (drop-docs .ensures .2 i);
-      resumes = λ e R L stack m h. represents-less _ _ (omega arith) (omega arith) (drop-docs .ensures .0 script nodes _ .simulates R L _ m (represents-less _ _ (omega arith) (omega arith) (resuming (clear-from .ensures) h)) .1);
+      resumes = λ e R L stack m h. represents-less _ _ (omega arith) (omega arith) (drop-docs .ensures .0 script nodes _ .simulates R L _ m (represents-less _ _ (omega arith) (omega arith) (resuming (not-failed .ensures) (clear-from .ensures) h)) .1);
     }
 
 pub resume-spec : {M : Type 1} → statement M
@@ -29,6 +30,7 @@ resume-spec =
     (λ c. search needs)
     returns
     (λ c. search needs)
+    (λ c κs. search needs)
     (λ c κs. search needs)
     (λ c κs. search needs)
     (λ c. search needs)

@@ -1,0 +1,126 @@
+-- Names and numbers by the letters and digits in front of them.
+-- Assumes nothing.
+use mathlib.Core.Path.{_≡_, refl, _∙_, sym, ap}
+use mathlib.Core.Bool.{Bool, true, false, not}
+use mathlib.Core.List.{List, [], _∷_}
+use Prim.Native.Nat.{ℕ, suc, _+_, _<_, _≤_, zero-le, suc-le-suc}
+use native.Mathlib.Omega.{arith}
+use lib.Dec.{eqb}
+use lib.ListN.{length, getD, take, drop, length-take}
+use lib.Seq.{length-take-le}
+use borrow.Author.Tests.{eq-eqb, ne-eqb}
+use Rattle.lex.specs.declared.byte_search.Found.the-variants.{At, Nothing}
+use Rattle.lex.specs.declared.tok.Piece.{Piece}
+use Rattle.lex.specs.Bytes.{or, between, isLetter, isAlphanumeric, isDigit, isIdentStart, isIdentCont, isNumCont, hasBit, countWhile, differsFrom, before, findByte}
+use Rattle.lex.specs.Kind.{kI}
+use Rattle.lex.specs.Lex.{doubleIn, numberIn, number}
+use Rattle.lex.proofs.Bits.{below, inName-bit, inNumber-bit}
+use Rattle.lex.proofs.Laws.{run-le, run-agree, run-split, find-hit, find-miss}
+
+-- ---- a name: letters and digits, and what of it follows them
+
+ors : (x y z d : Bool) → or (or x y) d ≡ true → or (or x (or y z)) d ≡ true
+unfolding or
+ors true y z d e = refl
+ors false true z d e = refl
+ors false false true d e = refl
+ors false false false d e = e
+
+alphanumeric-inName : (b : ℕ) → isAlphanumeric b ≡ true → isIdentCont b ≡ true
+unfolding isAlphanumeric isLetter isIdentCont isIdentStart
+alphanumeric-inName b e = ors _ _ _ _ e
+
+module _ (s : List ℕ) (n : ℕ) (front : n ≡ countWhile isAlphanumeric s) where
+  pub name-split : n + countWhile isIdentCont (drop n s) ≡ countWhile isIdentCont s
+  name-split = rw front (run-split isAlphanumeric isIdentCont alphanumeric-inName s)
+
+  pub name-rest : (k : ℕ) → k ≡ countWhile (hasBit 1) (drop n s) → n + k ≡ countWhile isIdentCont s
+  name-rest k e = ap (λ (m : ℕ). n + m) (e ∙ run-agree (hasBit 1) isIdentCont inName-bit (drop n s)) ∙ name-split
+
+-- no byte below `0` continues a name
+pub below-names : (b : ℕ) → b < 48 → isIdentCont b ≡ false
+unfolding isIdentCont isIdentStart isDigit or
+below-names b h = rw (below 97 122 b (omega arith), below 65 90 b (omega arith), ne-eqb b 95 (λ e. omega arith), below 48 57 b h)
+
+-- ---- a number: digits, and what of the run of digits and dots follows them
+
+digit-inNumber : (b : ℕ) → isDigit b ≡ true → isNumCont b ≡ true
+unfolding isNumCont or
+digit-inNumber b e = rw (e, or)
+
+inNumber : (b : ℕ) (t : Bool) → isDigit b ≡ false → eqb b 46 ≡ t → isNumCont b ≡ t
+unfolding isNumCont or
+inNumber b t e f = rw (e, or) f
+
+digit-no-dot : (b : ℕ) → isDigit b ≡ true → eqb b 46 ≡ false
+unfolding isDigit between
+digit-no-dot b e = ne-eqb b 46 (λ z. let f : false ≡ true = rw z at e in let n : _≡_ {A = ℕ} 0 1 = cc in omega arith)
+
+dot-differs : (b : ℕ) (t : Bool) → eqb b 46 ≡ t → differsFrom 46 b ≡ not t
+unfolding differsFrom
+dot-differs b t e = rw e
+
+-- the first dot stands behind the digits
+dot-behind : (s : List ℕ) → countWhile isDigit s ≡ before 46 (take (countWhile isNumCont s) s)
+unfolding before countWhile
+dot-behind [] = refl
+dot-behind (b ∷ bs) = go (isDigit b) refl (eqb b 46) refl (dot-behind bs)
+  where
+    go : (t : Bool) → isDigit b ≡ t → (u : Bool) → eqb b 46 ≡ u → countWhile isDigit bs ≡ before 46 (take (countWhile isNumCont bs) bs)
+        → countWhile isDigit (b ∷ bs) ≡ before 46 (take (countWhile isNumCont (b ∷ bs)) (b ∷ bs))
+    go true e u f h = simp (e, digit-inNumber b e, countWhile) (rw (dot-differs b false (digit-no-dot b e), countWhile) (ap suc h))
+    go false e true f h = simp (e, inNumber b true e f, countWhile) (rw (dot-differs b true f, countWhile))
+    go false e false f h = simp (e, inNumber b false e f, countWhile) refl
+
+-- without one behind them the digits are all of it
+digits-all : (s : List ℕ) → (getD s (countWhile isDigit s) 0 ≡ 46 → ⊥) → countWhile isNumCont s ≡ countWhile isDigit s
+unfolding countWhile
+digits-all [] h = refl
+digits-all (b ∷ bs) h = go (isDigit b) refl (digits-all bs)
+  where
+    go : (t : Bool) → isDigit b ≡ t → ((getD bs (countWhile isDigit bs) 0 ≡ 46 → ⊥) → countWhile isNumCont bs ≡ countWhile isDigit bs)
+        → countWhile isNumCont (b ∷ bs) ≡ countWhile isDigit (b ∷ bs)
+    go true e more = simp (e, digit-inNumber b e, countWhile) (ap suc (more (simp (e, countWhile) at h)))
+    go false e more = simp (e, inNumber b false e (ne-eqb b 46 (simp (e, countWhile) at h)), countWhile)
+
+dot-inside : (s : List ℕ) → getD s (countWhile isDigit s) 0 ≡ 46 → countWhile isDigit s < countWhile isNumCont s
+unfolding countWhile
+dot-inside [] h = absurd (omega arith)
+dot-inside (b ∷ bs) h = go (isDigit b) refl (dot-inside bs)
+  where
+    go : (t : Bool) → isDigit b ≡ t → (getD bs (countWhile isDigit bs) 0 ≡ 46 → countWhile isDigit bs < countWhile isNumCont bs)
+        → countWhile isDigit (b ∷ bs) < countWhile isNumCont (b ∷ bs)
+    go true e more = simp (e, digit-inNumber b e, countWhile) (suc-le-suc (more (simp (e, countWhile) at h)))
+    go false e more = simp (e, inNumber b true e (eq-eqb b 46 (simp (e, countWhile) at h)), countWhile) (suc-le-suc zero-le)
+
+module _ (s : List ℕ) (d : ℕ) (front : d ≡ countWhile isDigit s) where
+  -- without a dot behind them the digits are the number
+  pub number-whole : (getD s d 0 ≡ 46 → ⊥) → Piece.Token kI d d ≡ number s
+  unfolding number numberIn
+  number-whole h =
+      let n = countWhile isNumCont s in
+      let all : n ≡ d = digits-all s (rw front at h) ∙ sym front in
+      let none : findByte 46 (take n s) ≡ Nothing = sym (find-miss 46 (take n s) d (front ∙ dot-behind s) (omega (arith, length-take n s))) in
+      rw (none, numberIn) (ap (λ (k : ℕ). Piece.Token kI k k) (sym all))
+
+  module _ (dot : getD s d 0 ≡ 46) where
+    pub dot-before : d < countWhile isNumCont s
+    dot-before = rw front (dot-inside s (rw front at dot))
+
+    dot-found : findByte 46 (take (countWhile isNumCont s) s) ≡ At d
+    dot-found =
+        let n = countWhile isNumCont s in
+        sym (find-hit 46 (take n s) d (front ∙ dot-behind s) (omega (arith, dot-before, length-take-le n s (run-le isNumCont s))))
+
+    -- with a name behind the dot the digits are
+    pub number-field : isIdentStart (getD s (d + 1) 0) ≡ true → Piece.Token kI d d ≡ number s
+    unfolding number numberIn
+    number-field e = rw (dot-found, e, numberIn)
+
+    pub number-double : isIdentStart (getD s (d + 1) 0) ≡ false → (n : ℕ) → n ≡ countWhile isNumCont s → doubleIn n (d + 1) s ≡ number s
+    unfolding number numberIn
+    number-double e n run = rw (run, dot-found, e, numberIn)
+
+  pub number-run : (k : ℕ) → k ≡ countWhile (hasBit 8) (drop d s) → d + k ≡ countWhile isNumCont s
+  number-run k e =
+      ap (λ (m : ℕ). d + m) (e ∙ run-agree (hasBit 8) isNumCont inNumber-bit (drop d s)) ∙ rw front (run-split isDigit isNumCont digit-inNumber s)
