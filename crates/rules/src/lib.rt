@@ -92,12 +92,70 @@ pub enum Node {
     },
 }
 
+impl Node {
+    // The cells of a record.
+    pub const WIDTH: usize = 16;
+}
+
+// The kinds of node are numbers, in the order of `Node`. A record's first cell is its kind.
+pub struct NodeKind(pub u32);
+
+impl NodeKind {
+    pub const ATOM: u32 = 1;
+
+    pub const IDENT: u32 = 2;
+
+    pub const BIN: u32 = 3;
+
+    pub const UNARY: u32 = 4;
+
+    pub const LET: u32 = 5;
+
+    pub const FN: u32 = 6;
+
+    pub const MATCH: u32 = 7;
+
+    pub const CALL: u32 = 8;
+
+    pub const FIELD: u32 = 9;
+
+    pub const CAST: u32 = 10;
+
+    pub const IMPORT: u32 = 11;
+
+    pub const EXTERN: u32 = 12;
+
+    pub const RECORD: u32 = 13;
+
+    pub const ARRAY: u32 = 14;
+}
+
 pub enum TypeExpr {
     Atom(Token),
     Foreign(Token),
     Option(TypeExprId),
     Array(TypeExprId),
     Record { src: Token, fields: Run },
+}
+
+impl TypeExpr {
+    // The cells of a record.
+    pub const WIDTH: usize = 8;
+}
+
+// The kinds of type are numbers, in the order of `TypeExpr`. A record's first cell is its kind.
+pub struct TypeExprKind(pub u32);
+
+impl TypeExprKind {
+    pub const ATOM: u32 = 1;
+
+    pub const FOREIGN: u32 = 2;
+
+    pub const OPTION: u32 = 3;
+
+    pub const ARRAY: u32 = 4;
+
+    pub const RECORD: u32 = 5;
 }
 
 // How many records, list cells, roots and values a reading made.
