@@ -5,7 +5,6 @@ use mathlib.Core.List.{List, [], _∷_}
 use Prim.Native.Nat.{ℕ, zero, suc, _+_, _*_, _<_, _≤_}
 use native.Mathlib.Omega.{arith}
 use lib.ListN.{length, getD, take, drop, List·getD-eq-default}
-use lib.Seq.{sets}
 use Rattle.rules.specs.Combinators.{tokenCells, runCells}
 use Rattle.rules.specs.Layout.{nodeWidth, typeWidth, nodeCells, typeCells}
 use borrow.Author.Tests.{le-leb, lt-leb}
@@ -13,7 +12,7 @@ use Rattle.rules.specs.declared.Node.{Node}
 use Rattle.rules.specs.declared.Node.the-variants as N
 use Rattle.rules.specs.declared.TypeExpr.{TypeExpr}
 use Rattle.rules.specs.declared.TypeExpr.the-variants as T
-use Rattle.ast.specs.Decode.{nodesByTag, typesByTag, nodeOf, typeOf, nodeAt, typeAt, putAt}
+use Rattle.ast.specs.Decode.{nodesByTag, typesByTag, nodeOf, typeOf, nodeAt, typeAt}
 
 -- ---- a tag that is unknown
 
@@ -51,15 +50,6 @@ module _ (xs : List ℕ) (i : ℕ) where
   pub type-outside : length xs < typeWidth * i + typeWidth → typeAt xs i ≡ none
   unfolding typeAt
   type-outside h = rw (lt-leb (typeWidth * i + typeWidth) (length xs) h)
-
-module _ (size : ℕ) (xs : List ℕ) (i : ℕ) (cells : List ℕ) where
-  pub put-inside : size * i + size ≤ length xs → putAt size xs i cells ≡ sets xs (size * i) cells
-  unfolding putAt
-  put-inside h = rw (le-leb (size * i + size) (length xs) h)
-
-  pub put-outside : length xs < size * i + size → putAt size xs i cells ≡ xs
-  unfolding putAt
-  put-outside h = rw (lt-leb (size * i + size) (length xs) h)
 
 -- ---- a record has as many cells as its array gives it
 

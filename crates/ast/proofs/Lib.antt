@@ -1,7 +1,6 @@
 -- The laws that the functions' proofs cite.
 pub mod Copy
 pub mod LayoutLaws
-pub mod RoundTrip
 pub mod Tabulate
 pub mod Tokens
 pub mod Refusal

@@ -1,11 +1,10 @@
--- Reading the records that `rules` lays out, and writing one: `node-trip` and `type-trip` have that what is read is what was laid out.
+-- Reading the records that `rules` lays out: `node-trip` and `type-trip` have that what is read is what was laid out.
 use mathlib.Core.Bool.{Bool, true, false}
 use mathlib.Core.Option.{Option, none, some}
 use mathlib.Core.List.{List, [], _∷_}
 use Prim.Native.Nat.{ℕ, _+_, _*_, _%_}
 use lib.Dec.{leb}
 use lib.ListN.{length, getD, take, drop}
-use lib.Seq.{sets}
 use Rattle.rules.specs.Layout.{nodeWidth, typeWidth}
 use Rattle.lex.specs.declared.tok.Token.{Token}
 use Rattle.rules.specs.declared.Run.{Run}
@@ -15,7 +14,6 @@ use Rattle.rules.specs.declared.TypeExpr.{TypeExpr}
 use Rattle.rules.specs.declared.TypeExpr.the-variants as T
 use Rattle.ast.specs.declared.layout.NodeRead.{NodeRead}
 use Rattle.ast.specs.declared.layout.NodeRead.the-variants as NR
-use Rattle.ast.specs.declared.layout.TokenCells.{TokenCells}
 use Rattle.ast.specs.declared.layout.TypeRead.{TypeRead}
 use Rattle.ast.specs.declared.layout.TypeRead.the-variants as TR
 
@@ -77,43 +75,9 @@ nodeAt nodes i = if (fits nodeWidth nodes i) (nodeOf (take nodeWidth (drop (node
 unfoldable pub typeAt : List ℕ → ℕ → Option TypeExpr
 typeAt types i = if (fits typeWidth types i) (typeOf (take typeWidth (drop (typeWidth * i) types))) none
 
--- an array with record `i` written; unchanged where it has no room for it
-unfoldable pub putAt : ℕ → List ℕ → ℕ → List ℕ → List ℕ
-putAt size xs i cells = if (fits size xs i) (sets xs (size * i) cells) xs
-
--- ---- 32 bits: what an array holds of a record's tokens
-
+-- 32 bits: what an array holds of a number
 abbrev pub low : ℕ → ℕ
 low n = n % 4294967296
-
-abbrev pub lowToken : Token → Token
-lowToken t = record { kind = t .kind; start = low (t .start); len = low (t .len) }
-
-abbrev pub lowCells : Token → TokenCells
-lowCells t = record { kind = t .kind; start = low (t .start); len = low (t .len) }
-
-unfoldable pub lowNode : Node → Node
-lowNode (N.Atom id raw) = N.Atom id (lowToken raw)
-lowNode (N.Ident id name) = N.Ident id (lowToken name)
-lowNode (N.Bin id op lhs rhs) = N.Bin id (lowToken op) lhs rhs
-lowNode (N.Unary id op rhs) = N.Unary id (lowToken op) rhs
-lowNode (N.Let id docs name rhs) = N.Let id docs (lowToken name) rhs
-lowNode (N.Fn id docs name args ret body) = N.Fn id docs (lowToken name) args ret body
-lowNode (N.Match id cases t body) = N.Match id cases (lowToken t) body
-lowNode (N.Call id target args) = N.Call id target args
-lowNode (N.Field id target name) = N.Field id target (lowToken name)
-lowNode (N.Cast id src lhs rhs) = N.Cast id (lowToken src) lhs rhs
-lowNode (N.Import id src pkgs) = N.Import id (lowToken src) pkgs
-lowNode (N.Extern id src docs name fns) = N.Extern id (lowToken src) docs (lowToken name) fns
-lowNode (N.Record id src fields) = N.Record id (lowToken src) fields
-lowNode (N.Array id src members) = N.Array id (lowToken src) members
-
-unfoldable pub lowType : TypeExpr → TypeExpr
-lowType (T.Atom t) = T.Atom (lowToken t)
-lowType (T.Foreign t) = T.Foreign (lowToken t)
-lowType (T.Option i) = T.Option i
-lowType (T.Array i) = T.Array i
-lowType (T.Record src fields) = T.Record (lowToken src) fields
 
 -- ---- what an answer of the code says
 
