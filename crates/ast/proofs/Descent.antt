@@ -2,11 +2,11 @@
 use mathlib.Core.Path.{_≡_, refl, sym, _∙_, ap}
 use mathlib.Core.Bool.{Bool, true, false}
 use mathlib.Core.Option.{Option, none, some}
-use mathlib.Core.List.{List, [], _∷_}
-use Prim.Native.Nat.{ℕ, zero, suc, _+_, _-_, _%_, _<_, _≤_}
+use mathlib.Core.List.{List}
+use Prim.Native.Nat.{ℕ, _+_, _-_, _%_, _<_, _≤_}
 use native.Mathlib.Omega.{arith}
-use lib.Dec.{leb, ltb, eqb}
-use lib.ListN.{length, getD}
+use lib.Dec.{ltb, eqb}
+use lib.ListN.{getD}
 use borrow.Author.Tests.{lt-ltb, le-ltb, ltb-true, ltb-false, ne-eqb}
 use Rattle.rules.specs.Shape.{wellFormed, andThen}
 use Rattle.lex.specs.declared.tok.Token.{Token}
@@ -19,7 +19,7 @@ use Rattle.ast.specs.Decode.{if, low, tokenAt, nodeAt, typeAt, nodeRead,
 use Rattle.ast.specs.Tabulate.{entriesBelow, entryAt}
 use Rattle.ast.proofs.Tabulate.{entries-below, entries-past}
 use Rattle.ast.specs.Lookup.{inside, tokenStart, orElse, matchStart, startOf, startRow, startAt, typeTokenOf, typeTokenRow, typeTokenAt}
-use Rattle.ast.specs.Descent.{asStart, startOr, arrayStep, stepOf, decodeStart, innerOf, Innermost, asTypeToken}
+use Rattle.ast.specs.Descent.{asStart, startOr, arrayStep, stepOf, decodeStart, innerOf, Innermost}
 use Rattle.ast.specs.declared.layout.NodeRead.{NodeRead}
 use Rattle.ast.specs.declared.layout.NodeRead.the-variants as NR
 use Rattle.ast.specs.declared.layout.TypeRead.{TypeRead}
@@ -28,8 +28,6 @@ use Rattle.ast.specs.declared.lookup.Start.{Start}
 use Rattle.ast.specs.declared.lookup.Start.the-variants as S
 use Rattle.ast.specs.declared.lookup.Step.{Step}
 use Rattle.ast.specs.declared.lookup.Step.the-variants as St
-use Rattle.ast.specs.declared.lookup.TypeToken.{TypeToken}
-use Rattle.ast.specs.declared.lookup.TypeToken.the-variants as TT
 
 -- ---- what a read record says of its array
 

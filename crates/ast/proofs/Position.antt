@@ -1,7 +1,7 @@
 -- Laws of line and column.
 use mathlib.Core.Path.{_≡_, refl, sym, _∙_, ap}
 use mathlib.Core.List.{List, [], _∷_}
-use Prim.Native.Nat.{ℕ, zero, suc, _+_, _<_, _≤_}
+use Prim.Native.Nat.{ℕ, suc, _+_, _<_, _≤_}
 use native.Mathlib.Omega.{arith}
 use native.Mathlib.Nat.{add-zero, zero-add}
 use native.Mathlib.Numerals.{add-one}
@@ -11,7 +11,6 @@ use borrow.Author.Tests.{lt-ltb, le-ltb, eq-eqb, ne-eqb}
 use Rattle.rules.specs.Promise.{maxBytes}
 use Rattle.ast.specs.Answer.{refused, answer}
 use Rattle.ast.specs.Position.{feeds, since, placeOf, placeAt}
-use Rattle.ast.specs.declared.diagnostic.Place.{Place}
 
 module _ (script : List ℕ) (at : ℕ) where
   pub place-long : maxBytes < length script → refused 1 ≡ placeAt script at

@@ -1,6 +1,5 @@
 -- Laws of the refusals, in their order.
 use mathlib.Core.Path.{_≡_, refl, sym, _∙_, ap}
-use mathlib.Core.Bool.{Bool, true, false}
 use mathlib.Core.Option.{Option, none, some}
 use mathlib.Core.List.{List}
 use Prim.Native.Nat.{ℕ, zero, suc, _+_, _*_, _<_, _≤_}
@@ -9,10 +8,9 @@ use lib.ListN.{length}
 use borrow.Author.Tests.{lt-ltb, le-ltb, lt-leb, le-leb}
 use Rattle.lex.specs.declared.tok.Token.{Token}
 use Rattle.ast.specs.Decode.{if, fits}
-use Rattle.ast.specs.Answer.{Answer, refused, answer, unless, unlessMalformed, Lent, refusal, recordAsked}
+use Rattle.ast.specs.Answer.{Answer, refused, unless, unlessMalformed, Lent, refusal, recordAsked}
 use Rattle.ast.specs.Descent.{asStart, startOr, asTypeToken}
 use Rattle.ast.specs.Lookup.{startAnswer, typeTokenAnswer}
-use Rattle.ast.specs.declared.lookup.Start.{Start}
 use Rattle.ast.specs.declared.lookup.Start.the-variants as S
 
 -- `r` is what the test of 1 and 2 found

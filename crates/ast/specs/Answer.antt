@@ -1,5 +1,4 @@
 -- How a lookup ends, what it is lent, and when it is refused.
-use mathlib.Core.Bool.{true, false}
 use mathlib.Core.Option.{Option, none, some}
 use mathlib.Core.List.{List}
 use Prim.Native.Nat.{ℕ, zero, suc, _*_}

@@ -3,12 +3,12 @@
 -- Assumes nothing.
 use mathlib.Core.Path.{_≡_, refl, _∙_, sym, ap}
 use mathlib.Core.Bool.{true, false}
-use mathlib.Core.List.{List, [], _∷_, _++_, map, foldl, foldl-append}
-use Prim.Native.Nat.{ℕ, zero, suc, _+_, _*_, _-_, _%_, _≤_, _<_}
+use mathlib.Core.List.{List, [], _∷_, map, foldl}
+use Prim.Native.Nat.{ℕ, zero, suc, _-_, _%_, _≤_, _<_}
 use native.Mathlib.Nat.{mod-eq-of-lt}
 use native.Mathlib.Omega.{arith}
 use lib.Dec.{ltb}
-use lib.ListN.{length, length-append}
+use lib.ListN.{length}
 use borrow.Author.Tests.{lt-ltb, le-ltb}
 use Rattle.lex.specs.Lex.{Cut, eof, cutToken, cutFault, extendCut, cutAt, stepAt, diagnosticOf}
 use Rattle.lex.specs.Passed.{endOf}
@@ -17,9 +17,8 @@ use Rattle.lex.specs.declared.tok.Fault.{Fault}
 use Rattle.lex.specs.declared.tok.Step.{Step}
 use Rattle.lex.proofs.Laws.{cases}
 use Rattle.lex.proofs.Steps.{Forward, step-forward, cut-by}
-use Rattle.diagnostics.specs.Records.{Diagnostics, holding, maxCount, pushed}
+use Rattle.diagnostics.specs.Records.{Diagnostics, pushed}
 use Rattle.diagnostics.specs.Faults.{extendFaults, faultsFrom, faultsBetween, lowDiagnostic}
-use Rattle.diagnostics.proofs.Records.{holding-pushed}
 
 -- ---- a step begins them
 
@@ -91,22 +90,6 @@ low-from script to (suc f) pos h =
 pub faults-low : (script : List ℕ) (from to : ℕ) → length script < 4294967296 → map lowDiagnostic (faultsBetween script from to) ≡ faultsBetween script from to
 unfolding faultsBetween
 faults-low script from to h = low-from script to (suc (length script)) from h
-
--- ---- what is pushed is held: the faults, and an error behind them
-
-module _ (script : List ℕ) (from to size : ℕ) (ds : List Diagnostic) (small : length script < 4294967296) where
-  pub faults-held : 5 * (length ds + length (faultsBetween script from to)) ≤ size → length ds + length (faultsBetween script from to) ≤ maxCount
-      → foldl pushed (holding size ds) (map lowDiagnostic (faultsBetween script from to)) ≡ holding size (ds ++ faultsBetween script from to)
-  faults-held h k = ap (foldl pushed (holding size ds)) (faults-low script from to small) ∙ holding-pushed size ds (faultsBetween script from to) h k
-
-  pub error-held : (e : Diagnostic) → 5 * (length ds + length (faultsBetween script from to) + 1) ≤ size → length ds + length (faultsBetween script from to) + 1 ≤ maxCount
-      → pushed (foldl pushed (holding size ds) (map lowDiagnostic (faultsBetween script from to))) e ≡ holding size (ds ++ (faultsBetween script from to ++ (e ∷ [])))
-  error-held e h k =
-      let fs : List Diagnostic = faultsBetween script from to in
-      let count : length (fs ++ (e ∷ [])) ≡ length fs + 1 = length-append fs (e ∷ []) in
-      ap (λ (l : List Diagnostic). pushed (foldl pushed (holding size ds) l) e) (faults-low script from to small)
-      ∙ sym (foldl-append pushed (holding size ds) fs (e ∷ []))
-      ∙ holding-pushed size ds (fs ++ (e ∷ [])) (omega arith) (omega arith)
 
 -- ---- up to where the lexer stands after some tokens
 

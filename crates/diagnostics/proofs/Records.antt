@@ -89,13 +89,3 @@ module _ (size : ℕ) where
   -- what lies in it is what the promise says
   pub holding-padded : (ds : List Diagnostic) → holding size ds .cells ≡ padded size (flatten (map diagnosticCells ds))
   holding-padded ds = ap (λ (n : ℕ). flatten (map diagnosticCells ds) ++ zeros (size - n)) (sym (cells-length ds))
-
--- the same of any array that holds `ds`
-pub pushed-all : (ds xs : List Diagnostic) (array : List ℕ) (n : ℕ) → array ≡ flatten (map diagnosticCells ds) ++ zeros (length array - 5 * length ds) → n ≡ length ds
-    → 5 * (length ds + length xs) ≤ length array → length ds + length xs ≤ maxCount
-    → foldl pushed (diagnostics array n) xs ≡ diagnostics (flatten (map diagnosticCells (ds ++ xs)) ++ zeros (length array - 5 * (length ds + length xs))) (length ds + length xs)
-pushed-all ds xs array n a e h k =
-    let count : length (ds ++ xs) ≡ length ds + length xs = length-append ds xs in
-    let start : diagnostics array n ≡ holding (length array) ds = λ i. diagnostics (a i) (e i) in
-    ap (λ (x : Diagnostics). foldl pushed x xs) start ∙ holding-pushed (length array) ds xs h k
-    ∙ ap (λ (m : ℕ). diagnostics (flatten (map diagnosticCells (ds ++ xs)) ++ zeros (length array - 5 * m)) m) count

@@ -9,7 +9,7 @@ use Rattle.rules.specs.declared.Counts.{Counts}
 use Rattle.rules.specs.declared.Parsed.{Parsed}
 use Rattle.ast.specs.Answer.{Answer, Lent}
 use Rattle.same.specs.Compare.{Compares}
-use Rattle.reader_c.specs.Numbers.{written, Returned, asNumbers, numberOf, stored, Answers, yesCells, AnswersComparison}
+use Rattle.reader_c.specs.Numbers.{written, asNumbers, numberOf, stored, Answers, yesCells, AnswersComparison}
 
 pub answers : {A : Type 0} (cells : A → List ℕ) (out : List ℕ) {a b : Answer A} → b ≡ a → Answers cells a (numberOf b) out (stored cells b out)
 answers cells out e = (ap numberOf e, ap (λ x. stored cells x out) e)

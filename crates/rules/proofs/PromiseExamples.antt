@@ -1,13 +1,12 @@
 -- Worked examples of what a reading promises, computed: the arrays of docs/LAYOUT.md's example, an error, both refusals.
 use mathlib.Core.Path.{_≡_, refl}
-use mathlib.Core.List.{List, [], _∷_, _++_, flatten}
+use mathlib.Core.List.{_∷_, _++_, flatten}
 use Prim.Native.Nat.{ℕ, _+_, _*_}
 use Prim.Native.String.{String}
 use lib.ListN.{replicate}
 use Rattle.lex.specs.Bytes.{or}
 use Rattle.rules.specs.Combinators.{tokenCells, runCells}
 use Rattle.rules.specs.Layout.{nodeCells, typeCells, diagnosticCells}
-use Rattle.rules.specs.Parse.{Reading}
 use Rattle.rules.specs.Promise.{Arrays, Outcome, tooShort, zeroed, holding, outcome, promised}
 use Rattle.rules.specs.declared.Parsed.{Parsed}
 use Rattle.rules.specs.declared.Parsed.the-variants as P

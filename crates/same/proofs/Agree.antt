@@ -8,10 +8,9 @@ use native.Mathlib.Omega.{arith}
 use lib.Dec.{leb, leb·zero, leb·suc-zero, leb·suc-suc}
 use native.Mathlib.Nat.{zero-mul, suc-mul, add-comm}
 use borrow.Author.Tests.{le-leb, lt-leb, leb-true, leb-false}
-use lib.ListN.{length, getD, take, drop, length-drop, drop-of-length-le}
-use lib.Seq.{drop-drop, drop-nil}
-use Rattle.rules.specs.Shape.{map₁, map₂, map₃, andThen, Decoder, decoded, chain, number, token, run, resolve, both, items, from, listAt}
-use Rattle.lex.specs.declared.tok.Token.{Token}
+use lib.ListN.{length, getD, drop, length-drop}
+use lib.Seq.{drop-drop}
+use Rattle.rules.specs.Shape.{map₁, map₂, andThen, Decoder, decoded, chain, number, token, run, resolve, both, items, from, listAt}
 use Rattle.rules.specs.declared.Run.{Run}
 use Rattle.ast.specs.Decode.{if, tokenAt, runAt}
 use Rattle.same.specs.Agree.{Agree, Decides}
@@ -152,9 +151,6 @@ from-is (suc n) (c ∷ cs) = from-is n cs ∙ rw (leb·suc-suc)
 
 -- a list of a run: none where the run lies outside
 module _ {A L : Type 0} (size : ℕ) (v : List ℕ → Option A) (nil : L) (cons : A → L → L) (x : Decoder A) (s : Sized x size v) where
-  first : L × List ℕ → L
-  first q = q .0
-
   pub list-is : (cells : List ℕ) (r : Run) → listAt x nil cons cells r ≡ if (leb (r .start + r .len * size) (length cells)) (fold size v nil cons (r .len) (drop (r .start) cells)) none
   unfolding listAt andThen map₁
   list-is cells r = rw (from-is (r .start) cells) (go (leb (r .start) (length cells)) refl)

@@ -6,7 +6,6 @@ use Prim.Native.Nat.{ℕ, zero, suc}
 use native.Mathlib.Omega.{arith}
 use lib.Dec.{eqb}
 use borrow.Author.Tests.{eq-eqb, ne-eqb}
-use Rattle.rules.specs.Shape.{Shapes}
 use Rattle.ast.specs.Decode.{if}
 use Rattle.ast.specs.Answer.{Answer, refused, answer, Lent, refusal}
 use Rattle.same.specs.Agree.{Agree, Decides}

@@ -3,16 +3,16 @@ use mathlib.Core.Path.{_≡_, refl, sym, _∙_, ap, ap₂}
 use mathlib.Core.Bool.{Bool, true, false}
 use mathlib.Core.Option.{Option, none, some}
 use mathlib.Core.List.{List, [], _∷_, _++_, map, flatten, append-assoc}
-use Prim.Native.Nat.{ℕ, zero, suc, _+_, _*_, _-_, _<_, _≤_}
+use Prim.Native.Nat.{ℕ, zero, suc, _+_, _*_, _-_, _≤_}
 use native.Mathlib.Omega.{arith}
 use native.Mathlib.Nat.{mul-suc, mul-zero}
 use lib.Dec.{leb, ltb}
-use lib.ListN.{length, getD, take, drop, length-append, length-replicate, length-map}
-use lib.Seq.{take-at, drop-at, drop-append-add}
-use borrow.Author.Tests.{le-leb, lt-leb, leb-true, leb-false, ltb-true, ltb-false, le-ltb}
+use lib.ListN.{length, take, drop, length-append, length-replicate}
+use lib.Seq.{take-at, drop-append-add}
+use borrow.Author.Tests.{le-leb, lt-leb, leb-true, leb-false, ltb-false, le-ltb}
 use Rattle.lex.specs.Bytes.{or}
 use Rattle.lex.specs.declared.diagnostic.Diagnostic.{Diagnostic}
-use Rattle.rules.specs.Tree.{Arena, Result, ok, err, Tree}
+use Rattle.rules.specs.Tree.{Result, ok, err, Tree}
 use Rattle.rules.specs.Rules.{stageOne}
 use Rattle.rules.specs.Parse.{Reading, read, ended, begin, parse, parseRoots}
 use Rattle.lex.specs.Kind.{kEof}
@@ -20,22 +20,19 @@ use Rattle.rules.specs.Combinators.{choose}
 use Rattle.rules.specs.Layout.{nodeWidth, typeWidth, zeros, padded, nodeCells, typeCells}
 use Rattle.rules.specs.Promise.{maxBytes, Arrays, tooShort, holding, Outcome, outcome, promised}
 use Rattle.rules.specs.Shape as R
-use Rattle.rules.specs.Shape.{Shapes, tabulate, lookup, shapesOf, andThen, shapeOf}
+use Rattle.rules.specs.Shape.{Shapes, tabulate, lookup, andThen, shapeOf}
 use Rattle.rules.specs.declared.Counts.{Counts}
-use Rattle.rules.specs.declared.Node.{Node}
-use Rattle.rules.specs.declared.TypeExpr.{TypeExpr}
-use Rattle.rules.specs.declared.Parsed.{Parsed}
 use Rattle.rules.specs.declared.Parsed.the-variants as P
 use Rattle.rules.proofs.Unique.Whole.{shaped}
 use Rattle.rules.proofs.Unique.Collect.{shapedCollect}
 use Rattle.ast.specs.Decode.{if, fits, nodeOf, typeOf, nodeAt, typeAt}
 use Rattle.ast.specs.Tabulate.{rows, entriesBelow}
-use Rattle.ast.specs.Answer.{Answer, refused, answer, Lent, lent, refusal, cellsOf}
+use Rattle.ast.specs.Answer.{Answer, answer, Lent, lent, refusal, cellsOf}
 use Rattle.ast.proofs.LayoutLaws.{node-length, type-length, node-trip, type-trip}
 use Rattle.same.proofs.Compare.{short-right}
 use Rattle.same.specs.Compare.{refusals, Compares, refusedLent, malformedLeft, malformedRight, sameShape, otherShape}
 use Rattle.same.specs.Returned.{Mode, strict, collecting, reading, returned, Returns, YesOrNo, yes, no}
-use Rattle.same.specs.Shapes.{typeRow, nodeRow, typesBelow, nodesBelow, View, viewOf, typesIn, rootShapes, shapeIn}
+use Rattle.same.specs.Shapes.{typesBelow, nodesBelow, viewOf, typesIn, rootShapes, shapeIn}
 
 -- ---- records one after the other
 

@@ -1,9 +1,9 @@
 -- The shapes of the roots are a list of nodes, its run being the whole array of roots.
-use mathlib.Core.Path.{_≡_, refl, sym, _∙_, ap, ap₂}
+use mathlib.Core.Path.{_≡_, refl, sym, _∙_, ap}
 use mathlib.Core.Bool.{Bool, true, false}
-use mathlib.Core.Option.{Option, none, some}
-use mathlib.Core.List.{List, [], _∷_}
-use Prim.Native.Nat.{ℕ, zero, suc, _+_, _*_, _<_, _≤_}
+use mathlib.Core.Option.{Option, none}
+use mathlib.Core.List.{List, _∷_}
+use Prim.Native.Nat.{ℕ, zero, suc, _+_, _*_, _≤_}
 use native.Mathlib.Omega.{arith}
 use native.Mathlib.Numerals.{add-one}
 use native.Mathlib.Nat.{add-zero, zero-add, mul-one}
@@ -12,7 +12,7 @@ use lib.ListN.{length, getD, take, drop}
 use lib.Seq.{drop-cons}
 use borrow.Author.Tests.{leb-true}
 use Rattle.rules.specs.Shape as S
-use Rattle.rules.specs.Shape.{Shape, Shapes, noShape, shape, Env, map₂, shapesOf}
+use Rattle.rules.specs.Shape.{Shape, noShape, shape, Env, map₂, shapesOf}
 use Rattle.ast.specs.Decode.{if}
 use Rattle.same.specs.Agree.{Agree, Decides}
 use Rattle.same.specs.Shapes.{View, typesIn, nodesBelow, rootShapes}

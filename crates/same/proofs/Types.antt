@@ -7,12 +7,12 @@ use Prim.Native.Nat.{ℕ, zero, suc, _+_, _*_, _<_, _≤_}
 use native.Mathlib.Omega.{arith}
 use native.Mathlib.Nat.{add-zero}
 use lib.Dec.{leb}
-use lib.ListN.{length, getD, take, drop}
-use borrow.Author.Tests.{le-leb, lt-leb, leb-true, leb-false}
+use lib.ListN.{length, getD}
+use borrow.Author.Tests.{leb-true, leb-false}
 use Rattle.rules.specs.Layout.{typeWidth}
-use Rattle.rules.specs.Shape.{Word, TypeShape, atomT, foreignT, optionT, arrayT, recordT, Params, Env, map₁, map₂, andThen, word, w, params, typeShape}
+use Rattle.rules.specs.Shape.{TypeShape, atomT, foreignT, optionT, arrayT, recordT, Env, map₁, map₂, andThen, word, w, params, typeShape}
 use Rattle.ast.specs.Decode.{if, fits, tokenAt, runAt, typeOf, typesByTag, typeAt}
-use Rattle.ast.specs.Tabulate.{entryAt, entriesBelow}
+use Rattle.ast.specs.Tabulate.{entryAt}
 use Rattle.ast.proofs.Tabulate.{entries-below, entries-past}
 use Rattle.ast.proofs.LayoutLaws.{type-inside, type-outside, type-unknown}
 use Rattle.same.specs.Agree.{Agree, Decides}

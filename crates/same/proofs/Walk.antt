@@ -1,6 +1,6 @@
 -- Two lists are walked member by member: what is known on the way, for lists of every sort.
-use mathlib.Core.Path.{_≡_, refl, sym, _∙_, ap, ap₂, subst}
-use mathlib.Core.Bool.{Bool, true, false}
+use mathlib.Core.Path.{_≡_, refl, _∙_, ap, ap₂, subst}
+use mathlib.Core.Bool.{Bool}
 use mathlib.Core.Option.{Option, none, some}
 use mathlib.Core.List.{List, [], _∷_}
 use Prim.Native.Nat.{ℕ, zero, suc, _+_, _*_, _-_, _<_, _≤_}
@@ -11,7 +11,7 @@ use lib.ListN.{length, getD, drop}
 use lib.Seq.{getD-drop, drop-drop}
 use Rattle.lex.specs.declared.tok.Token.{Token}
 use Rattle.rules.specs.Shape as S
-use Rattle.rules.specs.Shape.{Word, TypeShape, Params, FnShape, Shape, Shapes, FieldShapes, CaseShapes, Env, map₁, map₂, andThen, Decoder, listAt, number, token, run, resolve, both}
+use Rattle.rules.specs.Shape.{Word, TypeShape, Params, FnShape, Shape, Shapes, FieldShapes, CaseShapes, Env, map₁, map₂, andThen, listAt, number, token, run, resolve, both}
 use Rattle.rules.specs.declared.Run.{Run}
 use Rattle.ast.specs.Decode.{if, tokenAt, runAt}
 use Rattle.same.specs.Agree.{Agree, Decides}

@@ -1,5 +1,4 @@
 -- The parts of a node's record, in the order in which they are compared: what each is, and in which cell it stands.
-use mathlib.Core.Bool.{true, false}
 use mathlib.Core.Option.{Option, some}
 use mathlib.Core.List.{List, [], _∷_}
 use Prim.Native.Nat.{ℕ, _+_, _*_, _/_, _%_}

@@ -1,5 +1,4 @@
 -- The shape of a tree in lent arrays: that of `rules`, its records read by the decoders of `ast`.
-use mathlib.Core.Bool.{true, false}
 use mathlib.Core.Option.{Option, none}
 use mathlib.Core.List.{List}
 use Prim.Native.Nat.{ℕ, _*_}

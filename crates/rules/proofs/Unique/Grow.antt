@@ -32,11 +32,6 @@ unfolding map₁
 map₁-mono f none p h b e = none≢some b e
 map₁-mono f (some a) p h b e = rw (h a refl) e
 
-pub andThen-mono : {A B : Type 0} (o p : Option A) (f g : A → Option B) → o ⊑ p → ((a : A) → f a ⊑ g a) → andThen o f ⊑ andThen p g
-unfolding andThen
-andThen-mono none p f g h k b e = none≢some b e
-andThen-mono (some a) p f g h k b e = rw (h a refl) (k a b e)
-
 pub map₂-mono : {A B C : Type 0} (f : A → B → C) (o o′ : Option A) (p p′ : Option B) → o ⊑ o′ → p ⊑ p′ → map₂ f o p ⊑ map₂ f o′ p′
 unfolding map₂
 map₂-mono f none o′ p p′ h k c e = none≢some c e
@@ -332,9 +327,6 @@ module _ (script : List ℕ) where
       (rw (table-append, ← (table-length (nodeTab (m .cells) (typeAt script m)) (m .nodes) [] ∙ zero-add _)) (look-end (tabulate (nodeTab (m .cells) (typeAt script m)) [] (m .nodes)) _))
 
   module _ {m m′ : Arena} (g : Grows m m′) where
-    pub type-grows : Le (resolve number (typeAt script m)) (resolve number (typeAt script m′))
-    type-grows = to-mono _ _ _ _ number-mono (g .types)
-
     pub node-grows : Le (resolve number (nodeAt script m)) (resolve number (nodeAt script m′))
     node-grows = to-mono _ _ _ _ number-mono (g .nodes)
 

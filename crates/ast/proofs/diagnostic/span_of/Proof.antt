@@ -1,10 +1,6 @@
 -- `ast::diagnostic::span_of` meets its contract.
-use mathlib.Core.Path.{_≡_, _∙_, ap}
 use native.Mathlib.Omega.{arith}
-use Prim.Native.Nat.{ℕ, _+_, _≤_}
-use lib.ListN.{length}
 use Rattle.ast.proofs.Tokens.{wellFormed-string, span-string, span-sign, span-word, span-plain}
-use Rattle.ast.specs.declared.diagnostic.Span.{Span}
 use borrow.Author.Needs.{needs}
 use Rattle.ast.proofs.diagnostic.span_of.Statement.{statement}
 use Rattle.ast.proofs.diagnostic.span_of.Tie as tie

@@ -1,8 +1,7 @@
 -- `ast::lookup::match_start` meets its contract.
-use mathlib.Core.Path.{_∙_, ap}
+use mathlib.Core.Path.{_∙_}
 use borrow.Author.Tests.{lt-leb, le-leb, eq-eqb, ne-eqb}
-use Rattle.lex.specs.declared.tok.Token.{Token}
-use Rattle.ast.specs.Lookup.{matchStart, tokenStart}
+use Rattle.ast.specs.Lookup.{matchStart}
 use Rattle.ast.specs.Descent.{asStart}
 use borrow.Author.Needs.{needs}
 use Rattle.ast.proofs.lookup.match_start.Statement.{statement}

@@ -1,14 +1,10 @@
 -- `agree-nodes` meets its contract.
 use borrow.Author.Tests.{not-true, not-false}
-use Prim.Native.Nat.{_*_, _+_, _<_}
+use Prim.Native.Nat.{_+_}
 use lib.ListN.{getD}
-use mathlib.Core.Path.{refl, ap}
 use Rattle.same.specs.Agree.{Agree, Decides}
-use Rattle.same.specs.Shapes.{view, envBelow, nodesBelow}
-use Rattle.rules.specs.Shape.{w, shapes}
-use Rattle.ast.specs.Decode.{tokenAt, runAt}
+use Rattle.same.specs.Shapes.{view, envBelow}
 use Rattle.same.proofs.Agree.{decides-not}
-use Rattle.same.proofs.Walk.{pair-agree, pair-parts}
 use Rattle.same.proofs.Listing.{nodeLists, Walking, begin, other-length, outside-left, outside-right, step, stop, done}
 use borrow.Author.Needs.{needs}
 use native.Mathlib.Omega.{arith}

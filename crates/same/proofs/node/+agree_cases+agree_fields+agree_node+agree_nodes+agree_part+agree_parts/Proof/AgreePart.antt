@@ -1,10 +1,6 @@
 -- `agree-part` meets its contract.
-use borrow.Author.Tests.{not-true, not-false}
-use Prim.Native.Nat.{_*_, _+_, _<_}
-use lib.ListN.{getD}
-use mathlib.Core.Path.{refl, ap}
-use Rattle.same.specs.Agree.{Agree, Decides}
-use Rattle.same.specs.Shapes.{view, envBelow, nodesBelow}
+use mathlib.Core.Path.{ap}
+use Rattle.same.specs.Shapes.{view, envBelow}
 use native.Mathlib.Nat.{add-zero}
 use Rattle.rules.specs.Shape.{w, words, wordIn, params, paramIn, fns, fnIn}
 use Rattle.same.specs.Parts.{PartAgrees, partOf}

@@ -1,6 +1,6 @@
 -- `agree-params` meets its contract.
 use borrow.Author.Tests.{not-true, not-false}
-use Prim.Native.Nat.{_*_, _+_}
+use Prim.Native.Nat.{_+_}
 use lib.ListN.{getD}
 use Rattle.rules.specs.Shape.{w}
 use Rattle.ast.specs.Decode.{tokenAt}

@@ -4,7 +4,7 @@ use Prim.Native.Nat.{_*_, _+_}
 use Rattle.rules.specs.Shape.{word}
 use Rattle.ast.specs.Decode.{tokenAt}
 use Rattle.same.specs.Agree.{Agree, Decides}
-use Rattle.same.proofs.Agree.{decides-not, decides-no}
+use Rattle.same.proofs.Agree.{decides-not}
 use Rattle.same.proofs.Types.{type-past-left, type-past-right, type-zero, other-tag, option-agrees, array-agrees, token-differs, token-agrees, record-agrees}
 use borrow.Author.Needs.{needs}
 use native.Mathlib.Omega.{arith}
