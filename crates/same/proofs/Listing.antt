@@ -42,12 +42,12 @@ caseLists = record { sort = W.caseSort; place = W.caseAt; list = S.cases; are = 
 abbrev pub Walking : {A L : Type 0} → Listing A L → Env → Env → (start start′ len at at′ left : ℕ) → Type 0
 Walking k e e′ start start′ len at at′ left = Walk (k .sort) (k .place e) (k .place e′) (e .cells) (e′ .cells) (Agree (k .list e (runOf start len)) (k .list e′ (runOf start′ len))) at at′ left
 
-module _ {A L : Type 0} (k : Listing A L) (e e′ : Env) where
-  pub begin : (start start′ len : ℕ) → start + len * k .sort .size ≤ length (e .cells) → start′ + len * k .sort .size ≤ length (e′ .cells)
+module _ {A L : Type 0} (k : Listing A L) {e e′ : Env} where
+  pub begin : {start start′ len : ℕ} → start + len * k .sort .size ≤ length (e .cells) → start′ + len * k .sort .size ≤ length (e′ .cells)
       → start + len * k .sort .size < 18446744073709551616 → start′ + len * k .sort .size < 18446744073709551616 → Walking k e e′ start start′ len start start′ len
-  begin start start′ len h h′ b b′ = W.begin (k .sort) _ _ _ _ (k .are e (runOf start len)) (k .are e′ (runOf start′ len)) h h′ b b′
+  begin {start} {start′} {len} h h′ b b′ = W.begin (k .sort) _ _ _ _ (k .are e (runOf start len)) (k .are e′ (runOf start′ len)) h h′ b b′
 
-  module _ (r r′ : Run) where
+  module _ {r r′ : Run} where
     pub other-length : (r .len ≡ r′ .len → ⊥) → Decides false (Agree (k .list e r) (k .list e′ r′))
     other-length h = decides-no (W.other-length (k .sort) (k .place e) (k .place e′) (e .cells) (e′ .cells) r r′ (k .are e r) (k .are e′ r′) h)
 

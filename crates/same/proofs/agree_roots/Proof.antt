@@ -2,12 +2,8 @@
 use borrow.Author.Needs.{needs}
 use borrow.Author.Tests.{not-true, not-false}
 use native.Mathlib.Omega.{arith}
-use Prim.Native.Nat.{_+_}
-use lib.ListN.{getD}
-use Rattle.same.specs.Agree.{Agree, Decides}
 use Rattle.same.specs.Shapes.{view}
 use Rattle.same.proofs.Agree.{decides-not}
-use Rattle.same.proofs.Walk.{runOf}
 use Rattle.same.proofs.Listing.{nodeLists, Walking, begin, other-length, outside-left, outside-right, step, stop, done}
 use Rattle.same.proofs.Roots.{rootEnv, as-roots}
 use Rattle.same.proofs.agree_roots.Statement.{statement}
@@ -20,40 +16,16 @@ abbrev μ-loop : tie.MeasureT-loop
 μ-loop s nodes types cells k n roots count s2 nodes2 types2 cells2 k2 m roots2 count2 at₀ left₀ at left = left
 
 returns : tie.Need-returns Inv-loop μ-loop
-returns c =
-    let a = c .before .before .before .args in
-    let v = view (a .s .now .now) (a .nodes .now .now) (a .types .now .now) (a .cells .now .now) (a .k) in
-    let v2 = view (a .s2 .now .now) (a .nodes2 .now .now) (a .types2 .now .now) (a .cells2 .now .now) (a .k2) in
-    let e = rootEnv v (a .n) (a .roots .now) in
-    let e2 = rootEnv v2 (a .m) (a .roots2 .now) in
-    as-roots v v2 (a .n) (a .m) (a .roots .now) (a .roots2 .now) (a .count) (a .count2) (other-length nodeLists e e2 (runOf 0 (a .count)) (runOf 0 (a .count2)) (c .if1 .taken))
+returns c = as-roots _ _ _ _ _ _ _ _ (other-length nodeLists (c .if1 .taken))
 
 returns-2 : tie.Need-returns-2 Inv-loop μ-loop
-returns-2 c =
-    let a = c .before .before .before .before .args in
-    let v = view (a .s .now .now) (a .nodes .now .now) (a .types .now .now) (a .cells .now .now) (a .k) in
-    let v2 = view (a .s2 .now .now) (a .nodes2 .now .now) (a .types2 .now .now) (a .cells2 .now .now) (a .k2) in
-    let e = rootEnv v (a .n) (a .roots .now) in
-    let e2 = rootEnv v2 (a .m) (a .roots2 .now) in
-    as-roots v v2 (a .n) (a .m) (a .roots .now) (a .roots2 .now) (a .count) (a .count2) (outside-left nodeLists e e2 (runOf 0 (a .count)) (runOf 0 (a .count2)) (omega (arith, c .if2 .taken)))
+returns-2 c = as-roots _ _ _ _ _ _ _ _ (outside-left nodeLists (omega (arith, c .if2 .taken)))
 
 returns-3 : tie.Need-returns-3 Inv-loop μ-loop
-returns-3 c =
-    let a = c .before .before .before .before .before .args in
-    let v = view (a .s .now .now) (a .nodes .now .now) (a .types .now .now) (a .cells .now .now) (a .k) in
-    let v2 = view (a .s2 .now .now) (a .nodes2 .now .now) (a .types2 .now .now) (a .cells2 .now .now) (a .k2) in
-    let e = rootEnv v (a .n) (a .roots .now) in
-    let e2 = rootEnv v2 (a .m) (a .roots2 .now) in
-    as-roots v v2 (a .n) (a .m) (a .roots .now) (a .roots2 .now) (a .count) (a .count2) (outside-right nodeLists e e2 (runOf 0 (a .count)) (runOf 0 (a .count2)) (c .before .before .if1 .left) (omega (arith, c .if3 .taken)))
+returns-3 c = as-roots _ _ _ _ _ _ _ _ (outside-right nodeLists (c .before .before .if1 .left) (omega (arith, c .if3 .taken)))
 
 loop-holds : tie.Need-loop-holds Inv-loop μ-loop
-loop-holds c =
-    let a = c .before .before .before .before .before .args in
-    let v = view (a .s .now .now) (a .nodes .now .now) (a .types .now .now) (a .cells .now .now) (a .k) in
-    let v2 = view (a .s2 .now .now) (a .nodes2 .now .now) (a .types2 .now .now) (a .cells2 .now .now) (a .k2) in
-    let e = rootEnv v (a .n) (a .roots .now) in
-    let e2 = rootEnv v2 (a .m) (a .roots2 .now) in
-    begin nodeLists e e2 0 0 (a .count) (omega (arith, c .before .if2 .left)) (omega (arith, c .if3 .left)) (omega (arith, c .before .before .before .before .before .fits .count)) (omega (arith, c .before .before .before .before .before .fits .count))
+loop-holds c = begin nodeLists (omega (arith, c .before .if2 .left)) (omega (arith, c .if3 .left)) (omega (arith, c .before .before .before .before .before .fits .count)) (omega (arith, c .before .before .before .before .before .fits .count))
 
 cell-requires : tie.Need-cell-requires Inv-loop μ-loop
 cell-requires c κs = search needs
@@ -66,13 +38,8 @@ agree-node-requires c κs = search needs
 
 returns-4 : tie.Need-returns-4 Inv-loop μ-loop
 returns-4 c =
-    let a = c .before .before .before .before .before .before .before .before .before .before .before .args in
-    let v = view (a .s .now .now) (a .nodes .now .now) (a .types .now .now) (a .cells .now .now) (a .k) in
-    let v2 = view (a .s2 .now .now) (a .nodes2 .now .now) (a .types2 .now .now) (a .cells2 .now .now) (a .k2) in
-    let e = rootEnv v (a .n) (a .roots .now) in
-    let e2 = rootEnv v2 (a .m) (a .roots2 .now) in
-    let q : Decides (c .before .agree-node .result) (Agree (e .node (getD (e .cells) (c .before .before .before .before .before .loop .at + 0) 0)) (e2 .node (getD (e2 .cells) (c .before .before .before .before .before .loop .at + 0) 0))) = (rw (c .before .before .before .cell .ensures, c .before .before .cell2 .ensures) at (c .before .agree-node .ensures)) in
-    as-roots v v2 (a .n) (a .m) (a .roots .now) (a .roots2 .now) (a .count) (a .count2) (stop nodeLists e e2 (runOf 0 (a .count)) (runOf 0 (a .count2)) (c .before .before .before .before .before .before .before .before .if1 .left) (c .before .before .before .before .before .loop .inv) (c .before .before .before .before .loop-test .taken) (decides-not _ (not-true _ (c .if4 .taken)) q))
+    let q = rw (c .before .before .before .cell .ensures, c .before .before .cell2 .ensures) at (c .before .agree-node .ensures) in
+    as-roots _ _ _ _ _ _ _ _ (stop nodeLists (c .before .before .before .before .before .before .before .before .if1 .left) (c .before .before .before .before .before .loop .inv) (c .before .before .before .before .loop-test .taken) (decides-not _ (not-true _ (c .if4 .taken)) q))
 
 add-at : tie.Need-add-at Inv-loop μ-loop
 add-at c = omega (arith, c .before .before .before .before .before .loop .inv .small, c .before .before .before .before .loop-test .taken)
@@ -85,22 +52,11 @@ loop-less c = omega (arith, c .before .before .before .before .loop-test .taken)
 
 loop-again : tie.Need-loop-again Inv-loop μ-loop
 loop-again c =
-    let a = c .before .before .before .before .before .before .before .before .before .before .before .args in
-    let v = view (a .s .now .now) (a .nodes .now .now) (a .types .now .now) (a .cells .now .now) (a .k) in
-    let v2 = view (a .s2 .now .now) (a .nodes2 .now .now) (a .types2 .now .now) (a .cells2 .now .now) (a .k2) in
-    let e = rootEnv v (a .n) (a .roots .now) in
-    let e2 = rootEnv v2 (a .m) (a .roots2 .now) in
-    let q : Decides (c .before .agree-node .result) (Agree (e .node (getD (e .cells) (c .before .before .before .before .before .loop .at + 0) 0)) (e2 .node (getD (e2 .cells) (c .before .before .before .before .before .loop .at + 0) 0))) = (rw (c .before .before .before .cell .ensures, c .before .before .cell2 .ensures) at (c .before .agree-node .ensures)) in
-    step nodeLists e e2 (runOf 0 (a .count)) (runOf 0 (a .count2)) (c .before .before .before .before .before .before .before .before .if1 .left) (c .before .before .before .before .before .loop .inv) (c .before .before .before .before .loop-test .taken) (q .holds (not-false _ (c .if4 .left)))
+    let q = rw (c .before .before .before .cell .ensures, c .before .before .cell2 .ensures) at (c .before .agree-node .ensures) in
+    step nodeLists (c .before .before .before .before .before .before .before .before .if1 .left) (c .before .before .before .before .before .loop .inv) (c .before .before .before .before .loop-test .taken) (q .holds (not-false _ (c .if4 .left)))
 
 returns-5 : tie.Need-returns-5 Inv-loop μ-loop
-returns-5 c =
-    let a = c .before .before .before .before .before .before .before .args in
-    let v = view (a .s .now .now) (a .nodes .now .now) (a .types .now .now) (a .cells .now .now) (a .k) in
-    let v2 = view (a .s2 .now .now) (a .nodes2 .now .now) (a .types2 .now .now) (a .cells2 .now .now) (a .k2) in
-    let e = rootEnv v (a .n) (a .roots .now) in
-    let e2 = rootEnv v2 (a .m) (a .roots2 .now) in
-    as-roots v v2 (a .n) (a .m) (a .roots .now) (a .roots2 .now) (a .count) (a .count2) (done nodeLists e e2 (runOf 0 (a .count)) (runOf 0 (a .count2)) (c .before .before .before .before .if1 .left) (c .before .loop .inv) (omega (arith, c .loop-test .left)))
+returns-5 c = as-roots _ _ _ _ _ _ _ _ (done nodeLists (c .before .before .before .before .if1 .left) (c .before .loop .inv) (omega (arith, c .loop-test .left)))
 
 pub agree-roots-spec : {M : Type 1} → statement M
 agree-roots-spec =

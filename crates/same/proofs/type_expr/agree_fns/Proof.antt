@@ -2,11 +2,7 @@
 use borrow.Author.Needs.{needs}
 use borrow.Author.Tests.{not-true, not-false}
 use native.Mathlib.Omega.{arith}
-use Prim.Native.Nat.{_+_}
-use lib.ListN.{getD}
 use Rattle.rules.specs.Shape.{words, wordIn, w, params, paramIn}
-use Rattle.ast.specs.Decode.{tokenAt, runAt}
-use Rattle.same.specs.Agree.{Agree, Decides}
 use Rattle.same.specs.Shapes.{typeEnv}
 use Rattle.same.proofs.Agree.{decides-not}
 use Rattle.same.proofs.Walk.{pair-agree, pair-parts}
@@ -21,11 +17,7 @@ abbrev μ-loop : tie.MeasureT-loop
 μ-loop s types cells n s2 types2 cells2 m at₀ at2₀ left₀ at at2 left = left
 
 returns : tie.Need-returns Inv-loop μ-loop
-returns c =
-    let a = c .before .before .before .args in
-    let e = typeEnv (a .s .now .now) (a .cells .now .now) (a .types .now .now) (a .n) in
-    let e2 = typeEnv (a .s2 .now .now) (a .cells2 .now .now) (a .types2 .now .now) (a .m) in
-    other-length fnLists e e2 (a .r) (a .r2) (c .if1 .taken)
+returns c = other-length fnLists (c .if1 .taken)
 
 cast-at : tie.Need-cast-at Inv-loop μ-loop
 cast-at c = omega arith
@@ -43,11 +35,7 @@ add-if2 : tie.Need-add-if2 Inv-loop μ-loop
 add-if2 c = omega arith
 
 returns-2 : tie.Need-returns-2 Inv-loop μ-loop
-returns-2 c =
-    let a = c .before .before .before .before .before .before .before .args in
-    let e = typeEnv (a .s .now .now) (a .cells .now .now) (a .types .now .now) (a .n) in
-    let e2 = typeEnv (a .s2 .now .now) (a .cells2 .now .now) (a .types2 .now .now) (a .m) in
-    outside-left fnLists e e2 (a .r) (a .r2) (c .if2 .taken)
+returns-2 c = outside-left fnLists (c .if2 .taken)
 
 mul-if3 : tie.Need-mul-if3 Inv-loop μ-loop
 mul-if3 c = omega arith
@@ -56,18 +44,10 @@ add-if3 : tie.Need-add-if3 Inv-loop μ-loop
 add-if3 c = omega arith
 
 returns-3 : tie.Need-returns-3 Inv-loop μ-loop
-returns-3 c =
-    let a = c .before .before .before .before .before .before .before .before .args in
-    let e = typeEnv (a .s .now .now) (a .cells .now .now) (a .types .now .now) (a .n) in
-    let e2 = typeEnv (a .s2 .now .now) (a .cells2 .now .now) (a .types2 .now .now) (a .m) in
-    outside-right fnLists e e2 (a .r) (a .r2) (c .before .before .before .before .before .if1 .left) (c .if3 .taken)
+returns-3 c = outside-right fnLists (c .before .before .before .before .before .if1 .left) (c .if3 .taken)
 
 loop-holds : tie.Need-loop-holds Inv-loop μ-loop
-loop-holds c =
-    let a = c .before .before .before .before .before .before .before .before .args in
-    let e = typeEnv (a .s .now .now) (a .cells .now .now) (a .types .now .now) (a .n) in
-    let e2 = typeEnv (a .s2 .now .now) (a .cells2 .now .now) (a .types2 .now .now) (a .m) in
-    begin fnLists e e2 _ _ _ (c .before .if2 .left) (c .if3 .left) (omega arith) (omega arith)
+loop-holds c = begin fnLists (c .before .if2 .left) (c .if3 .left) (omega arith) (omega arith)
 
 run-at-requires : tie.Need-run-at-requires Inv-loop μ-loop
 run-at-requires c κs = search needs
@@ -81,11 +61,8 @@ agree-words-requires c κs = search needs
 returns-4 : tie.Need-returns-4 Inv-loop μ-loop
 unfolding words wordIn w params paramIn
 returns-4 c =
-    let a = c .before .before .before .before .before .before .before .before .before .before .before .before .before .before .before .before .before .before .before .before .args in
-    let e = typeEnv (a .s .now .now) (a .cells .now .now) (a .types .now .now) (a .n) in
-    let e2 = typeEnv (a .s2 .now .now) (a .cells2 .now .now) (a .types2 .now .now) (a .m) in
-    let p : Decides (c .before .agree-words .result) (Agree (words e (runAt (e .cells) (c .before .before .before .before .before .before .before .before .before .before .before .loop .at))) (words e2 (runAt (e2 .cells) (c .before .before .before .before .before .before .before .before .before .before .before .loop .at2)))) = (rw (c .before .before .before .before .before .before .run-at .ensures, c .before .before .run-at2 .ensures) at (c .before .agree-words .ensures)) in
-    stop fnLists e e2 (a .r) (a .r2) (c .before .before .before .before .before .before .before .before .before .before .before .before .before .before .before .before .before .if1 .left) (c .before .before .before .before .before .before .before .before .before .before .before .loop .inv) (c .before .before .before .before .before .before .before .before .before .before .loop-test .taken) (λ b. decides-not _ (not-true _ (c .if4 .taken)) p (pair-parts _ _ _ _ (pair-parts _ _ _ _ (pair-parts _ _ _ _ b .0) .0) .0))
+    let p = rw (c .before .before .before .before .before .before .run-at .ensures, c .before .before .run-at2 .ensures) at (c .before .agree-words .ensures) in
+    stop fnLists (c .before .before .before .before .before .before .before .before .before .before .before .before .before .before .before .before .before .if1 .left) (c .before .before .before .before .before .before .before .before .before .before .before .loop .inv) (c .before .before .before .before .before .before .before .before .before .before .loop-test .taken) (λ b. decides-not _ (not-true _ (c .if4 .taken)) p (pair-parts _ _ _ _ (pair-parts _ _ _ _ (pair-parts _ _ _ _ b .0) .0) .0))
 
 add-token-at : tie.Need-add-token-at Inv-loop μ-loop
 add-token-at c = omega (arith, c .before .before .before .before .before .before .before .before .before .before .before .before .before .loop .inv .small, c .before .before .before .before .before .before .before .before .before .before .before .before .loop-test .taken)
@@ -105,11 +82,8 @@ agree-token-requires c κs = search needs
 returns-5 : tie.Need-returns-5 Inv-loop μ-loop
 unfolding words wordIn w params paramIn
 returns-5 c =
-    let a = c .before .before .before .before .before .before .before .before .before .before .before .before .before .before .before .before .before .before .before .before .before .before .before .before .before .before .before .before .args in
-    let e = typeEnv (a .s .now .now) (a .cells .now .now) (a .types .now .now) (a .n) in
-    let e2 = typeEnv (a .s2 .now .now) (a .cells2 .now .now) (a .types2 .now .now) (a .m) in
-    let d : Decides (c .before .agree-token .result) (Agree (w e (tokenAt (e .cells) (c .before .before .before .before .before .before .before .before .before .before .before .before .before .before .before .before .before .before .before .loop .at + 2))) (w e2 (tokenAt (e2 .cells) (c .before .before .before .before .before .before .before .before .before .before .before .before .before .before .before .before .before .before .before .loop .at2 + 2)))) = (rw (c .before .before .before .before .before .token-at .ensures, c .before .before .token-at2 .ensures) at (c .before .agree-token .ensures)) in
-    stop fnLists e e2 (a .r) (a .r2) (c .before .before .before .before .before .before .before .before .before .before .before .before .before .before .before .before .before .before .before .before .before .before .before .before .before .if1 .left) (c .before .before .before .before .before .before .before .before .before .before .before .before .before .before .before .before .before .before .before .loop .inv) (c .before .before .before .before .before .before .before .before .before .before .before .before .before .before .before .before .before .before .loop-test .taken) (λ b. decides-not _ (not-true _ (c .if5 .taken)) d (pair-parts _ _ _ _ (pair-parts _ _ _ _ (pair-parts _ _ _ _ b .0) .0) .1))
+    let d = rw (c .before .before .before .before .before .token-at .ensures, c .before .before .token-at2 .ensures) at (c .before .agree-token .ensures) in
+    stop fnLists (c .before .before .before .before .before .before .before .before .before .before .before .before .before .before .before .before .before .before .before .before .before .before .before .before .before .if1 .left) (c .before .before .before .before .before .before .before .before .before .before .before .before .before .before .before .before .before .before .before .loop .inv) (c .before .before .before .before .before .before .before .before .before .before .before .before .before .before .before .before .before .before .loop-test .taken) (λ b. decides-not _ (not-true _ (c .if5 .taken)) d (pair-parts _ _ _ _ (pair-parts _ _ _ _ (pair-parts _ _ _ _ b .0) .0) .1))
 
 add-run-at : tie.Need-add-run-at Inv-loop μ-loop
 add-run-at c = omega (arith, c .before .before .before .before .before .before .before .before .before .before .before .before .before .before .before .before .before .before .before .before .loop .inv .small, c .before .before .before .before .before .before .before .before .before .before .before .before .before .before .before .before .before .before .before .loop-test .taken)
@@ -129,11 +103,8 @@ agree-params-requires c κs = search needs
 returns-6 : tie.Need-returns-6 Inv-loop μ-loop
 unfolding words wordIn w params paramIn
 returns-6 c =
-    let a = c .before .before .before .before .before .before .before .before .before .before .before .before .before .before .before .before .before .before .before .before .before .before .before .before .before .before .before .before .before .before .before .before .before .before .args in
-    let e = typeEnv (a .s .now .now) (a .cells .now .now) (a .types .now .now) (a .n) in
-    let e2 = typeEnv (a .s2 .now .now) (a .cells2 .now .now) (a .types2 .now .now) (a .m) in
-    let q : Decides (c .before .agree-params .result) (Agree (params e (runAt (e .cells) (c .before .before .before .before .before .before .before .before .before .before .before .before .before .before .before .before .before .before .before .before .before .before .before .before .before .loop .at + 5))) (params e2 (runAt (e2 .cells) (c .before .before .before .before .before .before .before .before .before .before .before .before .before .before .before .before .before .before .before .before .before .before .before .before .before .loop .at2 + 5)))) = (rw (c .before .before .before .before .run-at3 .ensures, c .before .before .run-at4 .ensures) at (c .before .agree-params .ensures)) in
-    stop fnLists e e2 (a .r) (a .r2) (c .before .before .before .before .before .before .before .before .before .before .before .before .before .before .before .before .before .before .before .before .before .before .before .before .before .before .before .before .before .before .before .if1 .left) (c .before .before .before .before .before .before .before .before .before .before .before .before .before .before .before .before .before .before .before .before .before .before .before .before .before .loop .inv) (c .before .before .before .before .before .before .before .before .before .before .before .before .before .before .before .before .before .before .before .before .before .before .before .before .loop-test .taken) (λ b. decides-not _ (not-true _ (c .if6 .taken)) q (pair-parts _ _ _ _ (pair-parts _ _ _ _ b .0) .1))
+    let q = rw (c .before .before .before .before .run-at3 .ensures, c .before .before .run-at4 .ensures) at (c .before .agree-params .ensures) in
+    stop fnLists (c .before .before .before .before .before .before .before .before .before .before .before .before .before .before .before .before .before .before .before .before .before .before .before .before .before .before .before .before .before .before .before .if1 .left) (c .before .before .before .before .before .before .before .before .before .before .before .before .before .before .before .before .before .before .before .before .before .before .before .before .before .loop .inv) (c .before .before .before .before .before .before .before .before .before .before .before .before .before .before .before .before .before .before .before .before .before .before .before .before .loop-test .taken) (λ b. decides-not _ (not-true _ (c .if6 .taken)) q (pair-parts _ _ _ _ (pair-parts _ _ _ _ b .0) .1))
 
 cell-requires : tie.Need-cell-requires Inv-loop μ-loop
 cell-requires c κs = search needs
@@ -147,11 +118,8 @@ agree-type-requires c κs = search needs
 returns-7 : tie.Need-returns-7 Inv-loop μ-loop
 unfolding words wordIn w params paramIn
 returns-7 c =
-    let a = c .before .before .before .before .before .before .before .before .before .before .before .before .before .before .before .before .before .before .before .before .before .before .before .before .before .before .before .before .before .before .before .before .before .before .before .before .before .before .before .before .args in
-    let e = typeEnv (a .s .now .now) (a .cells .now .now) (a .types .now .now) (a .n) in
-    let e2 = typeEnv (a .s2 .now .now) (a .cells2 .now .now) (a .types2 .now .now) (a .m) in
-    let z : Decides (c .before .agree-type .result) (Agree (e .type (getD (e .cells) (c .before .before .before .before .before .before .before .before .before .before .before .before .before .before .before .before .before .before .before .before .before .before .before .before .before .before .before .before .before .before .before .loop .at + 7) 0)) (e2 .type (getD (e2 .cells) (c .before .before .before .before .before .before .before .before .before .before .before .before .before .before .before .before .before .before .before .before .before .before .before .before .before .before .before .before .before .before .before .loop .at2 + 7) 0))) = (rw (c .before .before .before .before .cell .ensures, c .before .before .cell2 .ensures) at (c .before .agree-type .ensures)) in
-    stop fnLists e e2 (a .r) (a .r2) (c .before .before .before .before .before .before .before .before .before .before .before .before .before .before .before .before .before .before .before .before .before .before .before .before .before .before .before .before .before .before .before .before .before .before .before .before .before .if1 .left) (c .before .before .before .before .before .before .before .before .before .before .before .before .before .before .before .before .before .before .before .before .before .before .before .before .before .before .before .before .before .before .before .loop .inv) (c .before .before .before .before .before .before .before .before .before .before .before .before .before .before .before .before .before .before .before .before .before .before .before .before .before .before .before .before .before .before .loop-test .taken) (λ b. decides-not _ (not-true _ (c .if7 .taken)) z (pair-parts _ _ _ _ b .1))
+    let z = rw (c .before .before .before .before .cell .ensures, c .before .before .cell2 .ensures) at (c .before .agree-type .ensures) in
+    stop fnLists (c .before .before .before .before .before .before .before .before .before .before .before .before .before .before .before .before .before .before .before .before .before .before .before .before .before .before .before .before .before .before .before .before .before .before .before .before .before .if1 .left) (c .before .before .before .before .before .before .before .before .before .before .before .before .before .before .before .before .before .before .before .before .before .before .before .before .before .before .before .before .before .before .before .loop .inv) (c .before .before .before .before .before .before .before .before .before .before .before .before .before .before .before .before .before .before .before .before .before .before .before .before .before .before .before .before .before .before .loop-test .taken) (λ b. decides-not _ (not-true _ (c .if7 .taken)) z (pair-parts _ _ _ _ b .1))
 
 add-at : tie.Need-add-at Inv-loop μ-loop
 add-at c = omega (arith, c .before .before .before .before .before .before .before .before .before .before .before .before .before .before .before .before .before .before .before .before .before .before .before .before .before .before .before .before .before .before .before .loop .inv .small, c .before .before .before .before .before .before .before .before .before .before .before .before .before .before .before .before .before .before .before .before .before .before .before .before .before .before .before .before .before .before .loop-test .taken)
@@ -168,21 +136,14 @@ loop-less c = omega (arith, c .before .before .before .before .before .before .b
 loop-again : tie.Need-loop-again Inv-loop μ-loop
 unfolding words wordIn w params paramIn
 loop-again c =
-    let a = c .before .before .before .before .before .before .before .before .before .before .before .before .before .before .before .before .before .before .before .before .before .before .before .before .before .before .before .before .before .before .before .before .before .before .before .before .before .before .before .before .args in
-    let e = typeEnv (a .s .now .now) (a .cells .now .now) (a .types .now .now) (a .n) in
-    let e2 = typeEnv (a .s2 .now .now) (a .cells2 .now .now) (a .types2 .now .now) (a .m) in
-    let p : Decides (c .before .before .before .before .before .before .before .before .before .before .before .before .before .before .before .before .before .before .before .before .before .agree-words .result) (Agree (words e (runAt (e .cells) (c .before .before .before .before .before .before .before .before .before .before .before .before .before .before .before .before .before .before .before .before .before .before .before .before .before .before .before .before .before .before .before .loop .at))) (words e2 (runAt (e2 .cells) (c .before .before .before .before .before .before .before .before .before .before .before .before .before .before .before .before .before .before .before .before .before .before .before .before .before .before .before .before .before .before .before .loop .at2)))) = (rw (c .before .before .before .before .before .before .before .before .before .before .before .before .before .before .before .before .before .before .before .before .before .before .before .before .before .before .run-at .ensures, c .before .before .before .before .before .before .before .before .before .before .before .before .before .before .before .before .before .before .before .before .before .before .run-at2 .ensures) at (c .before .before .before .before .before .before .before .before .before .before .before .before .before .before .before .before .before .before .before .before .before .agree-words .ensures)) in
-    let d : Decides (c .before .before .before .before .before .before .before .before .before .before .before .before .before .agree-token .result) (Agree (w e (tokenAt (e .cells) (c .before .before .before .before .before .before .before .before .before .before .before .before .before .before .before .before .before .before .before .before .before .before .before .before .before .before .before .before .before .before .before .loop .at + 2))) (w e2 (tokenAt (e2 .cells) (c .before .before .before .before .before .before .before .before .before .before .before .before .before .before .before .before .before .before .before .before .before .before .before .before .before .before .before .before .before .before .before .loop .at2 + 2)))) = (rw (c .before .before .before .before .before .before .before .before .before .before .before .before .before .before .before .before .before .token-at .ensures, c .before .before .before .before .before .before .before .before .before .before .before .before .before .before .token-at2 .ensures) at (c .before .before .before .before .before .before .before .before .before .before .before .before .before .agree-token .ensures)) in
-    let q : Decides (c .before .before .before .before .before .before .before .agree-params .result) (Agree (params e (runAt (e .cells) (c .before .before .before .before .before .before .before .before .before .before .before .before .before .before .before .before .before .before .before .before .before .before .before .before .before .before .before .before .before .before .before .loop .at + 5))) (params e2 (runAt (e2 .cells) (c .before .before .before .before .before .before .before .before .before .before .before .before .before .before .before .before .before .before .before .before .before .before .before .before .before .before .before .before .before .before .before .loop .at2 + 5)))) = (rw (c .before .before .before .before .before .before .before .before .before .before .run-at3 .ensures, c .before .before .before .before .before .before .before .before .run-at4 .ensures) at (c .before .before .before .before .before .before .before .agree-params .ensures)) in
-    let z : Decides (c .before .agree-type .result) (Agree (e .type (getD (e .cells) (c .before .before .before .before .before .before .before .before .before .before .before .before .before .before .before .before .before .before .before .before .before .before .before .before .before .before .before .before .before .before .before .loop .at + 7) 0)) (e2 .type (getD (e2 .cells) (c .before .before .before .before .before .before .before .before .before .before .before .before .before .before .before .before .before .before .before .before .before .before .before .before .before .before .before .before .before .before .before .loop .at2 + 7) 0))) = (rw (c .before .before .before .before .cell .ensures, c .before .before .cell2 .ensures) at (c .before .agree-type .ensures)) in
-    step fnLists e e2 (a .r) (a .r2) (c .before .before .before .before .before .before .before .before .before .before .before .before .before .before .before .before .before .before .before .before .before .before .before .before .before .before .before .before .before .before .before .before .before .before .before .before .before .if1 .left) (c .before .before .before .before .before .before .before .before .before .before .before .before .before .before .before .before .before .before .before .before .before .before .before .before .before .before .before .before .before .before .before .loop .inv) (c .before .before .before .before .before .before .before .before .before .before .before .before .before .before .before .before .before .before .before .before .before .before .before .before .before .before .before .before .before .before .loop-test .taken) (pair-agree (pair-agree (pair-agree (p .holds (not-false _ (c .before .before .before .before .before .before .before .before .before .before .before .before .before .before .before .before .before .before .before .before .if4 .left))) (d .holds (not-false _ (c .before .before .before .before .before .before .before .before .before .before .before .before .if5 .left)))) (q .holds (not-false _ (c .before .before .before .before .before .before .if6 .left)))) (z .holds (not-false _ (c .if7 .left))))
+    let p = rw (c .before .before .before .before .before .before .before .before .before .before .before .before .before .before .before .before .before .before .before .before .before .before .before .before .before .before .run-at .ensures, c .before .before .before .before .before .before .before .before .before .before .before .before .before .before .before .before .before .before .before .before .before .before .run-at2 .ensures) at (c .before .before .before .before .before .before .before .before .before .before .before .before .before .before .before .before .before .before .before .before .before .agree-words .ensures) in
+    let d = rw (c .before .before .before .before .before .before .before .before .before .before .before .before .before .before .before .before .before .token-at .ensures, c .before .before .before .before .before .before .before .before .before .before .before .before .before .before .token-at2 .ensures) at (c .before .before .before .before .before .before .before .before .before .before .before .before .before .agree-token .ensures) in
+    let q = rw (c .before .before .before .before .before .before .before .before .before .before .run-at3 .ensures, c .before .before .before .before .before .before .before .before .run-at4 .ensures) at (c .before .before .before .before .before .before .before .agree-params .ensures) in
+    let z = rw (c .before .before .before .before .cell .ensures, c .before .before .cell2 .ensures) at (c .before .agree-type .ensures) in
+    step fnLists (c .before .before .before .before .before .before .before .before .before .before .before .before .before .before .before .before .before .before .before .before .before .before .before .before .before .before .before .before .before .before .before .before .before .before .before .before .before .if1 .left) (c .before .before .before .before .before .before .before .before .before .before .before .before .before .before .before .before .before .before .before .before .before .before .before .before .before .before .before .before .before .before .before .loop .inv) (c .before .before .before .before .before .before .before .before .before .before .before .before .before .before .before .before .before .before .before .before .before .before .before .before .before .before .before .before .before .before .loop-test .taken) (pair-agree (pair-agree (pair-agree (p .holds (not-false _ (c .before .before .before .before .before .before .before .before .before .before .before .before .before .before .before .before .before .before .before .before .if4 .left))) (d .holds (not-false _ (c .before .before .before .before .before .before .before .before .before .before .before .before .if5 .left)))) (q .holds (not-false _ (c .before .before .before .before .before .before .if6 .left)))) (z .holds (not-false _ (c .if7 .left))))
 
 returns-8 : tie.Need-returns-8 Inv-loop μ-loop
-returns-8 c =
-    let a = c .before .before .before .before .before .before .before .before .before .before .args in
-    let e = typeEnv (a .s .now .now) (a .cells .now .now) (a .types .now .now) (a .n) in
-    let e2 = typeEnv (a .s2 .now .now) (a .cells2 .now .now) (a .types2 .now .now) (a .m) in
-    done fnLists e e2 (a .r) (a .r2) (c .before .before .before .before .before .before .before .if1 .left) (c .before .loop .inv) (omega arith)
+returns-8 c = done fnLists (c .before .before .before .before .before .before .before .if1 .left) (c .before .loop .inv) (omega arith)
 
 pub agree-fns-spec : {M : Type 1} → statement M
 agree-fns-spec =

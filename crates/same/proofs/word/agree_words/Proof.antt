@@ -3,10 +3,8 @@ use borrow.Author.Needs.{needs}
 use borrow.Author.Tests.{not-true, not-false}
 use native.Mathlib.Omega.{arith}
 use Rattle.rules.specs.Shape.{w}
-use Rattle.same.specs.Agree.{Agree, Decides}
 use Rattle.same.specs.Shapes.{wordEnv}
 use Rattle.same.proofs.Agree.{decides-not}
-use Rattle.same.proofs.Walk.{wordAt}
 use Rattle.same.proofs.Listing.{wordLists, Walking, begin, other-length, outside-left, outside-right, step, stop, done}
 use Rattle.same.proofs.word.agree_words.Statement.{statement}
 use Rattle.same.proofs.word.agree_words.Tie as tie
@@ -18,7 +16,7 @@ abbrev μ-loop : tie.MeasureT-loop
 μ-loop s cells s2 cells2 at₀ at2₀ left₀ at at2 left = left
 
 returns : tie.Need-returns Inv-loop μ-loop
-returns c = other-length wordLists (wordEnv (c .before .before .before .before .before .before .before .args .s .now) (c .before .before .before .before .before .before .before .args .cells .now)) (wordEnv (c .before .before .before .before .before .before .before .args .s2 .now) (c .before .before .before .before .before .before .before .args .cells2 .now)) (c .before .before .before .before .before .before .before .args .r) (c .before .before .before .before .before .before .before .args .r2) (c .if1 .taken)
+returns c = other-length wordLists (c .if1 .taken)
 
 cast-at : tie.Need-cast-at Inv-loop μ-loop
 cast-at c = omega arith
@@ -36,7 +34,7 @@ add-if2 : tie.Need-add-if2 Inv-loop μ-loop
 add-if2 c = omega arith
 
 returns-2 : tie.Need-returns-2 Inv-loop μ-loop
-returns-2 c = outside-left wordLists (wordEnv (c .before .before .before .before .before .before .before .before .before .before .before .args .s .now) (c .before .before .before .before .before .before .before .before .before .before .before .args .cells .now)) (wordEnv (c .before .before .before .before .before .before .before .before .before .before .before .args .s2 .now) (c .before .before .before .before .before .before .before .before .before .before .before .args .cells2 .now)) (c .before .before .before .before .before .before .before .before .before .before .before .args .r) (c .before .before .before .before .before .before .before .before .before .before .before .args .r2) (c .if2 .taken)
+returns-2 c = outside-left wordLists (c .if2 .taken)
 
 mul-if3 : tie.Need-mul-if3 Inv-loop μ-loop
 mul-if3 c = omega arith
@@ -45,10 +43,10 @@ add-if3 : tie.Need-add-if3 Inv-loop μ-loop
 add-if3 c = omega arith
 
 returns-3 : tie.Need-returns-3 Inv-loop μ-loop
-returns-3 c = outside-right wordLists (wordEnv (c .before .before .before .before .before .before .before .before .before .before .before .before .args .s .now) (c .before .before .before .before .before .before .before .before .before .before .before .before .args .cells .now)) (wordEnv (c .before .before .before .before .before .before .before .before .before .before .before .before .args .s2 .now) (c .before .before .before .before .before .before .before .before .before .before .before .before .args .cells2 .now)) (c .before .before .before .before .before .before .before .before .before .before .before .before .args .r) (c .before .before .before .before .before .before .before .before .before .before .before .before .args .r2) (c .before .before .before .before .before .if1 .left) (c .if3 .taken)
+returns-3 c = outside-right wordLists (c .before .before .before .before .before .if1 .left) (c .if3 .taken)
 
 loop-holds : tie.Need-loop-holds Inv-loop μ-loop
-loop-holds c = begin wordLists (wordEnv (c .before .before .before .before .before .before .before .before .before .before .before .before .args .s .now) (c .before .before .before .before .before .before .before .before .before .before .before .before .args .cells .now)) (wordEnv (c .before .before .before .before .before .before .before .before .before .before .before .before .args .s2 .now) (c .before .before .before .before .before .before .before .before .before .before .before .before .args .cells2 .now)) _ _ _ (c .before .if2 .left) (c .if3 .left) (omega arith) (omega arith)
+loop-holds c = begin wordLists (c .before .if2 .left) (c .if3 .left) (omega arith) (omega arith)
 
 token-at-requires : tie.Need-token-at-requires Inv-loop μ-loop
 token-at-requires c κs = search needs
@@ -62,8 +60,8 @@ agree-token-requires c κs = search needs
 returns-4 : tie.Need-returns-4 Inv-loop μ-loop
 unfolding w
 returns-4 c =
-    let d : Decides (c .before .agree-token .result) (Agree (wordAt (wordEnv (c .before .before .before .before .before .before .before .before .before .before .before .before .before .before .before .before .before .before .args .s .now) (c .before .before .before .before .before .before .before .before .before .before .before .before .before .before .before .before .before .before .args .cells .now)) (c .before .before .before .before .before .loop .at)) (wordAt (wordEnv (c .before .before .before .before .before .before .before .before .before .before .before .before .before .before .before .before .before .before .args .s2 .now) (c .before .before .before .before .before .before .before .before .before .before .before .before .before .before .before .before .before .before .args .cells2 .now)) (c .before .before .before .before .before .loop .at2))) = (rw (c .before .before .before .token-at .ensures, c .before .before .token-at2 .ensures) at (c .before .agree-token .ensures)) in
-    stop wordLists (wordEnv (c .before .before .before .before .before .before .before .before .before .before .before .before .before .before .before .before .before .before .args .s .now) (c .before .before .before .before .before .before .before .before .before .before .before .before .before .before .before .before .before .before .args .cells .now)) (wordEnv (c .before .before .before .before .before .before .before .before .before .before .before .before .before .before .before .before .before .before .args .s2 .now) (c .before .before .before .before .before .before .before .before .before .before .before .before .before .before .before .before .before .before .args .cells2 .now)) (c .before .before .before .before .before .before .before .before .before .before .before .before .before .before .before .before .before .before .args .r) (c .before .before .before .before .before .before .before .before .before .before .before .before .before .before .before .before .before .before .args .r2) (c .before .before .before .before .before .before .before .before .before .before .before .if1 .left) (c .before .before .before .before .before .loop .inv) (c .before .before .before .before .loop-test .taken) (decides-not _ (not-true _ (c .if4 .taken)) d)
+    let d = rw (c .before .before .before .token-at .ensures, c .before .before .token-at2 .ensures) at (c .before .agree-token .ensures) in
+    stop wordLists (c .before .before .before .before .before .before .before .before .before .before .before .if1 .left) (c .before .before .before .before .before .loop .inv) (c .before .before .before .before .loop-test .taken) (decides-not _ (not-true _ (c .if4 .taken)) d)
 
 add-at : tie.Need-add-at Inv-loop μ-loop
 add-at c = omega (arith, c .before .before .before .before .before .loop .inv .small)
@@ -80,11 +78,11 @@ loop-less c = omega arith
 loop-again : tie.Need-loop-again Inv-loop μ-loop
 unfolding w
 loop-again c =
-    let d : Decides (c .before .agree-token .result) (Agree (wordAt (wordEnv (c .before .before .before .before .before .before .before .before .before .before .before .before .before .before .before .before .before .before .args .s .now) (c .before .before .before .before .before .before .before .before .before .before .before .before .before .before .before .before .before .before .args .cells .now)) (c .before .before .before .before .before .loop .at)) (wordAt (wordEnv (c .before .before .before .before .before .before .before .before .before .before .before .before .before .before .before .before .before .before .args .s2 .now) (c .before .before .before .before .before .before .before .before .before .before .before .before .before .before .before .before .before .before .args .cells2 .now)) (c .before .before .before .before .before .loop .at2))) = (rw (c .before .before .before .token-at .ensures, c .before .before .token-at2 .ensures) at (c .before .agree-token .ensures)) in
-    step wordLists (wordEnv (c .before .before .before .before .before .before .before .before .before .before .before .before .before .before .before .before .before .before .args .s .now) (c .before .before .before .before .before .before .before .before .before .before .before .before .before .before .before .before .before .before .args .cells .now)) (wordEnv (c .before .before .before .before .before .before .before .before .before .before .before .before .before .before .before .before .before .before .args .s2 .now) (c .before .before .before .before .before .before .before .before .before .before .before .before .before .before .before .before .before .before .args .cells2 .now)) (c .before .before .before .before .before .before .before .before .before .before .before .before .before .before .before .before .before .before .args .r) (c .before .before .before .before .before .before .before .before .before .before .before .before .before .before .before .before .before .before .args .r2) (c .before .before .before .before .before .before .before .before .before .before .before .if1 .left) (c .before .before .before .before .before .loop .inv) (c .before .before .before .before .loop-test .taken) (d .holds (not-false _ (c .if4 .left)))
+    let d = rw (c .before .before .before .token-at .ensures, c .before .before .token-at2 .ensures) at (c .before .agree-token .ensures) in
+    step wordLists (c .before .before .before .before .before .before .before .before .before .before .before .if1 .left) (c .before .before .before .before .before .loop .inv) (c .before .before .before .before .loop-test .taken) (d .holds (not-false _ (c .if4 .left)))
 
 returns-5 : tie.Need-returns-5 Inv-loop μ-loop
-returns-5 c = done wordLists (wordEnv (c .before .before .before .before .before .before .before .before .before .before .before .before .before .before .args .s .now) (c .before .before .before .before .before .before .before .before .before .before .before .before .before .before .args .cells .now)) (wordEnv (c .before .before .before .before .before .before .before .before .before .before .before .before .before .before .args .s2 .now) (c .before .before .before .before .before .before .before .before .before .before .before .before .before .before .args .cells2 .now)) (c .before .before .before .before .before .before .before .before .before .before .before .before .before .before .args .r) (c .before .before .before .before .before .before .before .before .before .before .before .before .before .before .args .r2) (c .before .before .before .before .before .before .before .if1 .left) (c .before .loop .inv) (omega arith)
+returns-5 c = done wordLists (c .before .before .before .before .before .before .before .if1 .left) (c .before .loop .inv) (omega arith)
 
 pub agree-words-spec : {M : Type 1} → statement M
 agree-words-spec =

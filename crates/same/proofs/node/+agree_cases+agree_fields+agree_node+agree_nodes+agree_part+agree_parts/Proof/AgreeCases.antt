@@ -1,11 +1,6 @@
 -- `agree-cases` meets its contract.
 use borrow.Author.Tests.{not-true, not-false}
-use Prim.Native.Nat.{_+_}
-use lib.ListN.{getD}
-use Rattle.same.specs.Agree.{Agree, Decides}
 use Rattle.same.specs.Shapes.{view, envBelow}
-use Rattle.rules.specs.Shape.{shapes}
-use Rattle.ast.specs.Decode.{runAt}
 use Rattle.same.proofs.Agree.{decides-not}
 use Rattle.same.proofs.Walk.{pair-agree, pair-parts}
 use Rattle.same.proofs.Listing.{caseLists, Walking, begin, other-length, outside-left, outside-right, step, stop, done}
@@ -30,83 +25,38 @@ abbrev μ-loop : lts.MeasureT-loop
 μ-loop s nodes types cells k i s2 nodes2 types2 cells2 k2 j at₀ at2₀ left₀ at at2 left = left
 
 returns : (t : ℕ) → lts.Need-returns (claims t) (agree-cases-at t) agree-cases.Post Inv-loop μ-loop
-returns t c =
-    let a = c .before .before .before .args in
-    let v = view (a .s .now .now) (a .nodes .now .now) (a .types .now .now) (a .cells .now .now) (a .k) in
-    let v2 = view (a .s2 .now .now) (a .nodes2 .now .now) (a .types2 .now .now) (a .cells2 .now .now) (a .k2) in
-    let e = envBelow v (a .i) in
-    let e2 = envBelow v2 (a .j) in
-    other-length caseLists e e2 (a .r) (a .r2) (c .if1 .taken)
+returns t c = other-length caseLists (c .if1 .taken)
 
 returns-2 : (t : ℕ) → lts.Need-returns-2 (claims t) (agree-cases-at t) agree-cases.Post Inv-loop μ-loop
-returns-2 t c =
-    let a = c .before .before .before .before .before .before .before .args in
-    let v = view (a .s .now .now) (a .nodes .now .now) (a .types .now .now) (a .cells .now .now) (a .k) in
-    let v2 = view (a .s2 .now .now) (a .nodes2 .now .now) (a .types2 .now .now) (a .cells2 .now .now) (a .k2) in
-    let e = envBelow v (a .i) in
-    let e2 = envBelow v2 (a .j) in
-    outside-left caseLists e e2 (a .r) (a .r2) (c .if2 .taken)
+returns-2 t c = outside-left caseLists (c .if2 .taken)
 
 returns-3 : (t : ℕ) → lts.Need-returns-3 (claims t) (agree-cases-at t) agree-cases.Post Inv-loop μ-loop
-returns-3 t c =
-    let a = c .before .before .before .before .before .before .before .before .args in
-    let v = view (a .s .now .now) (a .nodes .now .now) (a .types .now .now) (a .cells .now .now) (a .k) in
-    let v2 = view (a .s2 .now .now) (a .nodes2 .now .now) (a .types2 .now .now) (a .cells2 .now .now) (a .k2) in
-    let e = envBelow v (a .i) in
-    let e2 = envBelow v2 (a .j) in
-    outside-right caseLists e e2 (a .r) (a .r2) (c .before .before .before .before .before .if1 .left) (c .if3 .taken)
+returns-3 t c = outside-right caseLists (c .before .before .before .before .before .if1 .left) (c .if3 .taken)
 
 loop-holds : (t : ℕ) → lts.Need-loop-holds (claims t) (agree-cases-at t) agree-cases.Post Inv-loop μ-loop
-loop-holds t c =
-    let a = c .before .before .before .before .before .before .before .before .args in
-    let v = view (a .s .now .now) (a .nodes .now .now) (a .types .now .now) (a .cells .now .now) (a .k) in
-    let v2 = view (a .s2 .now .now) (a .nodes2 .now .now) (a .types2 .now .now) (a .cells2 .now .now) (a .k2) in
-    let e = envBelow v (a .i) in
-    let e2 = envBelow v2 (a .j) in
-    begin caseLists e e2 _ _ _ (c .before .if2 .left) (c .if3 .left) (omega arith) (omega arith)
+loop-holds t c = begin caseLists (c .before .if2 .left) (c .if3 .left) (omega arith) (omega arith)
 
 returns-4 : (t : ℕ) → lts.Need-returns-4 (claims t) (agree-cases-at t) agree-cases.Post Inv-loop μ-loop
 returns-4 t c =
-    let a = c .before .before .before .before .before .before .before .before .before .before .before .before .before .before .before .before .args in
-    let v = view (a .s .now .now) (a .nodes .now .now) (a .types .now .now) (a .cells .now .now) (a .k) in
-    let v2 = view (a .s2 .now .now) (a .nodes2 .now .now) (a .types2 .now .now) (a .cells2 .now .now) (a .k2) in
-    let e = envBelow v (a .i) in
-    let e2 = envBelow v2 (a .j) in
-    let q : Decides (c .before .agree-node .result) (Agree (e .node (getD (e .cells) (c .before .before .before .before .before .before .before .loop .at + 3) 0)) (e2 .node (getD (e2 .cells) (c .before .before .before .before .before .before .before .loop .at2 + 3) 0))) = (rw (c .before .before .before .before .cell .ensures, c .before .before .cell2 .ensures) at (c .before .agree-node .ensures)) in
-    stop caseLists e e2 (a .r) (a .r2) (c .before .before .before .before .before .before .before .before .before .before .before .before .before .if1 .left) (c .before .before .before .before .before .before .before .loop .inv) (c .before .before .before .before .before .before .loop-test .taken) (λ b. decides-not _ (not-true _ (c .if4 .taken)) q (pair-parts _ _ _ _ b .0))
+    let q = rw (c .before .before .before .before .cell .ensures, c .before .before .cell2 .ensures) at (c .before .agree-node .ensures) in
+    stop caseLists (c .before .before .before .before .before .before .before .before .before .before .before .before .before .if1 .left) (c .before .before .before .before .before .before .before .loop .inv) (c .before .before .before .before .before .before .loop-test .taken) (λ b. decides-not _ (not-true _ (c .if4 .taken)) q (pair-parts _ _ _ _ b .0))
 
 returns-5 : (t : ℕ) → lts.Need-returns-5 (claims t) (agree-cases-at t) agree-cases.Post Inv-loop μ-loop
 returns-5 t c =
-    let a = c .before .before .before .before .before .before .before .before .before .before .before .before .before .before .before .before .before .before .before .before .before .before .args in
-    let v = view (a .s .now .now) (a .nodes .now .now) (a .types .now .now) (a .cells .now .now) (a .k) in
-    let v2 = view (a .s2 .now .now) (a .nodes2 .now .now) (a .types2 .now .now) (a .cells2 .now .now) (a .k2) in
-    let e = envBelow v (a .i) in
-    let e2 = envBelow v2 (a .j) in
-    let p : Decides (c .before .agree-nodes .result) (Agree (shapes e (runAt (e .cells) (c .before .before .before .before .before .before .before .before .before .before .before .before .before .loop .at + 4))) (shapes e2 (runAt (e2 .cells) (c .before .before .before .before .before .before .before .before .before .before .before .before .before .loop .at2 + 4)))) = (rw (c .before .before .before .before .run-at .ensures, c .before .before .run-at2 .ensures) at (c .before .agree-nodes .ensures)) in
-    stop caseLists e e2 (a .r) (a .r2) (c .before .before .before .before .before .before .before .before .before .before .before .before .before .before .before .before .before .before .before .if1 .left) (c .before .before .before .before .before .before .before .before .before .before .before .before .before .loop .inv) (c .before .before .before .before .before .before .before .before .before .before .before .before .loop-test .taken) (λ b. decides-not _ (not-true _ (c .if5 .taken)) p (pair-parts _ _ _ _ b .1))
+    let p = rw (c .before .before .before .before .run-at .ensures, c .before .before .run-at2 .ensures) at (c .before .agree-nodes .ensures) in
+    stop caseLists (c .before .before .before .before .before .before .before .before .before .before .before .before .before .before .before .before .before .before .before .if1 .left) (c .before .before .before .before .before .before .before .before .before .before .before .before .before .loop .inv) (c .before .before .before .before .before .before .before .before .before .before .before .before .loop-test .taken) (λ b. decides-not _ (not-true _ (c .if5 .taken)) p (pair-parts _ _ _ _ b .1))
 
 loop-less : (t : ℕ) → lts.Need-loop-less (claims t) (agree-cases-at t) agree-cases.Post Inv-loop μ-loop
 loop-less t c = omega (arith, c .before .before .before .before .before .before .before .before .before .before .before .before .loop-test .taken)
 
 loop-again : (t : ℕ) → lts.Need-loop-again (claims t) (agree-cases-at t) agree-cases.Post Inv-loop μ-loop
 loop-again t c =
-    let a = c .before .before .before .before .before .before .before .before .before .before .before .before .before .before .before .before .before .before .before .before .before .before .args in
-    let v = view (a .s .now .now) (a .nodes .now .now) (a .types .now .now) (a .cells .now .now) (a .k) in
-    let v2 = view (a .s2 .now .now) (a .nodes2 .now .now) (a .types2 .now .now) (a .cells2 .now .now) (a .k2) in
-    let e = envBelow v (a .i) in
-    let e2 = envBelow v2 (a .j) in
-    let q : Decides (c .before .before .before .before .before .before .before .agree-node .result) (Agree (e .node (getD (e .cells) (c .before .before .before .before .before .before .before .before .before .before .before .before .before .loop .at + 3) 0)) (e2 .node (getD (e2 .cells) (c .before .before .before .before .before .before .before .before .before .before .before .before .before .loop .at2 + 3) 0))) = (rw (c .before .before .before .before .before .before .before .before .before .before .cell .ensures, c .before .before .before .before .before .before .before .before .cell2 .ensures) at (c .before .before .before .before .before .before .before .agree-node .ensures)) in
-    let p : Decides (c .before .agree-nodes .result) (Agree (shapes e (runAt (e .cells) (c .before .before .before .before .before .before .before .before .before .before .before .before .before .loop .at + 4))) (shapes e2 (runAt (e2 .cells) (c .before .before .before .before .before .before .before .before .before .before .before .before .before .loop .at2 + 4)))) = (rw (c .before .before .before .before .run-at .ensures, c .before .before .run-at2 .ensures) at (c .before .agree-nodes .ensures)) in
-    step caseLists e e2 (a .r) (a .r2) (c .before .before .before .before .before .before .before .before .before .before .before .before .before .before .before .before .before .before .before .if1 .left) (c .before .before .before .before .before .before .before .before .before .before .before .before .before .loop .inv) (c .before .before .before .before .before .before .before .before .before .before .before .before .loop-test .taken) (pair-agree (q .holds (not-false _ (c .before .before .before .before .before .before .if4 .left))) (p .holds (not-false _ (c .if5 .left))))
+    let q = rw (c .before .before .before .before .before .before .before .before .before .before .cell .ensures, c .before .before .before .before .before .before .before .before .cell2 .ensures) at (c .before .before .before .before .before .before .before .agree-node .ensures) in
+    let p = rw (c .before .before .before .before .run-at .ensures, c .before .before .run-at2 .ensures) at (c .before .agree-nodes .ensures) in
+    step caseLists (c .before .before .before .before .before .before .before .before .before .before .before .before .before .before .before .before .before .before .before .if1 .left) (c .before .before .before .before .before .before .before .before .before .before .before .before .before .loop .inv) (c .before .before .before .before .before .before .before .before .before .before .before .before .loop-test .taken) (pair-agree (q .holds (not-false _ (c .before .before .before .before .before .before .if4 .left))) (p .holds (not-false _ (c .if5 .left))))
 
 returns-6 : (t : ℕ) → lts.Need-returns-6 (claims t) (agree-cases-at t) agree-cases.Post Inv-loop μ-loop
-returns-6 t c =
-    let a = c .before .before .before .before .before .before .before .before .before .before .args in
-    let v = view (a .s .now .now) (a .nodes .now .now) (a .types .now .now) (a .cells .now .now) (a .k) in
-    let v2 = view (a .s2 .now .now) (a .nodes2 .now .now) (a .types2 .now .now) (a .cells2 .now .now) (a .k2) in
-    let e = envBelow v (a .i) in
-    let e2 = envBelow v2 (a .j) in
-    done caseLists e e2 (a .r) (a .r2) (c .before .before .before .before .before .before .before .if1 .left) (c .before .loop .inv) (omega (arith, c .loop-test .left))
+returns-6 t c = done caseLists (c .before .before .before .before .before .before .before .if1 .left) (c .before .loop .inv) (omega (arith, c .loop-test .left))
 
 pub agree-cases-meets : {M : Type 1} (t : ℕ) → lts.Closed (claims t) (agree-cases-at t) agree-cases.Post M
 agree-cases-meets t = lts.spec (claims t) (agree-cases-at t) agree-cases.Post Inv-loop μ-loop

@@ -1,11 +1,7 @@
 -- `agree-fields` meets its contract.
 use borrow.Author.Tests.{not-true, not-false}
-use Prim.Native.Nat.{_+_}
-use lib.ListN.{getD}
-use Rattle.same.specs.Agree.{Agree, Decides}
 use Rattle.same.specs.Shapes.{view, envBelow}
 use Rattle.rules.specs.Shape.{w}
-use Rattle.ast.specs.Decode.{tokenAt}
 use Rattle.same.proofs.Agree.{decides-not}
 use Rattle.same.proofs.Walk.{pair-agree, pair-parts}
 use Rattle.same.proofs.Listing.{fieldLists, Walking, begin, other-length, outside-left, outside-right, step, stop, done}
@@ -30,62 +26,28 @@ abbrev μ-loop : lts.MeasureT-loop
 μ-loop s nodes types cells k i s2 nodes2 types2 cells2 k2 j at₀ at2₀ left₀ at at2 left = left
 
 returns : (t : ℕ) → lts.Need-returns (claims t) (agree-fields-at t) agree-fields.Post Inv-loop μ-loop
-returns t c =
-    let a = c .before .before .before .args in
-    let v = view (a .s .now .now) (a .nodes .now .now) (a .types .now .now) (a .cells .now .now) (a .k) in
-    let v2 = view (a .s2 .now .now) (a .nodes2 .now .now) (a .types2 .now .now) (a .cells2 .now .now) (a .k2) in
-    let e = envBelow v (a .i) in
-    let e2 = envBelow v2 (a .j) in
-    other-length fieldLists e e2 (a .r) (a .r2) (c .if1 .taken)
+returns t c = other-length fieldLists (c .if1 .taken)
 
 returns-2 : (t : ℕ) → lts.Need-returns-2 (claims t) (agree-fields-at t) agree-fields.Post Inv-loop μ-loop
-returns-2 t c =
-    let a = c .before .before .before .before .before .before .before .args in
-    let v = view (a .s .now .now) (a .nodes .now .now) (a .types .now .now) (a .cells .now .now) (a .k) in
-    let v2 = view (a .s2 .now .now) (a .nodes2 .now .now) (a .types2 .now .now) (a .cells2 .now .now) (a .k2) in
-    let e = envBelow v (a .i) in
-    let e2 = envBelow v2 (a .j) in
-    outside-left fieldLists e e2 (a .r) (a .r2) (c .if2 .taken)
+returns-2 t c = outside-left fieldLists (c .if2 .taken)
 
 returns-3 : (t : ℕ) → lts.Need-returns-3 (claims t) (agree-fields-at t) agree-fields.Post Inv-loop μ-loop
-returns-3 t c =
-    let a = c .before .before .before .before .before .before .before .before .args in
-    let v = view (a .s .now .now) (a .nodes .now .now) (a .types .now .now) (a .cells .now .now) (a .k) in
-    let v2 = view (a .s2 .now .now) (a .nodes2 .now .now) (a .types2 .now .now) (a .cells2 .now .now) (a .k2) in
-    let e = envBelow v (a .i) in
-    let e2 = envBelow v2 (a .j) in
-    outside-right fieldLists e e2 (a .r) (a .r2) (c .before .before .before .before .before .if1 .left) (c .if3 .taken)
+returns-3 t c = outside-right fieldLists (c .before .before .before .before .before .if1 .left) (c .if3 .taken)
 
 loop-holds : (t : ℕ) → lts.Need-loop-holds (claims t) (agree-fields-at t) agree-fields.Post Inv-loop μ-loop
-loop-holds t c =
-    let a = c .before .before .before .before .before .before .before .before .args in
-    let v = view (a .s .now .now) (a .nodes .now .now) (a .types .now .now) (a .cells .now .now) (a .k) in
-    let v2 = view (a .s2 .now .now) (a .nodes2 .now .now) (a .types2 .now .now) (a .cells2 .now .now) (a .k2) in
-    let e = envBelow v (a .i) in
-    let e2 = envBelow v2 (a .j) in
-    begin fieldLists e e2 _ _ _ (c .before .if2 .left) (c .if3 .left) (omega arith) (omega arith)
+loop-holds t c = begin fieldLists (c .before .if2 .left) (c .if3 .left) (omega arith) (omega arith)
 
 returns-4 : (t : ℕ) → lts.Need-returns-4 (claims t) (agree-fields-at t) agree-fields.Post Inv-loop μ-loop
 unfolding w
 returns-4 t c =
-    let a = c .before .before .before .before .before .before .before .before .before .before .before .before .before .before .before .before .before .before .args in
-    let v = view (a .s .now .now) (a .nodes .now .now) (a .types .now .now) (a .cells .now .now) (a .k) in
-    let v2 = view (a .s2 .now .now) (a .nodes2 .now .now) (a .types2 .now .now) (a .cells2 .now .now) (a .k2) in
-    let e = envBelow v (a .i) in
-    let e2 = envBelow v2 (a .j) in
-    let d : Decides (c .before .agree-token .result) (Agree (w e (tokenAt (e .cells) (c .before .before .before .before .before .before .before .before .before .loop .at))) (w e2 (tokenAt (e2 .cells) (c .before .before .before .before .before .before .before .before .before .loop .at2)))) = (rw (c .before .before .before .before .before .token-at .ensures, c .before .before .token-at2 .ensures) at (c .before .agree-token .ensures)) in
-    stop fieldLists e e2 (a .r) (a .r2) (c .before .before .before .before .before .before .before .before .before .before .before .before .before .before .before .if1 .left) (c .before .before .before .before .before .before .before .before .before .loop .inv) (c .before .before .before .before .before .before .before .before .loop-test .taken) (λ b. decides-not _ (not-true _ (c .if4 .taken)) d (pair-parts _ _ _ _ b .0))
+    let d = rw (c .before .before .before .before .before .token-at .ensures, c .before .before .token-at2 .ensures) at (c .before .agree-token .ensures) in
+    stop fieldLists (c .before .before .before .before .before .before .before .before .before .before .before .before .before .before .before .if1 .left) (c .before .before .before .before .before .before .before .before .before .loop .inv) (c .before .before .before .before .before .before .before .before .loop-test .taken) (λ b. decides-not _ (not-true _ (c .if4 .taken)) d (pair-parts _ _ _ _ b .0))
 
 returns-5 : (t : ℕ) → lts.Need-returns-5 (claims t) (agree-fields-at t) agree-fields.Post Inv-loop μ-loop
 unfolding w
 returns-5 t c =
-    let a = c .before .before .before .before .before .before .before .before .before .before .before .before .before .before .before .before .before .before .before .before .before .before .before .before .args in
-    let v = view (a .s .now .now) (a .nodes .now .now) (a .types .now .now) (a .cells .now .now) (a .k) in
-    let v2 = view (a .s2 .now .now) (a .nodes2 .now .now) (a .types2 .now .now) (a .cells2 .now .now) (a .k2) in
-    let e = envBelow v (a .i) in
-    let e2 = envBelow v2 (a .j) in
-    let q : Decides (c .before .agree-node .result) (Agree (e .node (getD (e .cells) (c .before .before .before .before .before .before .before .before .before .before .before .before .before .before .before .loop .at + 3) 0)) (e2 .node (getD (e2 .cells) (c .before .before .before .before .before .before .before .before .before .before .before .before .before .before .before .loop .at2 + 3) 0))) = (rw (c .before .before .before .before .cell .ensures, c .before .before .cell2 .ensures) at (c .before .agree-node .ensures)) in
-    stop fieldLists e e2 (a .r) (a .r2) (c .before .before .before .before .before .before .before .before .before .before .before .before .before .before .before .before .before .before .before .before .before .if1 .left) (c .before .before .before .before .before .before .before .before .before .before .before .before .before .before .before .loop .inv) (c .before .before .before .before .before .before .before .before .before .before .before .before .before .before .loop-test .taken) (λ b. decides-not _ (not-true _ (c .if5 .taken)) q (pair-parts _ _ _ _ b .1))
+    let q = rw (c .before .before .before .before .cell .ensures, c .before .before .cell2 .ensures) at (c .before .agree-node .ensures) in
+    stop fieldLists (c .before .before .before .before .before .before .before .before .before .before .before .before .before .before .before .before .before .before .before .before .before .if1 .left) (c .before .before .before .before .before .before .before .before .before .before .before .before .before .before .before .loop .inv) (c .before .before .before .before .before .before .before .before .before .before .before .before .before .before .loop-test .taken) (λ b. decides-not _ (not-true _ (c .if5 .taken)) q (pair-parts _ _ _ _ b .1))
 
 loop-less : (t : ℕ) → lts.Need-loop-less (claims t) (agree-fields-at t) agree-fields.Post Inv-loop μ-loop
 loop-less t c = omega (arith, c .before .before .before .before .before .before .before .before .before .before .before .before .before .before .loop-test .taken)
@@ -93,23 +55,12 @@ loop-less t c = omega (arith, c .before .before .before .before .before .before 
 loop-again : (t : ℕ) → lts.Need-loop-again (claims t) (agree-fields-at t) agree-fields.Post Inv-loop μ-loop
 unfolding w
 loop-again t c =
-    let a = c .before .before .before .before .before .before .before .before .before .before .before .before .before .before .before .before .before .before .before .before .before .before .before .before .args in
-    let v = view (a .s .now .now) (a .nodes .now .now) (a .types .now .now) (a .cells .now .now) (a .k) in
-    let v2 = view (a .s2 .now .now) (a .nodes2 .now .now) (a .types2 .now .now) (a .cells2 .now .now) (a .k2) in
-    let e = envBelow v (a .i) in
-    let e2 = envBelow v2 (a .j) in
-    let d : Decides (c .before .before .before .before .before .before .before .agree-token .result) (Agree (w e (tokenAt (e .cells) (c .before .before .before .before .before .before .before .before .before .before .before .before .before .before .before .loop .at))) (w e2 (tokenAt (e2 .cells) (c .before .before .before .before .before .before .before .before .before .before .before .before .before .before .before .loop .at2)))) = (rw (c .before .before .before .before .before .before .before .before .before .before .before .token-at .ensures, c .before .before .before .before .before .before .before .before .token-at2 .ensures) at (c .before .before .before .before .before .before .before .agree-token .ensures)) in
-    let q : Decides (c .before .agree-node .result) (Agree (e .node (getD (e .cells) (c .before .before .before .before .before .before .before .before .before .before .before .before .before .before .before .loop .at + 3) 0)) (e2 .node (getD (e2 .cells) (c .before .before .before .before .before .before .before .before .before .before .before .before .before .before .before .loop .at2 + 3) 0))) = (rw (c .before .before .before .before .cell .ensures, c .before .before .cell2 .ensures) at (c .before .agree-node .ensures)) in
-    step fieldLists e e2 (a .r) (a .r2) (c .before .before .before .before .before .before .before .before .before .before .before .before .before .before .before .before .before .before .before .before .before .if1 .left) (c .before .before .before .before .before .before .before .before .before .before .before .before .before .before .before .loop .inv) (c .before .before .before .before .before .before .before .before .before .before .before .before .before .before .loop-test .taken) (pair-agree (d .holds (not-false _ (c .before .before .before .before .before .before .if4 .left))) (q .holds (not-false _ (c .if5 .left))))
+    let d = rw (c .before .before .before .before .before .before .before .before .before .before .before .token-at .ensures, c .before .before .before .before .before .before .before .before .token-at2 .ensures) at (c .before .before .before .before .before .before .before .agree-token .ensures) in
+    let q = rw (c .before .before .before .before .cell .ensures, c .before .before .cell2 .ensures) at (c .before .agree-node .ensures) in
+    step fieldLists (c .before .before .before .before .before .before .before .before .before .before .before .before .before .before .before .before .before .before .before .before .before .if1 .left) (c .before .before .before .before .before .before .before .before .before .before .before .before .before .before .before .loop .inv) (c .before .before .before .before .before .before .before .before .before .before .before .before .before .before .loop-test .taken) (pair-agree (d .holds (not-false _ (c .before .before .before .before .before .before .if4 .left))) (q .holds (not-false _ (c .if5 .left))))
 
 returns-6 : (t : ℕ) → lts.Need-returns-6 (claims t) (agree-fields-at t) agree-fields.Post Inv-loop μ-loop
-returns-6 t c =
-    let a = c .before .before .before .before .before .before .before .before .before .before .args in
-    let v = view (a .s .now .now) (a .nodes .now .now) (a .types .now .now) (a .cells .now .now) (a .k) in
-    let v2 = view (a .s2 .now .now) (a .nodes2 .now .now) (a .types2 .now .now) (a .cells2 .now .now) (a .k2) in
-    let e = envBelow v (a .i) in
-    let e2 = envBelow v2 (a .j) in
-    done fieldLists e e2 (a .r) (a .r2) (c .before .before .before .before .before .before .before .if1 .left) (c .before .loop .inv) (omega (arith, c .loop-test .left))
+returns-6 t c = done fieldLists (c .before .before .before .before .before .before .before .if1 .left) (c .before .loop .inv) (omega (arith, c .loop-test .left))
 
 pub agree-fields-meets : {M : Type 1} (t : ℕ) → lts.Closed (claims t) (agree-fields-at t) agree-fields.Post M
 agree-fields-meets t = lts.spec (claims t) (agree-fields-at t) agree-fields.Post Inv-loop μ-loop

@@ -1,11 +1,7 @@
 -- `agree-params` meets its contract.
 use borrow.Author.Tests.{not-true, not-false}
-use Prim.Native.Nat.{_+_}
-use lib.ListN.{getD}
 use Rattle.rules.specs.Shape.{w}
-use Rattle.ast.specs.Decode.{tokenAt}
-use Rattle.same.specs.Agree.{Agree, Decides}
-use Rattle.same.specs.Shapes.{typesBelow, typeEnv}
+use Rattle.same.specs.Shapes.{typeEnv}
 use Rattle.same.proofs.Agree.{decides-not}
 use Rattle.same.proofs.Walk.{pair-agree, pair-parts}
 use Rattle.same.proofs.Listing.{paramLists, Walking, begin, other-length, outside-left, outside-right, step, stop, done}
@@ -30,38 +26,28 @@ abbrev μ-loop : lts.MeasureT-loop
 μ-loop s types cells n s2 types2 cells2 m at₀ at2₀ left₀ at at2 left = left
 
 returns : (t : ℕ) → lts.Need-returns (claims t) (agree-params-at t) agree-params.Post Inv-loop μ-loop
-returns t c =
-    let a = c .before .before .before .args in
-    other-length paramLists (typeEnv (a .s .now .now) (a .cells .now .now) (a .types .now .now) (a .n)) (typeEnv (a .s2 .now .now) (a .cells2 .now .now) (a .types2 .now .now) (a .m)) (a .r) (a .r2) (c .if1 .taken)
+returns t c = other-length paramLists (c .if1 .taken)
 
 returns-2 : (t : ℕ) → lts.Need-returns-2 (claims t) (agree-params-at t) agree-params.Post Inv-loop μ-loop
-returns-2 t c =
-    let a = c .before .before .before .before .before .before .before .args in
-    outside-left paramLists (typeEnv (a .s .now .now) (a .cells .now .now) (a .types .now .now) (a .n)) (typeEnv (a .s2 .now .now) (a .cells2 .now .now) (a .types2 .now .now) (a .m)) (a .r) (a .r2) (c .if2 .taken)
+returns-2 t c = outside-left paramLists (c .if2 .taken)
 
 returns-3 : (t : ℕ) → lts.Need-returns-3 (claims t) (agree-params-at t) agree-params.Post Inv-loop μ-loop
-returns-3 t c =
-    let a = c .before .before .before .before .before .before .before .before .args in
-    outside-right paramLists (typeEnv (a .s .now .now) (a .cells .now .now) (a .types .now .now) (a .n)) (typeEnv (a .s2 .now .now) (a .cells2 .now .now) (a .types2 .now .now) (a .m)) (a .r) (a .r2) (c .before .before .before .before .before .if1 .left) (c .if3 .taken)
+returns-3 t c = outside-right paramLists (c .before .before .before .before .before .if1 .left) (c .if3 .taken)
 
 loop-holds : (t : ℕ) → lts.Need-loop-holds (claims t) (agree-params-at t) agree-params.Post Inv-loop μ-loop
-loop-holds t c =
-    let a = c .before .before .before .before .before .before .before .before .args in
-    begin paramLists (typeEnv (a .s .now .now) (a .cells .now .now) (a .types .now .now) (a .n)) (typeEnv (a .s2 .now .now) (a .cells2 .now .now) (a .types2 .now .now) (a .m)) _ _ _ (c .before .if2 .left) (c .if3 .left) (omega arith) (omega arith)
+loop-holds t c = begin paramLists (c .before .if2 .left) (c .if3 .left) (omega arith) (omega arith)
 
 returns-4 : (t : ℕ) → lts.Need-returns-4 (claims t) (agree-params-at t) agree-params.Post Inv-loop μ-loop
 unfolding w
 returns-4 t c =
-    let a = c .before .before .before .before .before .before .before .before .before .before .before .before .before .before .before .before .before .before .args in
-    let d : Decides (c .before .agree-token .result) (Agree (w (typeEnv (a .s .now .now) (a .cells .now .now) (a .types .now .now) (a .n)) (tokenAt (a .cells .now .now) (c .before .before .before .before .before .before .before .before .before .loop .at))) (w (typeEnv (a .s2 .now .now) (a .cells2 .now .now) (a .types2 .now .now) (a .m)) (tokenAt (a .cells2 .now .now) (c .before .before .before .before .before .before .before .before .before .loop .at2)))) = (rw (c .before .before .before .before .before .token-at .ensures, c .before .before .token-at2 .ensures) at (c .before .agree-token .ensures)) in
-    stop paramLists (typeEnv (a .s .now .now) (a .cells .now .now) (a .types .now .now) (a .n)) (typeEnv (a .s2 .now .now) (a .cells2 .now .now) (a .types2 .now .now) (a .m)) (a .r) (a .r2) (c .before .before .before .before .before .before .before .before .before .before .before .before .before .before .before .if1 .left) (c .before .before .before .before .before .before .before .before .before .loop .inv) (c .before .before .before .before .before .before .before .before .loop-test .taken) (λ b. decides-not _ (not-true _ (c .if4 .taken)) d (pair-parts _ _ _ _ b .0))
+    let d = rw (c .before .before .before .before .before .token-at .ensures, c .before .before .token-at2 .ensures) at (c .before .agree-token .ensures) in
+    stop paramLists (c .before .before .before .before .before .before .before .before .before .before .before .before .before .before .before .if1 .left) (c .before .before .before .before .before .before .before .before .before .loop .inv) (c .before .before .before .before .before .before .before .before .loop-test .taken) (λ b. decides-not _ (not-true _ (c .if4 .taken)) d (pair-parts _ _ _ _ b .0))
 
 returns-5 : (t : ℕ) → lts.Need-returns-5 (claims t) (agree-params-at t) agree-params.Post Inv-loop μ-loop
 unfolding w
 returns-5 t c =
-    let a = c .before .before .before .before .before .before .before .before .before .before .before .before .before .before .before .before .before .before .before .before .before .before .before .before .args in
-    let q : Decides (c .before .agree-type .result) (Agree (typesBelow (a .s .now .now) (a .cells .now .now) (a .types .now .now) (a .n) (getD (a .cells .now .now) (c .before .before .before .before .before .before .before .before .before .before .before .before .before .before .before .loop .at + 3) 0)) (typesBelow (a .s2 .now .now) (a .cells2 .now .now) (a .types2 .now .now) (a .m) (getD (a .cells2 .now .now) (c .before .before .before .before .before .before .before .before .before .before .before .before .before .before .before .loop .at2 + 3) 0))) = (rw (c .before .before .before .before .cell .ensures, c .before .before .cell2 .ensures) at (c .before .agree-type .ensures)) in
-    stop paramLists (typeEnv (a .s .now .now) (a .cells .now .now) (a .types .now .now) (a .n)) (typeEnv (a .s2 .now .now) (a .cells2 .now .now) (a .types2 .now .now) (a .m)) (a .r) (a .r2) (c .before .before .before .before .before .before .before .before .before .before .before .before .before .before .before .before .before .before .before .before .before .if1 .left) (c .before .before .before .before .before .before .before .before .before .before .before .before .before .before .before .loop .inv) (c .before .before .before .before .before .before .before .before .before .before .before .before .before .before .loop-test .taken) (λ b. decides-not _ (not-true _ (c .if5 .taken)) q (pair-parts _ _ _ _ b .1))
+    let q = rw (c .before .before .before .before .cell .ensures, c .before .before .cell2 .ensures) at (c .before .agree-type .ensures) in
+    stop paramLists (c .before .before .before .before .before .before .before .before .before .before .before .before .before .before .before .before .before .before .before .before .before .if1 .left) (c .before .before .before .before .before .before .before .before .before .before .before .before .before .before .before .loop .inv) (c .before .before .before .before .before .before .before .before .before .before .before .before .before .before .loop-test .taken) (λ b. decides-not _ (not-true _ (c .if5 .taken)) q (pair-parts _ _ _ _ b .1))
 
 loop-less : (t : ℕ) → lts.Need-loop-less (claims t) (agree-params-at t) agree-params.Post Inv-loop μ-loop
 loop-less t c = omega arith
@@ -69,15 +55,12 @@ loop-less t c = omega arith
 loop-again : (t : ℕ) → lts.Need-loop-again (claims t) (agree-params-at t) agree-params.Post Inv-loop μ-loop
 unfolding w
 loop-again t c =
-    let a = c .before .before .before .before .before .before .before .before .before .before .before .before .before .before .before .before .before .before .before .before .before .before .before .before .args in
-    let d : Decides (c .before .before .before .before .before .before .before .agree-token .result) (Agree (w (typeEnv (a .s .now .now) (a .cells .now .now) (a .types .now .now) (a .n)) (tokenAt (a .cells .now .now) (c .before .before .before .before .before .before .before .before .before .before .before .before .before .before .before .loop .at))) (w (typeEnv (a .s2 .now .now) (a .cells2 .now .now) (a .types2 .now .now) (a .m)) (tokenAt (a .cells2 .now .now) (c .before .before .before .before .before .before .before .before .before .before .before .before .before .before .before .loop .at2)))) = (rw (c .before .before .before .before .before .before .before .before .before .before .before .token-at .ensures, c .before .before .before .before .before .before .before .before .token-at2 .ensures) at (c .before .before .before .before .before .before .before .agree-token .ensures)) in
-    let q : Decides (c .before .agree-type .result) (Agree (typesBelow (a .s .now .now) (a .cells .now .now) (a .types .now .now) (a .n) (getD (a .cells .now .now) (c .before .before .before .before .before .before .before .before .before .before .before .before .before .before .before .loop .at + 3) 0)) (typesBelow (a .s2 .now .now) (a .cells2 .now .now) (a .types2 .now .now) (a .m) (getD (a .cells2 .now .now) (c .before .before .before .before .before .before .before .before .before .before .before .before .before .before .before .loop .at2 + 3) 0))) = (rw (c .before .before .before .before .cell .ensures, c .before .before .cell2 .ensures) at (c .before .agree-type .ensures)) in
-    step paramLists (typeEnv (a .s .now .now) (a .cells .now .now) (a .types .now .now) (a .n)) (typeEnv (a .s2 .now .now) (a .cells2 .now .now) (a .types2 .now .now) (a .m)) (a .r) (a .r2) (c .before .before .before .before .before .before .before .before .before .before .before .before .before .before .before .before .before .before .before .before .before .if1 .left) (c .before .before .before .before .before .before .before .before .before .before .before .before .before .before .before .loop .inv) (c .before .before .before .before .before .before .before .before .before .before .before .before .before .before .loop-test .taken) (pair-agree (d .holds (not-false _ (c .before .before .before .before .before .before .if4 .left))) (q .holds (not-false _ (c .if5 .left))))
+    let d = rw (c .before .before .before .before .before .before .before .before .before .before .before .token-at .ensures, c .before .before .before .before .before .before .before .before .token-at2 .ensures) at (c .before .before .before .before .before .before .before .agree-token .ensures) in
+    let q = rw (c .before .before .before .before .cell .ensures, c .before .before .cell2 .ensures) at (c .before .agree-type .ensures) in
+    step paramLists (c .before .before .before .before .before .before .before .before .before .before .before .before .before .before .before .before .before .before .before .before .before .if1 .left) (c .before .before .before .before .before .before .before .before .before .before .before .before .before .before .before .loop .inv) (c .before .before .before .before .before .before .before .before .before .before .before .before .before .before .loop-test .taken) (pair-agree (d .holds (not-false _ (c .before .before .before .before .before .before .if4 .left))) (q .holds (not-false _ (c .if5 .left))))
 
 returns-6 : (t : ℕ) → lts.Need-returns-6 (claims t) (agree-params-at t) agree-params.Post Inv-loop μ-loop
-returns-6 t c =
-    let a = c .before .before .before .before .before .before .before .before .before .before .args in
-    done paramLists (typeEnv (a .s .now .now) (a .cells .now .now) (a .types .now .now) (a .n)) (typeEnv (a .s2 .now .now) (a .cells2 .now .now) (a .types2 .now .now) (a .m)) (a .r) (a .r2) (c .before .before .before .before .before .before .before .if1 .left) (c .before .loop .inv) (omega arith)
+returns-6 t c = done paramLists (c .before .before .before .before .before .before .before .if1 .left) (c .before .loop .inv) (omega arith)
 
 pub agree-params-meets : {M : Type 1} (t : ℕ) → lts.Closed (claims t) (agree-params-at t) agree-params.Post M
 agree-params-meets t = lts.spec (claims t) (agree-params-at t) agree-params.Post Inv-loop μ-loop
