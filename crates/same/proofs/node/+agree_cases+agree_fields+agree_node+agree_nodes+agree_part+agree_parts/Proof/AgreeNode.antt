@@ -1,7 +1,6 @@
 -- `agree-node` meets its contract.
 use borrow.Author.Tests.{not-true, not-false}
 use Prim.Native.Nat.{_*_, _+_}
-use Rattle.same.specs.Shapes.{view}
 use Rattle.same.specs.Parts.{parts, sortAt, cellAt}
 use Rattle.same.proofs.Agree.{decides-not}
 use Rattle.same.proofs.Nodes.{node-past-left, node-past-right, node-zero, other-node-tag, parts-differ, no-last, last-decides, node-tag-bound, cell-small}
@@ -19,55 +18,27 @@ abbrev claims : ℕ → lts.Claims
 claims t = (node-tag-reads.Asked, node-tag-reads.Learnt, agree-parts-below t, agree-parts.Post, cell-reads.Asked, cell-reads.Learnt, agree-node-below t, agree-node.Post)
 
 returns : (t : ℕ) → lts.Need-returns (claims t) (agree-node-at t) agree-node.Post
-returns t c =
-    let a = c .before .args in
-    let v = view (a .s .now .now) (a .nodes .now .now) (a .types .now .now) (a .cells .now .now) (a .k) in
-    let v2 = view (a .s2 .now .now) (a .nodes2 .now .now) (a .types2 .now .now) (a .cells2 .now .now) (a .k2) in
-    node-past-left v v2 (a .n) (a .i) (a .m) (a .j) (omega arith)
+returns t c = node-past-left _ _ _ _ _ _ (omega arith)
 
 returns-2 : (t : ℕ) → lts.Need-returns-2 (claims t) (agree-node-at t) agree-node.Post
-returns-2 t c =
-    let a = c .before .before .args in
-    let v = view (a .s .now .now) (a .nodes .now .now) (a .types .now .now) (a .cells .now .now) (a .k) in
-    let v2 = view (a .s2 .now .now) (a .nodes2 .now .now) (a .types2 .now .now) (a .cells2 .now .now) (a .k2) in
-    node-past-right v v2 (a .n) (a .i) (a .m) (a .j) (c .if2 .taken)
+returns-2 t c = node-past-right _ _ _ _ _ _ (c .if2 .taken)
 
 returns-3 : (t : ℕ) → lts.Need-returns-3 (claims t) (agree-node-at t) agree-node.Post
-returns-3 t c =
-    let a = c .before .before .before .before .before .args in
-    let v = view (a .s .now .now) (a .nodes .now .now) (a .types .now .now) (a .cells .now .now) (a .k) in
-    let v2 = view (a .s2 .now .now) (a .nodes2 .now .now) (a .types2 .now .now) (a .cells2 .now .now) (a .k2) in
-    node-zero v v2 (a .n) (a .i) (a .m) (a .j) (c .before .before .before .before .if1 .left) (c .before .node-tag .ensures) (c .if3 .taken)
+returns-3 t c = node-zero _ _ _ _ _ _ (c .before .before .before .before .if1 .left) (c .before .node-tag .ensures) (c .if3 .taken)
 
 returns-4 : (t : ℕ) → lts.Need-returns-4 (claims t) (agree-node-at t) agree-node.Post
-returns-4 t c =
-    let a = c .before .before .before .before .before .before .before .before .args in
-    let v = view (a .s .now .now) (a .nodes .now .now) (a .types .now .now) (a .cells .now .now) (a .k) in
-    let v2 = view (a .s2 .now .now) (a .nodes2 .now .now) (a .types2 .now .now) (a .cells2 .now .now) (a .k2) in
-    other-node-tag v v2 (a .n) (a .i) (a .m) (a .j) (c .before .before .before .before .before .before .before .if1 .left) (c .before .before .before .before .before .before .if2 .left) (c .before .before .before .before .node-tag .ensures) (c .before .node-tag2 .ensures) (c .if4 .taken)
+returns-4 t c = other-node-tag _ _ _ _ _ _ (c .before .before .before .before .before .before .before .if1 .left) (c .before .before .before .before .before .before .if2 .left) (c .before .before .before .before .node-tag .ensures) (c .before .node-tag2 .ensures) (c .if4 .taken)
 
 returns-5 : (t : ℕ) → lts.Need-returns-5 (claims t) (agree-node-at t) agree-node.Post
-returns-5 t c =
-    let a = c .before .before .before .before .before .before .before .before .before .before .args in
-    let v = view (a .s .now .now) (a .nodes .now .now) (a .types .now .now) (a .cells .now .now) (a .k) in
-    let v2 = view (a .s2 .now .now) (a .nodes2 .now .now) (a .types2 .now .now) (a .cells2 .now .now) (a .k2) in
-    parts-differ v v2 (a .n) (a .i) (a .m) (a .j) (c .before .before .before .before .before .before .before .before .before .if1 .left) (c .before .before .before .before .before .before .before .before .if2 .left) (c .before .before .before .before .before .before .node-tag .ensures) (c .before .before .before .node-tag2 .ensures) (c .before .before .if4 .left) (c .before .before .before .before .before .if3 .left) (decides-not _ (not-true _ (c .if5 .taken)) (c .before .agree-parts .ensures))
+returns-5 t c = parts-differ _ _ _ _ _ _ (c .before .before .before .before .before .before .before .before .before .if1 .left) (c .before .before .before .before .before .before .before .before .if2 .left) (c .before .before .before .before .before .before .node-tag .ensures) (c .before .before .before .node-tag2 .ensures) (c .before .before .if4 .left) (c .before .before .before .before .before .if3 .left) (decides-not _ (not-true _ (c .if5 .taken)) (c .before .agree-parts .ensures))
 
 returns-6 : (t : ℕ) → lts.Need-returns-6 (claims t) (agree-node-at t) agree-node.Post
 unfolding sortAt parts
-returns-6 t c =
-    let a = c .before .before .before .before .before .before .before .before .before .before .before .args in
-    let v = view (a .s .now .now) (a .nodes .now .now) (a .types .now .now) (a .cells .now .now) (a .k) in
-    let v2 = view (a .s2 .now .now) (a .nodes2 .now .now) (a .types2 .now .now) (a .cells2 .now .now) (a .k2) in
-    no-last v v2 (a .n) (a .i) (a .m) (a .j) (c .before .before .before .before .before .before .before .before .before .before .if1 .left) (c .before .before .before .before .before .before .before .before .before .if2 .left) (c .before .before .before .before .before .before .before .node-tag .ensures) (c .before .before .before .before .node-tag2 .ensures) (c .before .before .before .if4 .left) (c .before .before .before .before .before .before .if3 .left) (c .before .before .agree-parts .ensures .holds (not-false _ (c .before .if5 .left))) (c .if6 .taken)
+returns-6 t c = no-last _ _ _ _ _ _ (c .before .before .before .before .before .before .before .before .before .before .if1 .left) (c .before .before .before .before .before .before .before .before .before .if2 .left) (c .before .before .before .before .before .before .before .node-tag .ensures) (c .before .before .before .before .node-tag2 .ensures) (c .before .before .before .if4 .left) (c .before .before .before .before .before .before .if3 .left) (c .before .before .agree-parts .ensures .holds (not-false _ (c .before .if5 .left))) (c .if6 .taken)
 
 returns-7 : (t : ℕ) → lts.Need-returns-7 (claims t) (agree-node-at t) agree-node.Post
 unfolding sortAt cellAt parts
-returns-7 t c =
-    let a = c .before .before .before .before .before .before .before .before .before .before .before .before .before .before .before .before .args in
-    let v = view (a .s .now .now) (a .nodes .now .now) (a .types .now .now) (a .cells .now .now) (a .k) in
-    let v2 = view (a .s2 .now .now) (a .nodes2 .now .now) (a .types2 .now .now) (a .cells2 .now .now) (a .k2) in
-    last-decides v v2 (a .n) (a .i) (a .m) (a .j) (c .before .before .before .before .before .before .before .before .before .before .before .before .before .before .before .if1 .left) (c .before .before .before .before .before .before .before .before .before .before .before .before .before .before .if2 .left) (c .before .before .before .before .before .before .before .before .before .before .before .before .node-tag .ensures) (c .before .before .before .before .before .before .before .before .before .node-tag2 .ensures) (c .before .before .before .before .before .before .before .before .if4 .left) (c .before .before .before .before .before .before .before .before .before .before .before .if3 .left) (c .before .before .before .before .before .before .before .agree-parts .ensures .holds (not-false _ (c .before .before .before .before .before .before .if5 .left))) (c .before .before .before .before .before .if6 .left) (rw (c .before .before .before .cell .ensures, c .before .cell2 .ensures) at (c .agree-node .ensures))
+returns-7 t c = last-decides _ _ _ _ _ _ (c .before .before .before .before .before .before .before .before .before .before .before .before .before .before .before .if1 .left) (c .before .before .before .before .before .before .before .before .before .before .before .before .before .before .if2 .left) (c .before .before .before .before .before .before .before .before .before .before .before .before .node-tag .ensures) (c .before .before .before .before .before .before .before .before .before .node-tag2 .ensures) (c .before .before .before .before .before .before .before .before .if4 .left) (c .before .before .before .before .before .before .before .before .before .before .before .if3 .left) (c .before .before .before .before .before .before .before .agree-parts .ensures .holds (not-false _ (c .before .before .before .before .before .before .if5 .left))) (c .before .before .before .before .before .if6 .left) (rw (c .before .before .before .cell .ensures, c .before .cell2 .ensures) at (c .agree-node .ensures))
 
 cast-o : (t : ℕ) → lts.Need-cast-o (claims t) (agree-node-at t) agree-node.Post
 unfolding cellAt parts

@@ -1,9 +1,5 @@
 -- `agree-type` meets its contract.
 use borrow.Author.Tests.{not-true, not-false}
-use Prim.Native.Nat.{_*_, _+_}
-use Rattle.rules.specs.Shape.{word}
-use Rattle.ast.specs.Decode.{tokenAt}
-use Rattle.same.specs.Agree.{Agree, Decides}
 use Rattle.same.proofs.Agree.{decides-not}
 use Rattle.same.proofs.Types.{type-past-left, type-past-right, type-zero, other-tag, option-agrees, array-agrees, token-differs, token-agrees, record-agrees}
 use borrow.Author.Needs.{needs}
@@ -23,52 +19,37 @@ abbrev claims : ℕ → lts.Claims
 claims t = (type-tag-reads.Asked, type-tag-reads.Learnt, cell-reads.Asked, cell-reads.Learnt, agree-type-below t, agree-type.Post, token-at-reads.Asked, token-at-reads.Learnt, agree-token-reads.Asked, agree-token-reads.Learnt, run-at-reads.Asked, run-at-reads.Learnt, agree-params-below t, agree-params.Post)
 
 returns : (t : ℕ) → lts.Need-returns (claims t) (agree-type-at t) agree-type.Post
-returns t c =
-    let a = c .before .args in
-    type-past-left (a .s .now .now) (a .cells .now .now) (a .types .now .now) (a .s2 .now .now) (a .cells2 .now .now) (a .types2 .now .now) (a .n) (a .i) (a .m) (a .j) (omega arith)
+returns t c = type-past-left _ _ _ _ _ _ _ _ _ _ (omega arith)
 
 returns-2 : (t : ℕ) → lts.Need-returns-2 (claims t) (agree-type-at t) agree-type.Post
-returns-2 t c =
-    let a = c .before .before .args in
-    type-past-right (a .s .now .now) (a .cells .now .now) (a .types .now .now) (a .s2 .now .now) (a .cells2 .now .now) (a .types2 .now .now) (a .n) (a .i) (a .m) (a .j) (c .if2 .taken)
+returns-2 t c = type-past-right _ _ _ _ _ _ _ _ _ _ (c .if2 .taken)
 
 returns-3 : (t : ℕ) → lts.Need-returns-3 (claims t) (agree-type-at t) agree-type.Post
-returns-3 t c =
-    let a = c .before .before .before .before .before .args in
-    type-zero (a .s .now .now) (a .cells .now .now) (a .types .now .now) (a .s2 .now .now) (a .cells2 .now .now) (a .types2 .now .now) (a .n) (a .i) (a .m) (a .j) (c .before .before .before .before .if1 .left) (c .before .type-tag .ensures) (c .if3 .taken)
+returns-3 t c = type-zero _ _ _ _ _ _ _ _ _ _ (c .before .before .before .before .if1 .left) (c .before .type-tag .ensures) (c .if3 .taken)
 
 returns-4 : (t : ℕ) → lts.Need-returns-4 (claims t) (agree-type-at t) agree-type.Post
-returns-4 t c =
-    let a = c .before .before .before .before .before .before .before .before .args in
-    other-tag (a .s .now .now) (a .cells .now .now) (a .types .now .now) (a .s2 .now .now) (a .cells2 .now .now) (a .types2 .now .now) (a .n) (a .i) (a .m) (a .j) (c .before .before .before .before .before .before .before .if1 .left) (c .before .before .before .before .before .before .if2 .left) (c .before .before .before .before .type-tag .ensures) (c .before .type-tag2 .ensures) (c .if4 .taken)
+returns-4 t c = other-tag _ _ _ _ _ _ _ _ _ _ (c .before .before .before .before .before .before .before .if1 .left) (c .before .before .before .before .before .before .if2 .left) (c .before .before .before .before .type-tag .ensures) (c .before .type-tag2 .ensures) (c .if4 .taken)
 
 returns-5 : (t : ℕ) → lts.Need-returns-5 (claims t) (agree-type-at t) agree-type.Post
-returns-5 t c =
-    let a = c .before .before .before .before .before .before .before .before .before .before .before .before .before .before .args in
-    option-agrees (a .s .now .now) (a .cells .now .now) (a .types .now .now) (a .s2 .now .now) (a .cells2 .now .now) (a .types2 .now .now) (a .n) (a .i) (a .m) (a .j) (c .before .before .before .before .before .before .before .before .before .before .before .before .before .if1 .left) (c .before .before .before .before .before .before .before .before .before .before .before .before .if2 .left) (c .before .before .before .before .before .before .before .before .before .before .type-tag .ensures) (c .before .before .before .before .before .before .before .type-tag2 .ensures) (c .before .before .before .before .before .before .if4 .left) (c .before .before .before .before .before .if5 .taken) (rw (c .before .before .before .cell .ensures, c .before .cell2 .ensures) at (c .agree-type .ensures))
+returns-5 t c = option-agrees _ _ _ _ _ _ _ _ _ _ (c .before .before .before .before .before .before .before .before .before .before .before .before .before .if1 .left) (c .before .before .before .before .before .before .before .before .before .before .before .before .if2 .left) (c .before .before .before .before .before .before .before .before .before .before .type-tag .ensures) (c .before .before .before .before .before .before .before .type-tag2 .ensures) (c .before .before .before .before .before .before .if4 .left) (c .before .before .before .before .before .if5 .taken) (rw (c .before .before .before .cell .ensures, c .before .cell2 .ensures) at (c .agree-type .ensures))
 
 returns-6 : (t : ℕ) → lts.Need-returns-6 (claims t) (agree-type-at t) agree-type.Post
-returns-6 t c =
-    let a = c .before .before .before .before .before .before .before .before .before .before .before .before .before .before .before .args in
-    array-agrees (a .s .now .now) (a .cells .now .now) (a .types .now .now) (a .s2 .now .now) (a .cells2 .now .now) (a .types2 .now .now) (a .n) (a .i) (a .m) (a .j) (c .before .before .before .before .before .before .before .before .before .before .before .before .before .before .if1 .left) (c .before .before .before .before .before .before .before .before .before .before .before .before .before .if2 .left) (c .before .before .before .before .before .before .before .before .before .before .before .type-tag .ensures) (c .before .before .before .before .before .before .before .before .type-tag2 .ensures) (c .before .before .before .before .before .before .before .if4 .left) (c .before .before .before .before .before .if6 .taken) (rw (c .before .before .before .cell3 .ensures, c .before .cell4 .ensures) at (c .agree-type2 .ensures))
+returns-6 t c = array-agrees _ _ _ _ _ _ _ _ _ _ (c .before .before .before .before .before .before .before .before .before .before .before .before .before .before .if1 .left) (c .before .before .before .before .before .before .before .before .before .before .before .before .before .if2 .left) (c .before .before .before .before .before .before .before .before .before .before .before .type-tag .ensures) (c .before .before .before .before .before .before .before .before .type-tag2 .ensures) (c .before .before .before .before .before .before .before .if4 .left) (c .before .before .before .before .before .if6 .taken) (rw (c .before .before .before .cell3 .ensures, c .before .cell4 .ensures) at (c .agree-type2 .ensures))
 
 returns-7 : (t : ℕ) → lts.Need-returns-7 (claims t) (agree-type-at t) agree-type.Post
 returns-7 t c =
-    let a = c .before .before .before .before .before .before .before .before .before .before .before .before .before .before .before .before .before .before .args in
-    let d : Decides (c .before .agree-token .result) (Agree (word (a .s .now .now) (tokenAt (a .types .now .now) (8 * a .i + 1))) (word (a .s2 .now .now) (tokenAt (a .types2 .now .now) (8 * a .j + 1)))) = (rw (c .before .before .before .before .before .token-at .ensures, c .before .before .token-at2 .ensures) at (c .before .agree-token .ensures)) in
-    token-differs (a .s .now .now) (a .cells .now .now) (a .types .now .now) (a .s2 .now .now) (a .cells2 .now .now) (a .types2 .now .now) (a .n) (a .i) (a .m) (a .j) (c .before .before .before .before .before .before .before .before .before .before .before .before .before .before .before .before .before .if1 .left) (c .before .before .before .before .before .before .before .before .before .before .before .before .before .before .before .before .if2 .left) (c .before .before .before .before .before .before .before .before .before .before .before .before .before .before .type-tag .ensures) (c .before .before .before .before .before .before .before .before .before .before .before .type-tag2 .ensures) (c .before .before .before .before .before .before .before .before .before .before .if4 .left) (c .before .before .before .before .before .before .before .before .before .before .before .before .before .if3 .left) (c .before .before .before .before .before .before .before .before .before .if5 .left) (c .before .before .before .before .before .before .before .before .if6 .left) (decides-not _ (not-true _ (c .if7 .taken)) d)
+    let d = rw (c .before .before .before .before .before .token-at .ensures, c .before .before .token-at2 .ensures) at (c .before .agree-token .ensures) in
+    token-differs _ _ _ _ _ _ _ _ _ _ (c .before .before .before .before .before .before .before .before .before .before .before .before .before .before .before .before .before .if1 .left) (c .before .before .before .before .before .before .before .before .before .before .before .before .before .before .before .before .if2 .left) (c .before .before .before .before .before .before .before .before .before .before .before .before .before .before .type-tag .ensures) (c .before .before .before .before .before .before .before .before .before .before .before .type-tag2 .ensures) (c .before .before .before .before .before .before .before .before .before .before .if4 .left) (c .before .before .before .before .before .before .before .before .before .before .before .before .before .if3 .left) (c .before .before .before .before .before .before .before .before .before .if5 .left) (c .before .before .before .before .before .before .before .before .if6 .left) (decides-not _ (not-true _ (c .if7 .taken)) d)
 
 returns-8 : (t : ℕ) → lts.Need-returns-8 (claims t) (agree-type-at t) agree-type.Post
 returns-8 t c =
-    let a = c .before .before .before .before .before .before .before .before .before .before .before .before .before .before .before .before .before .before .before .args in
-    let d : Decides (c .before .before .agree-token .result) (Agree (word (a .s .now .now) (tokenAt (a .types .now .now) (8 * a .i + 1))) (word (a .s2 .now .now) (tokenAt (a .types2 .now .now) (8 * a .j + 1)))) = (rw (c .before .before .before .before .before .before .token-at .ensures, c .before .before .before .token-at2 .ensures) at (c .before .before .agree-token .ensures)) in
-    token-agrees (a .s .now .now) (a .cells .now .now) (a .types .now .now) (a .s2 .now .now) (a .cells2 .now .now) (a .types2 .now .now) (a .n) (a .i) (a .m) (a .j) (c .before .before .before .before .before .before .before .before .before .before .before .before .before .before .before .before .before .before .if1 .left) (c .before .before .before .before .before .before .before .before .before .before .before .before .before .before .before .before .before .if2 .left) (c .before .before .before .before .before .before .before .before .before .before .before .before .before .before .before .type-tag .ensures) (c .before .before .before .before .before .before .before .before .before .before .before .before .type-tag2 .ensures) (c .before .before .before .before .before .before .before .before .before .before .before .if4 .left) (c .before .before .before .before .before .before .before .before .before .before .before .before .before .before .if3 .left) (c .before .before .before .before .before .before .before .before .before .before .if5 .left) (c .before .before .before .before .before .before .before .before .before .if6 .left) (c .if8 .taken) (d .holds (not-false _ (c .before .if7 .left)))
+    let d = rw (c .before .before .before .before .before .before .token-at .ensures, c .before .before .before .token-at2 .ensures) at (c .before .before .agree-token .ensures) in
+    token-agrees _ _ _ _ _ _ _ _ _ _ (c .before .before .before .before .before .before .before .before .before .before .before .before .before .before .before .before .before .before .if1 .left) (c .before .before .before .before .before .before .before .before .before .before .before .before .before .before .before .before .before .if2 .left) (c .before .before .before .before .before .before .before .before .before .before .before .before .before .before .before .type-tag .ensures) (c .before .before .before .before .before .before .before .before .before .before .before .before .type-tag2 .ensures) (c .before .before .before .before .before .before .before .before .before .before .before .if4 .left) (c .before .before .before .before .before .before .before .before .before .before .before .before .before .before .if3 .left) (c .before .before .before .before .before .before .before .before .before .before .if5 .left) (c .before .before .before .before .before .before .before .before .before .if6 .left) (c .if8 .taken) (d .holds (not-false _ (c .before .if7 .left)))
 
 returns-9 : (t : ℕ) → lts.Need-returns-9 (claims t) (agree-type-at t) agree-type.Post
 returns-9 t c =
-    let a = c .before .before .before .before .before .before .before .before .before .before .before .before .before .before .before .before .before .before .before .before .before .before .before .before .args in
-    let d : Decides (c .before .before .before .before .before .before .before .agree-token .result) (Agree (word (a .s .now .now) (tokenAt (a .types .now .now) (8 * a .i + 1))) (word (a .s2 .now .now) (tokenAt (a .types2 .now .now) (8 * a .j + 1)))) = (rw (c .before .before .before .before .before .before .before .before .before .before .before .token-at .ensures, c .before .before .before .before .before .before .before .before .token-at2 .ensures) at (c .before .before .before .before .before .before .before .agree-token .ensures)) in
-    record-agrees (a .s .now .now) (a .cells .now .now) (a .types .now .now) (a .s2 .now .now) (a .cells2 .now .now) (a .types2 .now .now) (a .n) (a .i) (a .m) (a .j) (c .before .before .before .before .before .before .before .before .before .before .before .before .before .before .before .before .before .before .before .before .before .before .before .if1 .left) (c .before .before .before .before .before .before .before .before .before .before .before .before .before .before .before .before .before .before .before .before .before .before .if2 .left) (c .before .before .before .before .before .before .before .before .before .before .before .before .before .before .before .before .before .before .before .before .type-tag .ensures) (c .before .before .before .before .before .before .before .before .before .before .before .before .before .before .before .before .before .type-tag2 .ensures) (c .before .before .before .before .before .before .before .before .before .before .before .before .before .before .before .before .if4 .left) (c .before .before .before .before .before .if8 .left) (d .holds (not-false _ (c .before .before .before .before .before .before .if7 .left))) (rw (c .before .before .before .run-at .ensures, c .before .run-at2 .ensures) at (c .agree-params .ensures))
+    let d = rw (c .before .before .before .before .before .before .before .before .before .before .before .token-at .ensures, c .before .before .before .before .before .before .before .before .token-at2 .ensures) at (c .before .before .before .before .before .before .before .agree-token .ensures) in
+    record-agrees _ _ _ _ _ _ _ _ _ _ (c .before .before .before .before .before .before .before .before .before .before .before .before .before .before .before .before .before .before .before .before .before .before .before .if1 .left) (c .before .before .before .before .before .before .before .before .before .before .before .before .before .before .before .before .before .before .before .before .before .before .if2 .left) (c .before .before .before .before .before .before .before .before .before .before .before .before .before .before .before .before .before .before .before .before .type-tag .ensures) (c .before .before .before .before .before .before .before .before .before .before .before .before .before .before .before .before .before .type-tag2 .ensures) (c .before .before .before .before .before .before .before .before .before .before .before .before .before .before .before .before .if4 .left) (c .before .before .before .before .before .if8 .left) (d .holds (not-false _ (c .before .before .before .before .before .before .if7 .left))) (rw (c .before .before .before .run-at .ensures, c .before .run-at2 .ensures) at (c .agree-params .ensures))
 
 pub agree-type-meets : {M : Type 1} (t : ℕ) → lts.Closed (claims t) (agree-type-at t) agree-type.Post M
 agree-type-meets t = lts.spec (claims t) (agree-type-at t) agree-type.Post
