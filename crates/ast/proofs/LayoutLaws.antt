@@ -12,9 +12,9 @@ use Rattle.rules.specs.declared.Node.{Node}
 use Rattle.rules.specs.declared.Node.the-variants as N
 use Rattle.rules.specs.declared.TypeExpr.{TypeExpr}
 use Rattle.rules.specs.declared.TypeExpr.the-variants as T
-use Rattle.ast.specs.Decode.{nodesByTag, typesByTag, nodeOf, typeOf, nodeAt, typeAt}
+use Rattle.ast.specs.Decode.{nodesByKind, typesByKind, nodeOf, typeOf, nodeAt, typeAt}
 
--- ---- a tag that is unknown
+-- ---- a kind that is unknown
 
 outside : {A : Type 0} (xs : List (Option A)) (t : ℕ) → (0 < t → length xs < t) → getD (none ∷ xs) t none ≡ none
 outside xs zero h = refl
@@ -25,12 +25,12 @@ pub past : (k x : ℕ) → k < x → (x ≡ suc k → ⊥) → suc k < x
 past k x h n = omega arith
 
 pub node-unknown : (cs : List ℕ) → (0 < getD cs 0 0 → 14 < getD cs 0 0) → nodeOf cs ≡ none
-unfolding nodeOf nodesByTag
-node-unknown cs h = outside (nodesByTag cs) (getD cs 0 0) h
+unfolding nodeOf nodesByKind
+node-unknown cs h = outside (nodesByKind cs) (getD cs 0 0) h
 
 pub type-unknown : (cs : List ℕ) → (0 < getD cs 0 0 → 5 < getD cs 0 0) → typeOf cs ≡ none
-unfolding typeOf typesByTag
-type-unknown cs h = outside (typesByTag cs) (getD cs 0 0) h
+unfolding typeOf typesByKind
+type-unknown cs h = outside (typesByKind cs) (getD cs 0 0) h
 
 -- ---- a record inside its array, and one outside
 
@@ -81,7 +81,7 @@ type-length (T.Record t fs) = refl
 -- ---- what is read of a record's cells is the record
 
 pub node-trip : (n : Node) → nodeOf (nodeCells n) ≡ some n
-unfolding nodeOf nodesByTag nodeCells tokenCells runCells
+unfolding nodeOf nodesByKind nodeCells tokenCells runCells
 node-trip (N.Atom id t) = refl
 node-trip (N.Ident id t) = refl
 node-trip (N.Bin id op l r) = refl
@@ -98,7 +98,7 @@ node-trip (N.Record id t fs) = refl
 node-trip (N.Array id t ms) = refl
 
 pub type-trip : (t : TypeExpr) → typeOf (typeCells t) ≡ some t
-unfolding typeOf typesByTag typeCells tokenCells runCells
+unfolding typeOf typesByKind typeCells tokenCells runCells
 type-trip (T.Atom t) = refl
 type-trip (T.Foreign t) = refl
 type-trip (T.Option i) = refl

@@ -25,9 +25,9 @@ tokenAt cs j = record { kind = getD cs j 0; start = getD cs (j + 1) 0; len = get
 abbrev pub runAt : List ℕ → ℕ → Run
 runAt cs j = record { start = getD cs j 0; len = getD cs (j + 1) 0 }
 
--- the record that cells hold, at each tag from 1 on
-unfoldable pub nodesByTag : List ℕ → List (Option Node)
-nodesByTag cs =
+-- the record that cells hold, at each kind from 1 on
+unfoldable pub nodesByKind : List ℕ → List (Option Node)
+nodesByKind cs =
     some (N.Atom (getD cs 1 0) (tokenAt cs 2)) ∷
     some (N.Ident (getD cs 1 0) (tokenAt cs 2)) ∷
     some (N.Bin (getD cs 1 0) (tokenAt cs 2) (record { 0 = getD cs 5 0 }) (record { 0 = getD cs 6 0 })) ∷
@@ -44,8 +44,8 @@ nodesByTag cs =
     some (N.Array (getD cs 1 0) (tokenAt cs 2) (runAt cs 5)) ∷
     []
 
-unfoldable pub typesByTag : List ℕ → List (Option TypeExpr)
-typesByTag cs =
+unfoldable pub typesByKind : List ℕ → List (Option TypeExpr)
+typesByKind cs =
     some (T.Atom (tokenAt cs 1)) ∷
     some (T.Foreign (tokenAt cs 1)) ∷
     some (T.Option (record { 0 = getD cs 1 0 })) ∷
@@ -53,12 +53,12 @@ typesByTag cs =
     some (T.Record (tokenAt cs 1) (runAt cs 4)) ∷
     []
 
--- the record that cells hold, by the tag in the first; none where the tag is unknown
+-- the record that cells hold, by the kind in the first; none where the kind is unknown
 unfoldable pub nodeOf : List ℕ → Option Node
-nodeOf cs = getD (none ∷ nodesByTag cs) (getD cs 0 0) none
+nodeOf cs = getD (none ∷ nodesByKind cs) (getD cs 0 0) none
 
 unfoldable pub typeOf : List ℕ → Option TypeExpr
-typeOf cs = getD (none ∷ typesByTag cs) (getD cs 0 0) none
+typeOf cs = getD (none ∷ typesByKind cs) (getD cs 0 0) none
 
 abbrev pub if : {A : Type 0} → Bool → A → A → A
 if true a b = a
@@ -68,7 +68,7 @@ if false a b = b
 abbrev pub fits : ℕ → List ℕ → ℕ → Bool
 fits size xs i = leb (size * i + size) (length xs)
 
--- record `i`; none where it lies outside or its tag is unknown
+-- record `i`; none where it lies outside or its kind is unknown
 unfoldable pub nodeAt : List ℕ → ℕ → Option Node
 nodeAt nodes i = if (fits nodeWidth nodes i) (nodeOf (take nodeWidth (drop (nodeWidth * i) nodes))) none
 

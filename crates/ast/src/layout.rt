@@ -88,7 +88,7 @@ fn cells8(a: &[u32], at: usize) -> [u32; TypeExpr::WIDTH]
 fn node_of(c: [u32; Node::WIDTH]) -> NodeRead
     ensures { λ r. ⌜ nodeRead r ≡ nodeOf c ⌝ }
 {
-    let tag = c[0];
+    let kind = c[0];
     let id = c[1];
     let c2 = c[2];
     let c3 = c[3];
@@ -100,7 +100,7 @@ fn node_of(c: [u32; Node::WIDTH]) -> NodeRead
     let c9 = c[9];
     let c10 = c[10];
     let c11 = c[11];
-    match tag {
+    match kind {
         NodeKind::ATOM => NodeRead::Known(Node::Atom {
             id,
             raw: Token {
@@ -247,13 +247,13 @@ fn node_of(c: [u32; Node::WIDTH]) -> NodeRead
 fn type_of(c: [u32; TypeExpr::WIDTH]) -> TypeRead
     ensures { λ r. ⌜ typeRead r ≡ typeOf c ⌝ }
 {
-    let tag = c[0];
+    let kind = c[0];
     let c1 = c[1];
     let c2 = c[2];
     let c3 = c[3];
     let c4 = c[4];
     let c5 = c[5];
-    match tag {
+    match kind {
         TypeExprKind::ATOM => TypeRead::Known(TypeExpr::Atom(Token {
             kind: c1,
             start: c2 as usize,

@@ -4,7 +4,7 @@ mod Lists
 mod Words
 mod Walk
 mod Listing
-mod Tags
+mod RecordCells
 mod Types
 mod Nodes
 mod Roots

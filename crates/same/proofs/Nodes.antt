@@ -1,4 +1,4 @@
--- When two nodes agree: their tags are the same, and their parts agree.
+-- When two nodes agree: their kinds are the same, and their parts agree.
 use mathlib.Core.Path.{_≡_, refl, sym, _∙_, ap, ap₂, subst}
 use mathlib.Core.Bool.{Bool, true, false}
 use mathlib.Core.Option.{Option, none, some}
@@ -14,16 +14,16 @@ use Rattle.lex.proofs.Laws.{agree}
 use Rattle.rules.specs.Layout.{nodeWidth}
 use Rattle.rules.specs.Shape as S
 use Rattle.rules.specs.Shape.{Shape, Env, map₁, map₂, map₃, map₄, map₅, andThen, w, nodeShape}
-use Rattle.ast.specs.Decode.{if, fits, nodeOf, nodesByTag, nodeAt}
+use Rattle.ast.specs.Decode.{if, fits, nodeOf, nodesByKind, nodeAt}
 use Rattle.ast.specs.Tabulate.{entryAt}
 use Rattle.ast.proofs.Tabulate.{entries-below, entries-past}
 use Rattle.ast.proofs.LayoutLaws.{node-inside, node-outside, node-unknown}
 use Rattle.same.specs.Agree.{Agree, Decides}
-use Rattle.same.specs.Shapes.{nodeRow, View, typesIn, nodesBelow, envBelow, tagBelow, nodeTag}
+use Rattle.same.specs.Shapes.{nodeRow, View, typesIn, nodesBelow, envBelow, kindAt, nodeKind}
 use Rattle.same.specs.Parts.{Part, nothing, aWord, someWords, someParams, aType, someFns, someNodes, someFields, someCases, aNode, read, PartAgrees, partOf, parts, sortAt, cellAt, PartsAgree}
 use Rattle.same.proofs.Agree.{agree₁, part₁, agree₂, parts₂, decides-yes, decides-no, decides-by}
-use Rattle.same.proofs.Tags.{recordCells, number-in, run-in, token-in}
-use Rattle.same.proofs.Types.{made₁, made₂, tag-bound}
+use Rattle.same.proofs.RecordCells.{recordCells, number-in, run-in, token-in}
+use Rattle.same.proofs.Types.{made₁, made₂, kind-bound}
 
 -- ---- constructors of three, four and five
 
@@ -102,7 +102,7 @@ module _ {A B C D E F : Type 0} (f : A → B → C → D → E → F) (inj : (a 
 
 -- ---- a node's record by its parts
 
--- what a record of each tag from 0 on says
+-- what a record of each kind from 0 on says
 nodesByParts : Env → List ℕ → List (Option Shape)
 nodesByParts e cs =
     none ∷
@@ -123,9 +123,9 @@ nodesByParts e cs =
     []
 
 nodeByParts : Env → List ℕ → ℕ → Option Shape
-nodeByParts e cs tag = getD (nodesByParts e cs) tag none
+nodeByParts e cs kind = getD (nodesByParts e cs) kind none
 
--- a claim of every tag from 0 on
+-- a claim of every kind from 0 on
 upTo14 : (P : ℕ → Type 0) → P 0 → P 1 → P 2 → P 3 → P 4 → P 5 → P 6 → P 7 → P 8 → P 9 → P 10 → P 11 → P 12 → P 13 → P 14 → (g : ℕ) → g ≤ 14 → P g
 upTo14 P p₀ p₁ p₂ p₃ p₄ p₅ p₆ p₇ p₈ p₉ p₁₀ p₁₁ p₁₂ p₁₃ p₁₄ zero l = p₀
 upTo14 P p₀ p₁ p₂ p₃ p₄ p₅ p₆ p₇ p₈ p₉ p₁₀ p₁₁ p₁₂ p₁₃ p₁₄ (suc zero) l = p₁
@@ -144,11 +144,11 @@ upTo14 P p₀ p₁ p₂ p₃ p₄ p₅ p₆ p₇ p₈ p₉ p₁₀ p₁₁ p₁�
 upTo14 P p₀ p₁ p₂ p₃ p₄ p₅ p₆ p₇ p₈ p₉ p₁₀ p₁₁ p₁₂ p₁₃ p₁₄ (suc (suc (suc (suc (suc (suc (suc (suc (suc (suc (suc (suc (suc (suc zero)))))))))))))) l = p₁₄
 upTo14 P p₀ p₁ p₂ p₃ p₄ p₅ p₆ p₇ p₈ p₉ p₁₀ p₁₁ p₁₂ p₁₃ p₁₄ (suc (suc (suc (suc (suc (suc (suc (suc (suc (suc (suc (suc (suc (suc (suc g))))))))))))))) l = absurd (omega arith)
 
-by-tag : (e : Env) (cs : List ℕ) (g : ℕ) → getD cs 0 0 ≡ g → g ≤ 14 → andThen (nodeOf cs) (nodeShape e) ≡ nodeByParts e cs g
-unfolding nodeOf nodesByTag nodeByParts nodesByParts nodeShape andThen
-by-tag e cs g h l = rw h (upTo14 (λ (n : ℕ). andThen (getD (none ∷ nodesByTag cs) n none) (nodeShape e) ≡ getD (nodesByParts e cs) n none) refl refl refl refl refl refl refl refl refl refl refl refl refl refl refl g l)
+by-kind : (e : Env) (cs : List ℕ) (g : ℕ) → getD cs 0 0 ≡ g → g ≤ 14 → andThen (nodeOf cs) (nodeShape e) ≡ nodeByParts e cs g
+unfolding nodeOf nodesByKind nodeByParts nodesByParts nodeShape andThen
+by-kind e cs g h l = rw h (upTo14 (λ (n : ℕ). andThen (getD (none ∷ nodesByKind cs) n none) (nodeShape e) ≡ getD (nodesByParts e cs) n none) refl refl refl refl refl refl refl refl refl refl refl refl refl refl refl g l)
 
--- ---- nodes that agree have one tag
+-- ---- nodes that agree have one kind
 
 tagOf : Shape → ℕ
 tagOf (S.atom a) = 1
@@ -175,9 +175,9 @@ module _ {A B C D : Type 0} (f : A → B → C → D) (g : D → ℕ) (n : ℕ) 
 rest₅ : {A B C D E F : Type 0} (f : A → B → C → D → E → F) (x : Option A) (y : Option B) (z : Option C) (u : Option D) (v : Option E) → map₅ f x y z u v ≡ map₃ (λ a b p. f a b (p .0) (p .1 .0) (p .1 .1)) x y (map₂ pair z (map₂ pair u v))
 rest₅ f x y z u v = map₅-as f x y z u v ∙ map₄-as (λ a b c p. f a b c (p .0) (p .1)) x y z (map₂ pair u v)
 
-tag-is : (e : Env) (cs : List ℕ) (g : ℕ) → g ≤ 14 → (σ : Shape) → nodeByParts e cs g ≡ some σ → tagOf σ ≡ g
+kind-is : (e : Env) (cs : List ℕ) (g : ℕ) → g ≤ 14 → (σ : Shape) → nodeByParts e cs g ≡ some σ → tagOf σ ≡ g
 unfolding nodeByParts nodesByParts tagOf
-tag-is e cs g l = upTo14 (λ (n : ℕ). (σ : Shape) → getD (nodesByParts e cs) n none ≡ some σ → tagOf σ ≡ n)
+kind-is e cs g l = upTo14 (λ (n : ℕ). (σ : Shape) → getD (nodesByParts e cs) n none ≡ some σ → tagOf σ ≡ n)
     (λ σ h. absurd (let z : _≡_ {A = ℕ} 0 1 = cc in omega arith))
     (λ σ h. made₁ S.atom tagOf 1 (λ a. refl) _ σ h)
     (λ σ h. made₁ S.ident tagOf 2 (λ a. refl) _ σ h)
@@ -294,8 +294,8 @@ module _ (e e′ : Env) (xs xs′ : List ℕ) (p p′ g : ℕ) (l : g ≤ 14) (z
 -- ---- node `i` of the arrays
 
 module _ (v : View) where
-  row-is : (i : ℕ) → andThen (nodeAt (v .nodes) i) (nodeShape (envBelow v i)) ≡ nodeByParts (envBelow v i) (recordCells nodeWidth (v .nodes) (nodeWidth * i)) (nodeTag (v .nodes) i)
-  unfolding nodeByParts nodesByParts andThen tagBelow
+  row-is : (i : ℕ) → andThen (nodeAt (v .nodes) i) (nodeShape (envBelow v i)) ≡ nodeByParts (envBelow v i) (recordCells nodeWidth (v .nodes) (nodeWidth * i)) (nodeKind (v .nodes) i)
+  unfolding nodeByParts nodesByParts andThen kindAt
   row-is i = inside (fits nodeWidth (v .nodes) i) refl
     where
       none-is : nodeAt (v .nodes) i ≡ none → andThen (nodeAt (v .nodes) i) (nodeShape (envBelow v i)) ≡ nodeByParts (envBelow v i) (recordCells nodeWidth (v .nodes) (nodeWidth * i)) 0
@@ -306,14 +306,14 @@ module _ (v : View) where
 
       known : (b : Bool) → nodeWidth * i + nodeWidth ≤ length (v .nodes) → leb (getD (v .nodes) (nodeWidth * i) 0) 14 ≡ b
           → andThen (nodeAt (v .nodes) i) (nodeShape (envBelow v i)) ≡ nodeByParts (envBelow v i) (recordCells nodeWidth (v .nodes) (nodeWidth * i)) (if b (getD (v .nodes) (nodeWidth * i) 0) 0)
-      known true h k = ap (λ o. andThen o (nodeShape (envBelow v i))) (node-inside (v .nodes) i h) ∙ by-tag (envBelow v i) (recordCells nodeWidth (v .nodes) (nodeWidth * i)) (getD (v .nodes) (nodeWidth * i) 0) first (leb-true _ _ k)
+      known true h k = ap (λ o. andThen o (nodeShape (envBelow v i))) (node-inside (v .nodes) i h) ∙ by-kind (envBelow v i) (recordCells nodeWidth (v .nodes) (nodeWidth * i)) (getD (v .nodes) (nodeWidth * i) 0) first (leb-true _ _ k)
       known false h k = none-is (node-inside (v .nodes) i h ∙ node-unknown (recordCells nodeWidth (v .nodes) (nodeWidth * i)) (λ z. rw first (leb-false _ _ k)))
 
-      inside : (b : Bool) → fits nodeWidth (v .nodes) i ≡ b → andThen (nodeAt (v .nodes) i) (nodeShape (envBelow v i)) ≡ nodeByParts (envBelow v i) (recordCells nodeWidth (v .nodes) (nodeWidth * i)) (nodeTag (v .nodes) i)
+      inside : (b : Bool) → fits nodeWidth (v .nodes) i ≡ b → andThen (nodeAt (v .nodes) i) (nodeShape (envBelow v i)) ≡ nodeByParts (envBelow v i) (recordCells nodeWidth (v .nodes) (nodeWidth * i)) (nodeKind (v .nodes) i)
       inside true h = rw h (known (leb (getD (v .nodes) (nodeWidth * i) 0) 14) (leb-true _ _ h) refl)
       inside false h = rw h (none-is (node-outside (v .nodes) i (leb-false _ _ h)))
 
-  node-is : (n i : ℕ) → i < n → nodesBelow v n i ≡ nodeByParts (envBelow v i) (recordCells nodeWidth (v .nodes) (nodeWidth * i)) (nodeTag (v .nodes) i)
+  node-is : (n i : ℕ) → i < n → nodesBelow v n i ≡ nodeByParts (envBelow v i) (recordCells nodeWidth (v .nodes) (nodeWidth * i)) (nodeKind (v .nodes) i)
   unfolding nodesBelow entryAt
   node-is n i h = entries-below (nodeRow (v .script) (v .cells) (typesIn v)) (nodeAt (v .nodes)) n i h ∙ row-is i
 
@@ -329,11 +329,11 @@ module _ (v v′ : View) (n i m j : ℕ) where
   pub node-past-right : m ≤ j → Decides false (Agree (nodesBelow v n i) (nodesBelow v′ m j))
   node-past-right h = decides-no (λ b. let x = node-past v′ m j h in let l = b .right in let z : _≡_ {A = ℕ} 0 1 = cc in omega arith)
 
-  pub node-zero : i < n → {g : ℕ} → g ≡ nodeTag (v .nodes) i → g ≡ 0 → Decides false (Agree (nodesBelow v n i) (nodesBelow v′ m j))
+  pub node-zero : i < n → {g : ℕ} → g ≡ nodeKind (v .nodes) i → g ≡ 0 → Decides false (Agree (nodesBelow v n i) (nodesBelow v′ m j))
   unfolding nodeByParts nodesByParts
   node-zero h k q = decides-no (λ b. let x : nodesBelow v n i ≡ none = node-is v n i h ∙ ap (nodeByParts (envBelow v i) (recordCells nodeWidth (v .nodes) (nodeWidth * i))) (sym k ∙ q) in let l = b .left in let z : _≡_ {A = ℕ} 0 1 = cc in omega arith)
 
-  module _ (h : i < n) (h′ : j < m) {g g′ : ℕ} (k : g ≡ nodeTag (v .nodes) i) (k′ : g′ ≡ nodeTag (v′ .nodes) j) where
+  module _ (h : i < n) (h′ : j < m) {g g′ : ℕ} (k : g ≡ nodeKind (v .nodes) i) (k′ : g′ ≡ nodeKind (v′ .nodes) j) where
     left-is : nodesBelow v n i ≡ nodeByParts (envBelow v i) (recordCells nodeWidth (v .nodes) (nodeWidth * i)) g
     left-is = rw k (node-is v n i h)
 
@@ -341,13 +341,13 @@ module _ (v v′ : View) (n i m j : ℕ) where
     right-is = rw k′ (node-is v′ m j h′)
 
     bound : g ≤ 14
-    bound = rw k (tag-bound 14 (v .nodes) nodeWidth i)
+    bound = rw k (kind-bound 14 (v .nodes) nodeWidth i)
 
     bound′ : g′ ≤ 14
-    bound′ = rw k′ (tag-bound 14 (v′ .nodes) nodeWidth j)
+    bound′ = rw k′ (kind-bound 14 (v′ .nodes) nodeWidth j)
 
-    pub other-node-tag : (g ≡ g′ → ⊥) → Decides false (Agree (nodesBelow v n i) (nodesBelow v′ m j))
-    other-node-tag f = decides-no (λ b. f (sym (tag-is (envBelow v i) _ g bound (b .it) (sym left-is ∙ b .left)) ∙ tag-is (envBelow v′ j) _ g′ bound′ (b .it) (sym right-is ∙ b .right)))
+    pub other-node-kind : (g ≡ g′ → ⊥) → Decides false (Agree (nodesBelow v n i) (nodesBelow v′ m j))
+    other-node-kind f = decides-no (λ b. f (sym (kind-is (envBelow v i) _ g bound (b .it) (sym left-is ∙ b .left)) ∙ kind-is (envBelow v′ j) _ g′ bound′ (b .it) (sym right-is ∙ b .right)))
 
     module _ (f : g ≡ g′) (nz : g ≡ 0 → ⊥) where
       splits : Splits (Whole (envBelow v i) (envBelow v′ j) (recordCells nodeWidth (v .nodes) (nodeWidth * i)) (recordCells nodeWidth (v′ .nodes) (nodeWidth * j)) g) (Each (envBelow v i) (envBelow v′ j) (recordCells nodeWidth (v .nodes) (nodeWidth * i)) (recordCells nodeWidth (v′ .nodes) (nodeWidth * j)) g)
@@ -374,8 +374,8 @@ module _ (v v′ : View) (n i m j : ℕ) where
         pub last-decides : {r : Bool} → (sortAt (6 * g + 5) ≡ 0 → ⊥) → Decides r (Agree (nodesBelow v i (getD (v .nodes) (nodeWidth * i + cellAt (6 * g + 5)) 0)) (nodesBelow v′ j (getD (v′ .nodes) (nodeWidth * j + cellAt (6 * g + 5)) 0))) → Decides r (Agree (nodesBelow v n i) (nodesBelow v′ m j))
         last-decides z d = decides-by (λ a. remade q (last-is (envBelow v i) (envBelow v′ j) _ _ _ _ g bound z a)) (λ b. last-was (envBelow v i) (envBelow v′ j) _ _ _ _ g bound z (unmade b 5 (omega arith))) d
 
-pub node-tag-bound : (xs : List ℕ) (i : ℕ) {g : ℕ} → g ≡ nodeTag xs i → g < 15
-node-tag-bound xs i e = rw e (let h = tag-bound 14 xs nodeWidth i in omega arith)
+pub node-kind-bound : (xs : List ℕ) (i : ℕ) {g : ℕ} → g ≡ nodeKind xs i → g < 15
+node-kind-bound xs i e = rw e (let h = kind-bound 14 xs nodeWidth i in omega arith)
 
 -- one more part
 pub more-parts : (P : ℕ → Type 0) (x : ℕ) → ((y : ℕ) → y < x → P y) → P x → (y : ℕ) → y < x + 1 → P y

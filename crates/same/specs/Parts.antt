@@ -60,7 +60,7 @@ partOf k =
 abbrev encode : ℕ → ℕ → ℕ
 encode sort cell = 16 * sort + cell
 
--- six parts for each tag from 0 on, the last being the child that is compared last
+-- six parts for each kind from 0 on, the last being the child that is compared last
 unfoldable pub parts : List ℕ
 parts =
     0 ∷ 0 ∷ 0 ∷ 0 ∷ 0 ∷ 0 ∷
@@ -85,6 +85,6 @@ sortAt k = getD parts k 0 / 16
 unfoldable pub cellAt : ℕ → ℕ
 cellAt k = getD parts k 0 % 16
 
--- part `k` of two records of one tag, from the cells `p` and `p′` on
+-- part `k` of two records of one kind, from the cells `p` and `p′` on
 unfoldable pub PartsAgree : Env → Env → ℕ → List ℕ → ℕ → List ℕ → ℕ → ℕ → Type 0
-PartsAgree e e′ tag xs p xs′ p′ k = PartAgrees e e′ (partOf (sortAt (6 * tag + k))) xs (p + cellAt (6 * tag + k)) xs′ (p′ + cellAt (6 * tag + k))
+PartsAgree e e′ kind xs p xs′ p′ k = PartAgrees e e′ (partOf (sortAt (6 * kind + k))) xs (p + cellAt (6 * kind + k)) xs′ (p′ + cellAt (6 * kind + k))

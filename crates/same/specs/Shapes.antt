@@ -52,15 +52,15 @@ nodesBelow v n = entriesBelow (nodeRow (v .script) (v .cells) (typesIn v)) (node
 abbrev pub envBelow : View → ℕ → Env
 envBelow v n = record { script = v .script; cells = v .cells; type = typesIn v; node = nodesBelow v n }
 
--- the tag of a record; 0 where it lies outside or its tag is unknown
-unfoldable pub tagBelow : (width known : ℕ) → List ℕ → ℕ → ℕ
-tagBelow width known xs i = if (fits width xs i) (if (leb (getD xs (width * i) 0) known) (getD xs (width * i) 0) 0) 0
+-- the kind of a record; 0 where it lies outside or its kind is unknown
+unfoldable pub kindAt : (width known : ℕ) → List ℕ → ℕ → ℕ
+kindAt width known xs i = if (fits width xs i) (if (leb (getD xs (width * i) 0) known) (getD xs (width * i) 0) 0) 0
 
-abbrev pub typeTag : List ℕ → ℕ → ℕ
-typeTag = tagBelow typeWidth 5
+abbrev pub typeKind : List ℕ → ℕ → ℕ
+typeKind = kindAt typeWidth 5
 
-abbrev pub nodeTag : List ℕ → ℕ → ℕ
-nodeTag = tagBelow nodeWidth 14
+abbrev pub nodeKind : List ℕ → ℕ → ℕ
+nodeKind = kindAt nodeWidth 14
 
 abbrev pub viewOf : Lent → View
 viewOf l = view (l .script) (l .nodes) (l .types) (cellsOf l) (l .counts .types)

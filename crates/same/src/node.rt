@@ -12,10 +12,10 @@ ghost use mathlib.Core.Path.{_≡_};
 ghost use Prim.Native.Nat.{ℕ, _*_, _<_};
 ghost use Rattle.rules.specs.Shape.{shapes, fields, cases};
 ghost use Rattle.same.specs.Agree.{Agree, Decides};
-ghost use Rattle.same.specs.Shapes.{view, nodesBelow, envBelow, nodeTag};
+ghost use Rattle.same.specs.Shapes.{view, nodesBelow, envBelow, nodeKind};
 ghost use Rattle.same.specs.Parts.{partOf, PartAgrees, PartsAgree};
 
-// Six parts for each tag from 0 on, in the order in which they are compared; the last is the child that is compared last. The first digit says
+// Six parts for each kind from 0 on, in the order in which they are compared; the last is the child that is compared last. The first digit says
 // what a part is: 0 nothing, 1 a token, 2 a list of tokens, 3 arguments, 4 a type, 5 fns, 6 a list of nodes, 7 fields, 8 cases, 9 a node. The
 // second is its cell in the record.
 const PARTS: [u8; 90] = [
@@ -113,15 +113,15 @@ const PARTS: [u8; 90] = [
 
 const LAST: usize = 5;
 
-// The tag of a node's record; 0 where it lies outside or its tag is unknown.
-fn node_tag(nodes: &[u32], i: u32) -> u32
-    ensures { λ r. ⌜ r ≡ nodeTag (now (nodes .entry)) i ⌝ }
+// The kind of a node's record; 0 where it lies outside or its kind is unknown.
+fn node_kind(nodes: &[u32], i: u32) -> u32
+    ensures { λ r. ⌜ r ≡ nodeKind (now (nodes .entry)) i ⌝ }
 {
     let at = 16 * i as usize;
     if at + 16 <= nodes.len() {
-        let tag = cell(nodes, at, 0);
-        if tag <= 14 {
-            return tag;
+        let kind = cell(nodes, at, 0);
+        if kind <= 14 {
+            return kind;
         }
     }
     0
@@ -153,11 +153,11 @@ pub fn agree_node(
     if m <= j {
         return false;
     }
-    let tag = node_tag(*nodes, i);
-    if tag == 0 {
+    let kind = node_kind(*nodes, i);
+    if kind == 0 {
         return false;
     }
-    if tag != node_tag(*nodes2, j) {
+    if kind != node_kind(*nodes2, j) {
         return false;
     }
     if !agree_parts(
@@ -173,11 +173,11 @@ pub fn agree_node(
         cells2,
         k2,
         j,
-        tag,
+        kind,
     ) {
         return false;
     }
-    let last = PARTS[6 * tag as usize + LAST];
+    let last = PARTS[6 * kind as usize + LAST];
     if last / 16 == 0 {
         return true;
     }
@@ -200,7 +200,7 @@ pub fn agree_node(
     )
 }
 
-// The parts of two nodes of one tag, but for the last.
+// The parts of two nodes of one kind, but for the last.
 fn agree_parts(
     s: &&[u8],
     nodes: &&[u32],
@@ -214,14 +214,14 @@ fn agree_parts(
     cells2: &&[u32],
     k2: u32,
     j: u32,
-    tag: u32,
+    kind: u32,
 ) -> bool
-    requires { ⌜ tag < 15 ⌝ }
-    ensures { λ r. ⌜ Decides r ((x : ℕ) → x < 5 → PartsAgree (envBelow (view (now (now (s .entry))) (now (now (nodes .entry))) (now (now (types .entry))) (now (now (cells .entry))) k) i) (envBelow (view (now (now (s2 .entry))) (now (now (nodes2 .entry))) (now (now (types2 .entry))) (now (now (cells2 .entry))) k2) j) tag (now (now (nodes .entry))) (16 * i) (now (now (nodes2 .entry))) (16 * j) x) ⌝ }
+    requires { ⌜ kind < 15 ⌝ }
+    ensures { λ r. ⌜ Decides r ((x : ℕ) → x < 5 → PartsAgree (envBelow (view (now (now (s .entry))) (now (now (nodes .entry))) (now (now (types .entry))) (now (now (cells .entry))) k) i) (envBelow (view (now (now (s2 .entry))) (now (now (nodes2 .entry))) (now (now (types2 .entry))) (now (now (cells2 .entry))) k2) j) kind (now (now (nodes .entry))) (16 * i) (now (now (nodes2 .entry))) (16 * j) x) ⌝ }
 {
     let mut x = 0;
     while x < LAST {
-        let part = PARTS[6 * tag as usize + x];
+        let part = PARTS[6 * kind as usize + x];
         let o = (part % 16) as usize;
         if !agree_part(
             s,
@@ -263,14 +263,14 @@ fn agree_part(
     k2: u32,
     j: u32,
     at2: usize,
-    kind: u8,
+    sort: u8,
 ) -> bool
-    ensures { λ r. ⌜ Decides r (PartAgrees (envBelow (view (now (now (s .entry))) (now (now (nodes .entry))) (now (now (types .entry))) (now (now (cells .entry))) k) i) (envBelow (view (now (now (s2 .entry))) (now (now (nodes2 .entry))) (now (now (types2 .entry))) (now (now (cells2 .entry))) k2) j) (partOf kind) (now (now (nodes .entry))) at (now (now (nodes2 .entry))) at2) ⌝ }
+    ensures { λ r. ⌜ Decides r (PartAgrees (envBelow (view (now (now (s .entry))) (now (now (nodes .entry))) (now (now (types .entry))) (now (now (cells .entry))) k) i) (envBelow (view (now (now (s2 .entry))) (now (now (nodes2 .entry))) (now (now (types2 .entry))) (now (now (cells2 .entry))) k2) j) (partOf sort) (now (now (nodes .entry))) at (now (now (nodes2 .entry))) at2) ⌝ }
 {
-    if kind == 1 {
+    if sort == 1 {
         return agree_token(*s, token_at(*nodes, at), *s2, token_at(*nodes2, at2));
     }
-    if kind == 2 {
+    if sort == 2 {
         return agree_words(
             *s,
             *cells,
@@ -280,7 +280,7 @@ fn agree_part(
             run_at(*nodes2, at2),
         );
     }
-    if kind == 3 {
+    if sort == 3 {
         return agree_params(
             s,
             types,
@@ -294,7 +294,7 @@ fn agree_part(
             run_at(*nodes2, at2),
         );
     }
-    if kind == 4 {
+    if sort == 4 {
         return agree_type(
             s,
             types,
@@ -308,7 +308,7 @@ fn agree_part(
             cell(*nodes2, at2, 0),
         );
     }
-    if kind == 5 {
+    if sort == 5 {
         return agree_fns(
             s,
             types,
@@ -322,7 +322,7 @@ fn agree_part(
             run_at(*nodes2, at2),
         );
     }
-    if kind == 6 {
+    if sort == 6 {
         return agree_nodes(
             s,
             nodes,
@@ -340,7 +340,7 @@ fn agree_part(
             run_at(*nodes2, at2),
         );
     }
-    if kind == 7 {
+    if sort == 7 {
         return agree_fields(
             s,
             nodes,
@@ -358,7 +358,7 @@ fn agree_part(
             run_at(*nodes2, at2),
         );
     }
-    if kind == 8 {
+    if sort == 8 {
         return agree_cases(
             s,
             nodes,
@@ -376,7 +376,7 @@ fn agree_part(
             run_at(*nodes2, at2),
         );
     }
-    if kind == 9 {
+    if sort == 9 {
         return agree_node(
             s,
             nodes,

@@ -8,17 +8,17 @@ use rules::Run;
 ghost use mathlib.Core.Path.{_≡_};
 ghost use Rattle.rules.specs.Shape.{params, fns};
 ghost use Rattle.same.specs.Agree.{Agree, Decides};
-ghost use Rattle.same.specs.Shapes.{typesBelow, typeEnv, typeTag};
+ghost use Rattle.same.specs.Shapes.{typesBelow, typeEnv, typeKind};
 
-// The tag of a type's record; 0 where it lies outside or its tag is unknown.
-fn type_tag(types: &[u32], i: u32) -> u32
-    ensures { λ r. ⌜ r ≡ typeTag (now (types .entry)) i ⌝ }
+// The kind of a type's record; 0 where it lies outside or its kind is unknown.
+fn type_kind(types: &[u32], i: u32) -> u32
+    ensures { λ r. ⌜ r ≡ typeKind (now (types .entry)) i ⌝ }
 {
     let at = 8 * i as usize;
     if at + 8 <= types.len() {
-        let tag = cell(types, at, 0);
-        if tag <= 5 {
-            return tag;
+        let kind = cell(types, at, 0);
+        if kind <= 5 {
+            return kind;
         }
     }
     0
@@ -46,16 +46,16 @@ pub fn agree_type(
     if m <= j {
         return false;
     }
-    let tag = type_tag(*types, i);
-    if tag == 0 {
+    let kind = type_kind(*types, i);
+    if kind == 0 {
         return false;
     }
-    if tag != type_tag(*types2, j) {
+    if kind != type_kind(*types2, j) {
         return false;
     }
     let at = 8 * i as usize;
     let at2 = 8 * j as usize;
-    if tag == 3 {
+    if kind == 3 {
         return agree_type(
             s,
             types,
@@ -69,7 +69,7 @@ pub fn agree_type(
             cell(*types2, at2, 1),
         );
     }
-    if tag == 4 {
+    if kind == 4 {
         return agree_type(
             s,
             types,
@@ -91,7 +91,7 @@ pub fn agree_type(
     ) {
         return false;
     }
-    if tag != 5 {
+    if kind != 5 {
         return true;
     }
     agree_params(

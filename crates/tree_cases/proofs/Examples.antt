@@ -14,7 +14,7 @@ use Rattle.rules.specs.Layout.{padded}
 use Rattle.rules.specs.Shape as R
 use Rattle.rules.specs.Shape.{wellFormed, andThen, lookup, tabulate, map₁, map₂, map₃, map₄, map₅}
 use Rattle.rules.specs.declared.Counts.{Counts}
-use Rattle.ast.specs.Decode.{nodeOf, nodesByTag, nodeAt, typeOf, typesByTag, typeAt}
+use Rattle.ast.specs.Decode.{nodeOf, nodesByKind, nodeAt, typeOf, typesByKind, typeAt}
 use Rattle.ast.specs.Tabulate.{rows, entriesBelow, entryAt}
 use Rattle.ast.specs.Answer.{refused, answer, unless, unlessMalformed, lent, refusal, recordAsked}
 use Rattle.ast.specs.Lookup.{tokenStart, orElse, matchStart, startOf, nodeStart, wellFormedToken, typeTokenOf, typeToken}
@@ -53,7 +53,7 @@ unfolding wellFormed between fixedSpelling fixedSpellings keywords spellingStart
 tokens = tt
 
 unfoldable records : Unit {0}
-unfolding tokens refusal recordAsked unless unlessMalformed entryAt entriesBelow lookup tabulate rows andThen nodeAt nodeOf nodesByTag typeAt typeOf typesByTag
+unfolding tokens refusal recordAsked unless unlessMalformed entryAt entriesBelow lookup tabulate rows andThen nodeAt nodeOf nodesByKind typeAt typeOf typesByKind
 records = tt
 
 unfoldable start : Unit {0}

@@ -3,13 +3,13 @@ use mathlib.Core.Path.{sym}
 use Prim.Native.Nat.{_<_}
 use lib.ListN.{getD}
 use Rattle.ast.proofs.LayoutLaws.{node-unknown, past}
-use Rattle.ast.specs.Decode.{nodeOf, nodesByTag, nodeRead}
+use Rattle.ast.specs.Decode.{nodeOf, nodesByKind, nodeRead}
 use borrow.Author.Needs.{needs}
 use Rattle.ast.proofs.layout.node_of.Statement.{statement}
 use Rattle.ast.proofs.layout.node_of.Tie as tie
 
-array-read-tag : tie.Need-array-read-tag
-array-read-tag c = search needs
+array-read-kind : tie.Need-array-read-kind
+array-read-kind c = search needs
 
 array-read-id : tie.Need-array-read-id
 array-read-id c = search needs
@@ -129,59 +129,59 @@ cast-t114 : tie.Need-cast-t114
 cast-t114 c = search needs
 
 returns : tie.Need-returns
-unfolding nodeOf nodesByTag nodeRead
+unfolding nodeOf nodesByKind nodeRead
 returns c = rw (c .match .keys1)
 
 returns-2 : tie.Need-returns-2
-unfolding nodeOf nodesByTag nodeRead
+unfolding nodeOf nodesByKind nodeRead
 returns-2 c = rw (c .match .keys2)
 
 returns-3 : tie.Need-returns-3
-unfolding nodeOf nodesByTag nodeRead
+unfolding nodeOf nodesByKind nodeRead
 returns-3 c = rw (c .match .keys3)
 
 returns-4 : tie.Need-returns-4
-unfolding nodeOf nodesByTag nodeRead
+unfolding nodeOf nodesByKind nodeRead
 returns-4 c = rw (c .match .keys4)
 
 returns-5 : tie.Need-returns-5
-unfolding nodeOf nodesByTag nodeRead
+unfolding nodeOf nodesByKind nodeRead
 returns-5 c = rw (c .match .keys5)
 
 returns-6 : tie.Need-returns-6
-unfolding nodeOf nodesByTag nodeRead
+unfolding nodeOf nodesByKind nodeRead
 returns-6 c = rw (c .match .keys6)
 
 returns-7 : tie.Need-returns-7
-unfolding nodeOf nodesByTag nodeRead
+unfolding nodeOf nodesByKind nodeRead
 returns-7 c = rw (c .match .keys7)
 
 returns-8 : tie.Need-returns-8
-unfolding nodeOf nodesByTag nodeRead
+unfolding nodeOf nodesByKind nodeRead
 returns-8 c = rw (c .match .keys8)
 
 returns-9 : tie.Need-returns-9
-unfolding nodeOf nodesByTag nodeRead
+unfolding nodeOf nodesByKind nodeRead
 returns-9 c = rw (c .match .keys9)
 
 returns-10 : tie.Need-returns-10
-unfolding nodeOf nodesByTag nodeRead
+unfolding nodeOf nodesByKind nodeRead
 returns-10 c = rw (c .match .keys10)
 
 returns-11 : tie.Need-returns-11
-unfolding nodeOf nodesByTag nodeRead
+unfolding nodeOf nodesByKind nodeRead
 returns-11 c = rw (c .match .keys11)
 
 returns-12 : tie.Need-returns-12
-unfolding nodeOf nodesByTag nodeRead
+unfolding nodeOf nodesByKind nodeRead
 returns-12 c = rw (c .match .keys12)
 
 returns-13 : tie.Need-returns-13
-unfolding nodeOf nodesByTag nodeRead
+unfolding nodeOf nodesByKind nodeRead
 returns-13 c = rw (c .match .keys13)
 
 returns-14 : tie.Need-returns-14
-unfolding nodeOf nodesByTag nodeRead
+unfolding nodeOf nodesByKind nodeRead
 returns-14 c = rw (c .match .keys14)
 
 returns-15 : tie.Need-returns-15
@@ -196,7 +196,7 @@ pub node-of-spec : {M : Type 1} → statement M
 node-of-spec =
     tie.close
     (tie.spec
-    array-read-tag
+    array-read-kind
     array-read-id
     array-read-c2
     array-read-c3

@@ -3,13 +3,13 @@ use mathlib.Core.Path.{sym}
 use Prim.Native.Nat.{_<_}
 use lib.ListN.{getD}
 use Rattle.ast.proofs.LayoutLaws.{type-unknown, past}
-use Rattle.ast.specs.Decode.{typeOf, typesByTag, typeRead}
+use Rattle.ast.specs.Decode.{typeOf, typesByKind, typeRead}
 use borrow.Author.Needs.{needs}
 use Rattle.ast.proofs.layout.type_of.Statement.{statement}
 use Rattle.ast.proofs.layout.type_of.Tie as tie
 
-array-read-tag : tie.Need-array-read-tag
-array-read-tag c = search needs
+array-read-kind : tie.Need-array-read-kind
+array-read-kind c = search needs
 
 array-read-c1 : tie.Need-array-read-c1
 array-read-c1 c = search needs
@@ -45,23 +45,23 @@ cast-t36 : tie.Need-cast-t36
 cast-t36 c = search needs
 
 returns : tie.Need-returns
-unfolding typeOf typesByTag typeRead
+unfolding typeOf typesByKind typeRead
 returns c = rw (c .match .keys1)
 
 returns-2 : tie.Need-returns-2
-unfolding typeOf typesByTag typeRead
+unfolding typeOf typesByKind typeRead
 returns-2 c = rw (c .match .keys2)
 
 returns-3 : tie.Need-returns-3
-unfolding typeOf typesByTag typeRead
+unfolding typeOf typesByKind typeRead
 returns-3 c = rw (c .match .keys3)
 
 returns-4 : tie.Need-returns-4
-unfolding typeOf typesByTag typeRead
+unfolding typeOf typesByKind typeRead
 returns-4 c = rw (c .match .keys4)
 
 returns-5 : tie.Need-returns-5
-unfolding typeOf typesByTag typeRead
+unfolding typeOf typesByKind typeRead
 returns-5 c = rw (c .match .keys5)
 
 returns-6 : tie.Need-returns-6
@@ -76,7 +76,7 @@ pub type-of-spec : {M : Type 1} → statement M
 type-of-spec =
     tie.close
     (tie.spec
-    array-read-tag
+    array-read-kind
     array-read-c1
     array-read-c2
     array-read-c3

@@ -36,7 +36,7 @@ returns t c =
     let v2 = view (a .s2 .now .now) (a .nodes2 .now .now) (a .types2 .now .now) (a .cells2 .now .now) (a .k2) in
     let e = envBelow v (a .i) in
     let e2 = envBelow v2 (a .j) in
-    part-as e e2 (a .kind) _ _ _ _ (ap partOf (c .before .before .before .before .before .before .before .if1 .taken)) (rw (c .before .before .before .before .token-at .ensures, c .before .token-at2 .ensures) at (c .agree-token .ensures))
+    part-as e e2 (a .sort) _ _ _ _ (ap partOf (c .before .before .before .before .before .before .before .if1 .taken)) (rw (c .before .before .before .before .token-at .ensures, c .before .token-at2 .ensures) at (c .agree-token .ensures))
 
 returns-2 : (t : ℕ) → lts.Need-returns-2 (claims t) (agree-part-at t) agree-part.Post
 unfolding PartAgrees partOf words wordIn w
@@ -46,7 +46,7 @@ returns-2 t c =
     let v2 = view (a .s2 .now .now) (a .nodes2 .now .now) (a .types2 .now .now) (a .cells2 .now .now) (a .k2) in
     let e = envBelow v (a .i) in
     let e2 = envBelow v2 (a .j) in
-    part-as e e2 (a .kind) _ _ _ _ (ap partOf (c .before .before .before .before .before .before .before .before .before .if2 .taken)) (rw (c .before .before .before .before .before .run-at .ensures, c .before .run-at2 .ensures) at (c .agree-words .ensures))
+    part-as e e2 (a .sort) _ _ _ _ (ap partOf (c .before .before .before .before .before .before .before .before .before .if2 .taken)) (rw (c .before .before .before .before .before .run-at .ensures, c .before .run-at2 .ensures) at (c .agree-words .ensures))
 
 returns-3 : (t : ℕ) → lts.Need-returns-3 (claims t) (agree-part-at t) agree-part.Post
 unfolding PartAgrees partOf params paramIn wordIn w
@@ -56,7 +56,7 @@ returns-3 t c =
     let v2 = view (a .s2 .now .now) (a .nodes2 .now .now) (a .types2 .now .now) (a .cells2 .now .now) (a .k2) in
     let e = envBelow v (a .i) in
     let e2 = envBelow v2 (a .j) in
-    part-as e e2 (a .kind) _ _ _ _ (ap partOf (c .before .before .before .before .before .if3 .taken)) (rw (c .before .before .before .run-at3 .ensures, c .before .run-at4 .ensures) at (c .agree-params .ensures))
+    part-as e e2 (a .sort) _ _ _ _ (ap partOf (c .before .before .before .before .before .if3 .taken)) (rw (c .before .before .before .run-at3 .ensures, c .before .run-at4 .ensures) at (c .agree-params .ensures))
 
 returns-4 : (t : ℕ) → lts.Need-returns-4 (claims t) (agree-part-at t) agree-part.Post
 unfolding PartAgrees partOf
@@ -66,7 +66,7 @@ returns-4 t c =
     let v2 = view (a .s2 .now .now) (a .nodes2 .now .now) (a .types2 .now .now) (a .cells2 .now .now) (a .k2) in
     let e = envBelow v (a .i) in
     let e2 = envBelow v2 (a .j) in
-    part-as e e2 (a .kind) _ _ _ _ (ap partOf (c .before .before .before .before .before .if4 .taken)) (rw (c .before .before .before .cell .ensures, c .before .cell2 .ensures, add-zero, add-zero) at (c .agree-type .ensures))
+    part-as e e2 (a .sort) _ _ _ _ (ap partOf (c .before .before .before .before .before .if4 .taken)) (rw (c .before .before .before .cell .ensures, c .before .cell2 .ensures, add-zero, add-zero) at (c .agree-type .ensures))
 
 returns-5 : (t : ℕ) → lts.Need-returns-5 (claims t) (agree-part-at t) agree-part.Post
 unfolding PartAgrees partOf fns fnIn words params paramIn wordIn w
@@ -76,7 +76,7 @@ returns-5 t c =
     let v2 = view (a .s2 .now .now) (a .nodes2 .now .now) (a .types2 .now .now) (a .cells2 .now .now) (a .k2) in
     let e = envBelow v (a .i) in
     let e2 = envBelow v2 (a .j) in
-    part-as e e2 (a .kind) _ _ _ _ (ap partOf (c .before .before .before .before .before .if5 .taken)) (rw (c .before .before .before .run-at5 .ensures, c .before .run-at6 .ensures) at (c .agree-fns .ensures))
+    part-as e e2 (a .sort) _ _ _ _ (ap partOf (c .before .before .before .before .before .if5 .taken)) (rw (c .before .before .before .run-at5 .ensures, c .before .run-at6 .ensures) at (c .agree-fns .ensures))
 
 returns-6 : (t : ℕ) → lts.Need-returns-6 (claims t) (agree-part-at t) agree-part.Post
 unfolding PartAgrees partOf
@@ -86,7 +86,7 @@ returns-6 t c =
     let v2 = view (a .s2 .now .now) (a .nodes2 .now .now) (a .types2 .now .now) (a .cells2 .now .now) (a .k2) in
     let e = envBelow v (a .i) in
     let e2 = envBelow v2 (a .j) in
-    part-as e e2 (a .kind) _ _ _ _ (ap partOf (c .before .before .before .before .before .if6 .taken)) (rw (c .before .before .before .run-at7 .ensures, c .before .run-at8 .ensures) at (c .agree-nodes .ensures))
+    part-as e e2 (a .sort) _ _ _ _ (ap partOf (c .before .before .before .before .before .if6 .taken)) (rw (c .before .before .before .run-at7 .ensures, c .before .run-at8 .ensures) at (c .agree-nodes .ensures))
 
 returns-7 : (t : ℕ) → lts.Need-returns-7 (claims t) (agree-part-at t) agree-part.Post
 unfolding PartAgrees partOf
@@ -96,7 +96,7 @@ returns-7 t c =
     let v2 = view (a .s2 .now .now) (a .nodes2 .now .now) (a .types2 .now .now) (a .cells2 .now .now) (a .k2) in
     let e = envBelow v (a .i) in
     let e2 = envBelow v2 (a .j) in
-    part-as e e2 (a .kind) _ _ _ _ (ap partOf (c .before .before .before .before .before .if7 .taken)) (rw (c .before .before .before .run-at9 .ensures, c .before .run-at10 .ensures) at (c .agree-fields .ensures))
+    part-as e e2 (a .sort) _ _ _ _ (ap partOf (c .before .before .before .before .before .if7 .taken)) (rw (c .before .before .before .run-at9 .ensures, c .before .run-at10 .ensures) at (c .agree-fields .ensures))
 
 returns-8 : (t : ℕ) → lts.Need-returns-8 (claims t) (agree-part-at t) agree-part.Post
 unfolding PartAgrees partOf
@@ -106,7 +106,7 @@ returns-8 t c =
     let v2 = view (a .s2 .now .now) (a .nodes2 .now .now) (a .types2 .now .now) (a .cells2 .now .now) (a .k2) in
     let e = envBelow v (a .i) in
     let e2 = envBelow v2 (a .j) in
-    part-as e e2 (a .kind) _ _ _ _ (ap partOf (c .before .before .before .before .before .if8 .taken)) (rw (c .before .before .before .run-at11 .ensures, c .before .run-at12 .ensures) at (c .agree-cases .ensures))
+    part-as e e2 (a .sort) _ _ _ _ (ap partOf (c .before .before .before .before .before .if8 .taken)) (rw (c .before .before .before .run-at11 .ensures, c .before .run-at12 .ensures) at (c .agree-cases .ensures))
 
 returns-9 : (t : ℕ) → lts.Need-returns-9 (claims t) (agree-part-at t) agree-part.Post
 unfolding PartAgrees partOf
@@ -116,7 +116,7 @@ returns-9 t c =
     let v2 = view (a .s2 .now .now) (a .nodes2 .now .now) (a .types2 .now .now) (a .cells2 .now .now) (a .k2) in
     let e = envBelow v (a .i) in
     let e2 = envBelow v2 (a .j) in
-    part-as e e2 (a .kind) _ _ _ _ (ap partOf (c .before .before .before .before .before .if9 .taken)) (rw (c .before .before .before .cell3 .ensures, c .before .cell4 .ensures, add-zero, add-zero) at (c .agree-node .ensures))
+    part-as e e2 (a .sort) _ _ _ _ (ap partOf (c .before .before .before .before .before .if9 .taken)) (rw (c .before .before .before .cell3 .ensures, c .before .cell4 .ensures, add-zero, add-zero) at (c .agree-node .ensures))
 
 returns-10 : (t : ℕ) → lts.Need-returns-10 (claims t) (agree-part-at t) agree-part.Post
 returns-10 t c =
@@ -125,7 +125,7 @@ returns-10 t c =
     let v2 = view (a .s2 .now .now) (a .nodes2 .now .now) (a .types2 .now .now) (a .cells2 .now .now) (a .k2) in
     let e = envBelow v (a .i) in
     let e2 = envBelow v2 (a .j) in
-    part-as e e2 (a .kind) _ _ _ _ (part-nothing (a .kind) (c .before .before .before .before .before .before .before .before .if1 .left) (c .before .before .before .before .before .before .before .if2 .left) (c .before .before .before .before .before .before .if3 .left) (c .before .before .before .before .before .if4 .left) (c .before .before .before .before .if5 .left) (c .before .before .before .if6 .left) (c .before .before .if7 .left) (c .before .if8 .left) (c .if9 .left)) (decides-yes (nothing-agrees e e2 _ _ _ _))
+    part-as e e2 (a .sort) _ _ _ _ (part-nothing (a .sort) (c .before .before .before .before .before .before .before .before .if1 .left) (c .before .before .before .before .before .before .before .if2 .left) (c .before .before .before .before .before .before .if3 .left) (c .before .before .before .before .before .if4 .left) (c .before .before .before .before .if5 .left) (c .before .before .before .if6 .left) (c .before .before .if7 .left) (c .before .if8 .left) (c .if9 .left)) (decides-yes (nothing-agrees e e2 _ _ _ _))
 
 pub agree-part-meets : {M : Type 1} (t : ℕ) → lts.Closed (claims t) (agree-part-at t) agree-part.Post M
 agree-part-meets t = lts.spec (claims t) (agree-part-at t) agree-part.Post

@@ -19,10 +19,10 @@ abbrev claims : ℕ → lts.Claims
 claims t = (agree-part-below t, agree-part.Post)
 
 abbrev Inv-loop : lts.InvT-loop
-Inv-loop s nodes types cells k i s2 nodes2 types2 cells2 k2 j tag x₀ x = (x ≤ 5) × ((y : ℕ) → y < x → PartsAgree (envBelow (view (s .now) (nodes .now) (types .now) (cells .now) k) i) (envBelow (view (s2 .now) (nodes2 .now) (types2 .now) (cells2 .now) k2) j) tag (nodes .now) (16 * i) (nodes2 .now) (16 * j) y)
+Inv-loop s nodes types cells k i s2 nodes2 types2 cells2 k2 j kind x₀ x = (x ≤ 5) × ((y : ℕ) → y < x → PartsAgree (envBelow (view (s .now) (nodes .now) (types .now) (cells .now) k) i) (envBelow (view (s2 .now) (nodes2 .now) (types2 .now) (cells2 .now) k2) j) kind (nodes .now) (16 * i) (nodes2 .now) (16 * j) y)
 
 abbrev μ-loop : lts.MeasureT-loop
-μ-loop s nodes types cells k i s2 nodes2 types2 cells2 k2 j tag x₀ x = 5 - x
+μ-loop s nodes types cells k i s2 nodes2 types2 cells2 k2 j kind x₀ x = 5 - x
 
 loop-holds : (t : ℕ) → lts.Need-loop-holds (claims t) (agree-parts-at t) agree-parts.Post Inv-loop μ-loop
 loop-holds t c = (omega arith, λ y l. absurd (omega arith))
@@ -33,7 +33,7 @@ returns t c =
     let a = c .before .before .before .before .args in
     let v = view (a .s .now .now) (a .nodes .now .now) (a .types .now .now) (a .cells .now .now) (a .k) in
     let v2 = view (a .s2 .now .now) (a .nodes2 .now .now) (a .types2 .now .now) (a .cells2 .now .now) (a .k2) in
-    let d : Decides (c .before .agree-part .result) (PartsAgree (envBelow v (a .i)) (envBelow v2 (a .j)) (a .tag) (a .nodes .now .now) (16 * a .i) (a .nodes2 .now .now) (16 * a .j) (c .before .before .before .loop .x)) = c .before .agree-part .ensures in
+    let d : Decides (c .before .agree-part .result) (PartsAgree (envBelow v (a .i)) (envBelow v2 (a .j)) (a .kind) (a .nodes .now .now) (16 * a .i) (a .nodes2 .now .now) (16 * a .j) (c .before .before .before .loop .x)) = c .before .agree-part .ensures in
     decides-no (λ q. decides-not _ (not-true _ (c .if1 .taken)) d (q (c .before .before .before .loop .x) (c .before .before .loop-test .taken)))
 
 loop-less : (t : ℕ) → lts.Need-loop-less (claims t) (agree-parts-at t) agree-parts.Post Inv-loop μ-loop
@@ -45,8 +45,8 @@ loop-again t c =
     let a = c .before .before .before .before .args in
     let v = view (a .s .now .now) (a .nodes .now .now) (a .types .now .now) (a .cells .now .now) (a .k) in
     let v2 = view (a .s2 .now .now) (a .nodes2 .now .now) (a .types2 .now .now) (a .cells2 .now .now) (a .k2) in
-    let d : Decides (c .before .agree-part .result) (PartsAgree (envBelow v (a .i)) (envBelow v2 (a .j)) (a .tag) (a .nodes .now .now) (16 * a .i) (a .nodes2 .now .now) (16 * a .j) (c .before .before .before .loop .x)) = c .before .agree-part .ensures in
-    (omega (arith, c .before .before .loop-test .taken), more-parts (PartsAgree (envBelow v (a .i)) (envBelow v2 (a .j)) (a .tag) (a .nodes .now .now) (16 * a .i) (a .nodes2 .now .now) (16 * a .j)) (c .before .before .before .loop .x) (c .before .before .before .loop .inv .1) (d .holds (not-false _ (c .if1 .left))))
+    let d : Decides (c .before .agree-part .result) (PartsAgree (envBelow v (a .i)) (envBelow v2 (a .j)) (a .kind) (a .nodes .now .now) (16 * a .i) (a .nodes2 .now .now) (16 * a .j) (c .before .before .before .loop .x)) = c .before .agree-part .ensures in
+    (omega (arith, c .before .before .loop-test .taken), more-parts (PartsAgree (envBelow v (a .i)) (envBelow v2 (a .j)) (a .kind) (a .nodes .now .now) (16 * a .i) (a .nodes2 .now .now) (16 * a .j)) (c .before .before .before .loop .x) (c .before .before .before .loop .inv .1) (d .holds (not-false _ (c .if1 .left))))
 
 returns-2 : (t : ℕ) → lts.Need-returns-2 (claims t) (agree-parts-at t) agree-parts.Post Inv-loop μ-loop
 returns-2 t c =
@@ -57,15 +57,15 @@ returns-2 t c =
 
 cast-o : (t : ℕ) → lts.Need-cast-o (claims t) (agree-parts-at t) agree-parts.Post Inv-loop μ-loop
 unfolding cellAt parts
-cast-o t c = omega (arith, cell-small (6 * c .before .before .args .tag + c .before .loop .x))
+cast-o t c = omega (arith, cell-small (6 * c .before .before .args .kind + c .before .loop .x))
 
 add-agree-part : (t : ℕ) → lts.Need-add-agree-part (claims t) (agree-parts-at t) agree-parts.Post Inv-loop μ-loop
 unfolding cellAt parts
-add-agree-part t c = omega (arith, cell-small (6 * c .before .before .args .tag + c .before .loop .x), c .before .before .fits .i)
+add-agree-part t c = omega (arith, cell-small (6 * c .before .before .args .kind + c .before .loop .x), c .before .before .fits .i)
 
 add-agree-part-2 : (t : ℕ) → lts.Need-add-agree-part-2 (claims t) (agree-parts-at t) agree-parts.Post Inv-loop μ-loop
 unfolding cellAt parts
-add-agree-part-2 t c = omega (arith, cell-small (6 * c .before .before .args .tag + c .before .loop .x), c .before .before .fits .j)
+add-agree-part-2 t c = omega (arith, cell-small (6 * c .before .before .args .kind + c .before .loop .x), c .before .before .fits .j)
 
 pub agree-parts-meets : {M : Type 1} (t : ℕ) → lts.Closed (claims t) (agree-parts-at t) agree-parts.Post M
 agree-parts-meets t = lts.spec (claims t) (agree-parts-at t) agree-parts.Post Inv-loop μ-loop

@@ -1,4 +1,4 @@
--- The tags of records, and which tags agree.
+-- The kinds of records, and which kinds agree.
 use mathlib.Core.Path.{_≡_, _∙_}
 use mathlib.Core.List.{List}
 use Prim.Native.Nat.{ℕ, _+_, _<_, _≤_}
@@ -11,13 +11,13 @@ use lib.Seq.{getD-take, getD-drop}
 use borrow.Author.Tests.{le-leb, lt-leb}
 use Rattle.ast.specs.Decode.{if, tokenAt, runAt}
 
--- a tag that is read, and is known or not
+-- a kind that is read, and is known or not
 module _ (known : ℕ) (xs : List ℕ) (p : ℕ) {x : ℕ} (e : x ≡ getD xs (p + 0) 0) where
-  pub tag-known : x ≤ known → x ≡ if (leb (getD xs p 0) known) (getD xs p 0) 0
-  tag-known h = let r : x ≡ getD xs p 0 = rw add-zero at e in rw (← r, le-leb x known h)
+  pub kind-known : x ≤ known → x ≡ if (leb (getD xs p 0) known) (getD xs p 0) 0
+  kind-known h = let r : x ≡ getD xs p 0 = rw add-zero at e in rw (← r, le-leb x known h)
 
-  pub tag-unknown : known < x → 0 ≡ if (leb (getD xs p 0) known) (getD xs p 0) 0
-  tag-unknown h = let r : x ≡ getD xs p 0 = rw add-zero at e in rw (← r, lt-leb x known h)
+  pub kind-unknown : known < x → 0 ≡ if (leb (getD xs p 0) known) (getD xs p 0) 0
+  kind-unknown h = let r : x ≡ getD xs p 0 = rw add-zero at e in rw (← r, lt-leb x known h)
 
 -- ---- what cells of a record are in the array
 
