@@ -1,4 +1,5 @@
 // Same shape of two trees in lent arrays. Two things agree if both are well formed and the same.
+mod kind;
 mod node;
 mod type_expr;
 mod word;

@@ -1,4 +1,5 @@
 // When two nodes, or two lists that hold nodes, agree. The number of a node falls from call to call.
+use crate::kind::kind_at;
 use crate::type_expr::agree_fns;
 use crate::type_expr::agree_params;
 use crate::type_expr::agree_type;
@@ -7,17 +8,40 @@ use crate::word::agree_words;
 use ast::layout::cell;
 use ast::layout::run_at;
 use ast::layout::token_at;
+use rules::Node;
+use rules::NodeKind;
 use rules::Run;
-ghost use mathlib.Core.Path.{_≡_};
 ghost use Prim.Native.Nat.{ℕ, _*_, _<_};
 ghost use Rattle.rules.specs.Shape.{shapes, fields, cases};
 ghost use Rattle.same.specs.Agree.{Agree, Decides};
-ghost use Rattle.same.specs.Shapes.{view, nodesBelow, envBelow, nodeKind};
+ghost use Rattle.same.specs.Shapes.{view, nodesBelow, envBelow};
 ghost use Rattle.same.specs.Parts.{partOf, PartAgrees, PartsAgree};
 
-// Six parts for each kind from 0 on, in the order in which they are compared; the last is the child that is compared last. The first digit says
-// what a part is: 0 nothing, 1 a token, 2 a list of tokens, 3 arguments, 4 a type, 5 fns, 6 a list of nodes, 7 fields, 8 cases, 9 a node. The
-// second is its cell in the record.
+// What a part of a record is.
+struct Sort(u8);
+
+impl Sort {
+    const TOKEN: u8 = 1;
+
+    const TOKENS: u8 = 2;
+
+    const PARAMS: u8 = 3;
+
+    const TYPE: u8 = 4;
+
+    const FNS: u8 = 5;
+
+    const NODES: u8 = 6;
+
+    const FIELDS: u8 = 7;
+
+    const CASES: u8 = 8;
+
+    const NODE: u8 = 9;
+}
+
+// Six parts for each kind of node from 0 on, in the order in which they are compared; the last is the child that is compared last. The
+// first digit is the part's sort, 0 where there is none, and the second its cell in the record.
 const PARTS: [u8; 90] = [
     0x00,
     0x00,
@@ -111,25 +135,12 @@ const PARTS: [u8; 90] = [
     0x00,
 ];
 
+// The place of the last part among the six.
 const LAST: usize = 5;
-
-// The kind of a node's record; 0 where it lies outside or its kind is unknown.
-fn node_kind(nodes: &[u32], i: u32) -> u32
-    ensures { λ r. ⌜ r ≡ nodeKind (now (nodes .entry)) i ⌝ }
-{
-    let at = 16 * i as usize;
-    if at + 16 <= nodes.len() {
-        let kind = cell(nodes, at, 0);
-        if kind <= 14 {
-            return kind;
-        }
-    }
-    0
-}
 
 // Node `i`, below `n`, and node `j`, below `m`. The last call is the last thing done, and passes nothing that lies in this function's
 // frame, so that a long chain takes no stack.
-pub fn agree_node(
+pub(crate) fn agree_node(
     s: &&[u8],
     nodes: &&[u32],
     types: &&[u32],
@@ -153,11 +164,11 @@ pub fn agree_node(
     if m <= j {
         return false;
     }
-    let kind = node_kind(*nodes, i);
+    let kind = kind_at(*nodes, Node::WIDTH, NodeKind::ARRAY, i);
     if kind == 0 {
         return false;
     }
-    if kind != node_kind(*nodes2, j) {
+    if kind != kind_at(*nodes2, Node::WIDTH, NodeKind::ARRAY, j) {
         return false;
     }
     if !agree_parts(
@@ -189,14 +200,14 @@ pub fn agree_node(
         cells,
         k,
         i,
-        cell(*nodes, 16 * i as usize, o),
+        cell(*nodes, Node::WIDTH * i as usize, o),
         s2,
         nodes2,
         types2,
         cells2,
         k2,
         j,
-        cell(*nodes2, 16 * j as usize, o),
+        cell(*nodes2, Node::WIDTH * j as usize, o),
     )
 }
 
@@ -230,14 +241,14 @@ fn agree_parts(
             cells,
             k,
             i,
-            16 * i as usize + o,
+            Node::WIDTH * i as usize + o,
             s2,
             nodes2,
             types2,
             cells2,
             k2,
             j,
-            16 * j as usize + o,
+            Node::WIDTH * j as usize + o,
             part / 16,
         ) {
             return false;
@@ -267,10 +278,10 @@ fn agree_part(
 ) -> bool
     ensures { λ r. ⌜ Decides r (PartAgrees (envBelow (view (now (now (s .entry))) (now (now (nodes .entry))) (now (now (types .entry))) (now (now (cells .entry))) k) i) (envBelow (view (now (now (s2 .entry))) (now (now (nodes2 .entry))) (now (now (types2 .entry))) (now (now (cells2 .entry))) k2) j) (partOf sort) (now (now (nodes .entry))) at (now (now (nodes2 .entry))) at2) ⌝ }
 {
-    if sort == 1 {
+    if sort == Sort::TOKEN {
         return agree_token(*s, token_at(*nodes, at), *s2, token_at(*nodes2, at2));
     }
-    if sort == 2 {
+    if sort == Sort::TOKENS {
         return agree_words(
             *s,
             *cells,
@@ -280,7 +291,7 @@ fn agree_part(
             run_at(*nodes2, at2),
         );
     }
-    if sort == 3 {
+    if sort == Sort::PARAMS {
         return agree_params(
             s,
             types,
@@ -294,7 +305,7 @@ fn agree_part(
             run_at(*nodes2, at2),
         );
     }
-    if sort == 4 {
+    if sort == Sort::TYPE {
         return agree_type(
             s,
             types,
@@ -308,7 +319,7 @@ fn agree_part(
             cell(*nodes2, at2, 0),
         );
     }
-    if sort == 5 {
+    if sort == Sort::FNS {
         return agree_fns(
             s,
             types,
@@ -322,7 +333,7 @@ fn agree_part(
             run_at(*nodes2, at2),
         );
     }
-    if sort == 6 {
+    if sort == Sort::NODES {
         return agree_nodes(
             s,
             nodes,
@@ -340,7 +351,7 @@ fn agree_part(
             run_at(*nodes2, at2),
         );
     }
-    if sort == 7 {
+    if sort == Sort::FIELDS {
         return agree_fields(
             s,
             nodes,
@@ -358,7 +369,7 @@ fn agree_part(
             run_at(*nodes2, at2),
         );
     }
-    if sort == 8 {
+    if sort == Sort::CASES {
         return agree_cases(
             s,
             nodes,
@@ -376,7 +387,7 @@ fn agree_part(
             run_at(*nodes2, at2),
         );
     }
-    if sort == 9 {
+    if sort == Sort::NODE {
         return agree_node(
             s,
             nodes,

@@ -1,32 +1,20 @@
 // When two types, or two lists of arguments or of fns, agree. The number of a type falls from call to call.
+use crate::kind::kind_at;
 use crate::word::agree_token;
 use crate::word::agree_words;
 use ast::layout::cell;
 use ast::layout::run_at;
 use ast::layout::token_at;
 use rules::Run;
-ghost use mathlib.Core.Path.{_≡_};
+use rules::TypeExpr;
+use rules::TypeExprKind;
 ghost use Rattle.rules.specs.Shape.{params, fns};
 ghost use Rattle.same.specs.Agree.{Agree, Decides};
-ghost use Rattle.same.specs.Shapes.{typesBelow, typeEnv, typeKind};
-
-// The kind of a type's record; 0 where it lies outside or its kind is unknown.
-fn type_kind(types: &[u32], i: u32) -> u32
-    ensures { λ r. ⌜ r ≡ typeKind (now (types .entry)) i ⌝ }
-{
-    let at = 8 * i as usize;
-    if at + 8 <= types.len() {
-        let kind = cell(types, at, 0);
-        if kind <= 5 {
-            return kind;
-        }
-    }
-    0
-}
+ghost use Rattle.same.specs.Shapes.{typesBelow, typeEnv};
 
 // Type `i`, below `n`, and type `j`, below `m`. The last call is the last thing done, and passes nothing that lies in this function's
 // frame, so that a long chain takes no stack.
-pub fn agree_type(
+pub(crate) fn agree_type(
     s: &&[u8],
     types: &&[u32],
     cells: &&[u32],
@@ -46,16 +34,16 @@ pub fn agree_type(
     if m <= j {
         return false;
     }
-    let kind = type_kind(*types, i);
+    let kind = kind_at(*types, TypeExpr::WIDTH, TypeExprKind::RECORD, i);
     if kind == 0 {
         return false;
     }
-    if kind != type_kind(*types2, j) {
+    if kind != kind_at(*types2, TypeExpr::WIDTH, TypeExprKind::RECORD, j) {
         return false;
     }
-    let at = 8 * i as usize;
-    let at2 = 8 * j as usize;
-    if kind == 3 {
+    let at = TypeExpr::WIDTH * i as usize;
+    let at2 = TypeExpr::WIDTH * j as usize;
+    if kind == TypeExprKind::OPTION {
         return agree_type(
             s,
             types,
@@ -69,7 +57,7 @@ pub fn agree_type(
             cell(*types2, at2, 1),
         );
     }
-    if kind == 4 {
+    if kind == TypeExprKind::ARRAY {
         return agree_type(
             s,
             types,
@@ -91,7 +79,7 @@ pub fn agree_type(
     ) {
         return false;
     }
-    if kind != 5 {
+    if kind != TypeExprKind::RECORD {
         return true;
     }
     agree_params(
@@ -109,7 +97,7 @@ pub fn agree_type(
 }
 
 // Names with their types, those below `n` and `m`.
-pub fn agree_params(
+pub(crate) fn agree_params(
     s: &&[u8],
     types: &&[u32],
     cells: &&[u32],
@@ -161,7 +149,7 @@ pub fn agree_params(
 }
 
 // The fns of two externs.
-pub fn agree_fns(
+pub(crate) fn agree_fns(
     s: &&[u8],
     types: &&[u32],
     cells: &&[u32],

@@ -11,7 +11,7 @@ ghost use Rattle.same.specs.Agree.{Agree, Decides};
 ghost use Rattle.same.specs.Shapes.{wordEnv};
 
 // Two tokens of one kind, with one spelling: a fixed one, or one of their own.
-pub fn agree_token(s: &[u8], t: Token, s2: &[u8], t2: Token) -> bool
+pub(crate) fn agree_token(s: &[u8], t: Token, s2: &[u8], t2: Token) -> bool
     ensures { λ r. ⌜ Decides r (Agree (word (now (s .entry)) t) (word (now (s2 .entry)) t2)) ⌝ }
 {
     if t.kind != t2.kind {
@@ -28,7 +28,15 @@ pub fn agree_token(s: &[u8], t: Token, s2: &[u8], t2: Token) -> bool
     same_bytes(&s[a..a_end], &s2[b..b_end])
 }
 
-pub fn agree_words(s: &[u8], cells: &[u32], r: Run, s2: &[u8], cells2: &[u32], r2: Run) -> bool
+// Two lists of tokens.
+pub(crate) fn agree_words(
+    s: &[u8],
+    cells: &[u32],
+    r: Run,
+    s2: &[u8],
+    cells2: &[u32],
+    r2: Run,
+) -> bool
     ensures { λ b. ⌜ Decides b (Agree (words (wordEnv (now (s .entry)) (now (cells .entry))) r) (words (wordEnv (now (s2 .entry)) (now (cells2 .entry))) r2)) ⌝ }
 {
     if r.len != r2.len {

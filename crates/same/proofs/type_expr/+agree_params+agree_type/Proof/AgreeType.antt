@@ -7,7 +7,7 @@ use native.Mathlib.Omega.{arith}
 use Prim.Native.Nat.{ℕ}
 use Rattle.same.proofs.type_expr.agree_type.Reads as agree-type
 use Rattle.same.proofs.type_expr.+agree_params+agree_type.Lts-agree_type as lts
-use Rattle.same.proofs.type_expr.type_kind.Reads as type-kind-reads
+use Rattle.same.proofs.kind.kind_at.Reads as kind-at-reads
 use Rattle.ast.proofs.layout.cell.Reads as cell-reads
 use Rattle.ast.proofs.layout.token_at.Reads as token-at-reads
 use Rattle.same.proofs.word.agree_token.Reads as agree-token-reads
@@ -16,7 +16,7 @@ use Rattle.same.proofs.type_expr.agree_params.Reads as agree-params
 use Rattle.same.proofs.type_expr.+agree_params+agree_type.Proof.Measures.{agree-type-at, agree-params-below, agree-type-below}
 
 abbrev claims : ℕ → lts.Claims
-claims t = (type-kind-reads.Asked, type-kind-reads.Learnt, cell-reads.Asked, cell-reads.Learnt, agree-type-below t, agree-type.Post, token-at-reads.Asked, token-at-reads.Learnt, agree-token-reads.Asked, agree-token-reads.Learnt, run-at-reads.Asked, run-at-reads.Learnt, agree-params-below t, agree-params.Post)
+claims t = (kind-at-reads.Asked, kind-at-reads.Learnt, cell-reads.Asked, cell-reads.Learnt, agree-type-below t, agree-type.Post, token-at-reads.Asked, token-at-reads.Learnt, agree-token-reads.Asked, agree-token-reads.Learnt, run-at-reads.Asked, run-at-reads.Learnt, agree-params-below t, agree-params.Post)
 
 returns : (t : ℕ) → lts.Need-returns (claims t) (agree-type-at t) agree-type.Post
 returns t c = type-past-left _ _ _ _ _ _ _ _ _ _ (omega arith)
@@ -25,39 +25,39 @@ returns-2 : (t : ℕ) → lts.Need-returns-2 (claims t) (agree-type-at t) agree-
 returns-2 t c = type-past-right _ _ _ _ _ _ _ _ _ _ (c .if2 .taken)
 
 returns-3 : (t : ℕ) → lts.Need-returns-3 (claims t) (agree-type-at t) agree-type.Post
-returns-3 t c = type-zero _ _ _ _ _ _ _ _ _ _ (c .before .before .before .before .if1 .left) (c .before .type-kind .ensures) (c .if3 .taken)
+returns-3 t c = type-zero _ _ _ _ _ _ _ _ _ _ (c .before .before .before .before .if1 .left) (c .before .kind-at .ensures) (c .if3 .taken)
 
 returns-4 : (t : ℕ) → lts.Need-returns-4 (claims t) (agree-type-at t) agree-type.Post
-returns-4 t c = other-kind _ _ _ _ _ _ _ _ _ _ (c .before .before .before .before .before .before .before .if1 .left) (c .before .before .before .before .before .before .if2 .left) (c .before .before .before .before .type-kind .ensures) (c .before .type-kind2 .ensures) (c .if4 .taken)
+returns-4 t c = other-kind _ _ _ _ _ _ _ _ _ _ (c .before .before .before .before .before .before .before .if1 .left) (c .before .before .before .before .before .before .if2 .left) (c .before .before .before .before .kind-at .ensures) (c .before .kind-at2 .ensures) (c .if4 .taken)
 
 returns-5 : (t : ℕ) → lts.Need-returns-5 (claims t) (agree-type-at t) agree-type.Post
-returns-5 t c = option-agrees _ _ _ _ _ _ _ _ _ _ (c .before .before .before .before .before .before .before .before .before .before .before .before .before .if1 .left) (c .before .before .before .before .before .before .before .before .before .before .before .before .if2 .left) (c .before .before .before .before .before .before .before .before .before .before .type-kind .ensures) (c .before .before .before .before .before .before .before .type-kind2 .ensures) (c .before .before .before .before .before .before .if4 .left) (c .before .before .before .before .before .if5 .taken) (rw (c .before .before .before .cell .ensures, c .before .cell2 .ensures) at (c .agree-type .ensures))
+returns-5 t c = option-agrees _ _ _ _ _ _ _ _ _ _ (c .before .before .before .before .before .before .before .before .before .before .before .before .before .if1 .left) (c .before .before .before .before .before .before .before .before .before .before .before .before .if2 .left) (c .before .before .before .before .before .before .before .before .before .before .kind-at .ensures) (c .before .before .before .before .before .before .before .kind-at2 .ensures) (c .before .before .before .before .before .before .if4 .left) (c .before .before .before .before .before .if5 .taken) (rw (c .before .before .before .cell .ensures, c .before .cell2 .ensures) at (c .agree-type .ensures))
 
 returns-6 : (t : ℕ) → lts.Need-returns-6 (claims t) (agree-type-at t) agree-type.Post
-returns-6 t c = array-agrees _ _ _ _ _ _ _ _ _ _ (c .before .before .before .before .before .before .before .before .before .before .before .before .before .before .if1 .left) (c .before .before .before .before .before .before .before .before .before .before .before .before .before .if2 .left) (c .before .before .before .before .before .before .before .before .before .before .before .type-kind .ensures) (c .before .before .before .before .before .before .before .before .type-kind2 .ensures) (c .before .before .before .before .before .before .before .if4 .left) (c .before .before .before .before .before .if6 .taken) (rw (c .before .before .before .cell3 .ensures, c .before .cell4 .ensures) at (c .agree-type2 .ensures))
+returns-6 t c = array-agrees _ _ _ _ _ _ _ _ _ _ (c .before .before .before .before .before .before .before .before .before .before .before .before .before .before .if1 .left) (c .before .before .before .before .before .before .before .before .before .before .before .before .before .if2 .left) (c .before .before .before .before .before .before .before .before .before .before .before .kind-at .ensures) (c .before .before .before .before .before .before .before .before .kind-at2 .ensures) (c .before .before .before .before .before .before .before .if4 .left) (c .before .before .before .before .before .if6 .taken) (rw (c .before .before .before .cell3 .ensures, c .before .cell4 .ensures) at (c .agree-type2 .ensures))
 
 returns-7 : (t : ℕ) → lts.Need-returns-7 (claims t) (agree-type-at t) agree-type.Post
 returns-7 t c =
     let d = rw (c .before .before .before .before .before .token-at .ensures, c .before .before .token-at2 .ensures) at (c .before .agree-token .ensures) in
-    token-differs _ _ _ _ _ _ _ _ _ _ (c .before .before .before .before .before .before .before .before .before .before .before .before .before .before .before .before .before .if1 .left) (c .before .before .before .before .before .before .before .before .before .before .before .before .before .before .before .before .if2 .left) (c .before .before .before .before .before .before .before .before .before .before .before .before .before .before .type-kind .ensures) (c .before .before .before .before .before .before .before .before .before .before .before .type-kind2 .ensures) (c .before .before .before .before .before .before .before .before .before .before .if4 .left) (c .before .before .before .before .before .before .before .before .before .before .before .before .before .if3 .left) (c .before .before .before .before .before .before .before .before .before .if5 .left) (c .before .before .before .before .before .before .before .before .if6 .left) (decides-not _ (not-true _ (c .if7 .taken)) d)
+    token-differs _ _ _ _ _ _ _ _ _ _ (c .before .before .before .before .before .before .before .before .before .before .before .before .before .before .before .before .before .if1 .left) (c .before .before .before .before .before .before .before .before .before .before .before .before .before .before .before .before .if2 .left) (c .before .before .before .before .before .before .before .before .before .before .before .before .before .before .kind-at .ensures) (c .before .before .before .before .before .before .before .before .before .before .before .kind-at2 .ensures) (c .before .before .before .before .before .before .before .before .before .before .if4 .left) (c .before .before .before .before .before .before .before .before .before .before .before .before .before .if3 .left) (c .before .before .before .before .before .before .before .before .before .if5 .left) (c .before .before .before .before .before .before .before .before .if6 .left) (decides-not _ (not-true _ (c .if7 .taken)) d)
 
 returns-8 : (t : ℕ) → lts.Need-returns-8 (claims t) (agree-type-at t) agree-type.Post
 returns-8 t c =
     let d = rw (c .before .before .before .before .before .before .token-at .ensures, c .before .before .before .token-at2 .ensures) at (c .before .before .agree-token .ensures) in
-    token-agrees _ _ _ _ _ _ _ _ _ _ (c .before .before .before .before .before .before .before .before .before .before .before .before .before .before .before .before .before .before .if1 .left) (c .before .before .before .before .before .before .before .before .before .before .before .before .before .before .before .before .before .if2 .left) (c .before .before .before .before .before .before .before .before .before .before .before .before .before .before .before .type-kind .ensures) (c .before .before .before .before .before .before .before .before .before .before .before .before .type-kind2 .ensures) (c .before .before .before .before .before .before .before .before .before .before .before .if4 .left) (c .before .before .before .before .before .before .before .before .before .before .before .before .before .before .if3 .left) (c .before .before .before .before .before .before .before .before .before .before .if5 .left) (c .before .before .before .before .before .before .before .before .before .if6 .left) (c .if8 .taken) (d .holds (not-false _ (c .before .if7 .left)))
+    token-agrees _ _ _ _ _ _ _ _ _ _ (c .before .before .before .before .before .before .before .before .before .before .before .before .before .before .before .before .before .before .if1 .left) (c .before .before .before .before .before .before .before .before .before .before .before .before .before .before .before .before .before .if2 .left) (c .before .before .before .before .before .before .before .before .before .before .before .before .before .before .before .kind-at .ensures) (c .before .before .before .before .before .before .before .before .before .before .before .before .kind-at2 .ensures) (c .before .before .before .before .before .before .before .before .before .before .before .if4 .left) (c .before .before .before .before .before .before .before .before .before .before .before .before .before .before .if3 .left) (c .before .before .before .before .before .before .before .before .before .before .if5 .left) (c .before .before .before .before .before .before .before .before .before .if6 .left) (c .if8 .taken) (d .holds (not-false _ (c .before .if7 .left)))
 
 returns-9 : (t : ℕ) → lts.Need-returns-9 (claims t) (agree-type-at t) agree-type.Post
 returns-9 t c =
     let d = rw (c .before .before .before .before .before .before .before .before .before .before .before .token-at .ensures, c .before .before .before .before .before .before .before .before .token-at2 .ensures) at (c .before .before .before .before .before .before .before .agree-token .ensures) in
-    record-agrees _ _ _ _ _ _ _ _ _ _ (c .before .before .before .before .before .before .before .before .before .before .before .before .before .before .before .before .before .before .before .before .before .before .before .if1 .left) (c .before .before .before .before .before .before .before .before .before .before .before .before .before .before .before .before .before .before .before .before .before .before .if2 .left) (c .before .before .before .before .before .before .before .before .before .before .before .before .before .before .before .before .before .before .before .before .type-kind .ensures) (c .before .before .before .before .before .before .before .before .before .before .before .before .before .before .before .before .before .type-kind2 .ensures) (c .before .before .before .before .before .before .before .before .before .before .before .before .before .before .before .before .if4 .left) (c .before .before .before .before .before .if8 .left) (d .holds (not-false _ (c .before .before .before .before .before .before .if7 .left))) (rw (c .before .before .before .run-at .ensures, c .before .run-at2 .ensures) at (c .agree-params .ensures))
+    record-agrees _ _ _ _ _ _ _ _ _ _ (c .before .before .before .before .before .before .before .before .before .before .before .before .before .before .before .before .before .before .before .before .before .before .before .if1 .left) (c .before .before .before .before .before .before .before .before .before .before .before .before .before .before .before .before .before .before .before .before .before .before .if2 .left) (c .before .before .before .before .before .before .before .before .before .before .before .before .before .before .before .before .before .before .before .before .kind-at .ensures) (c .before .before .before .before .before .before .before .before .before .before .before .before .before .before .before .before .before .kind-at2 .ensures) (c .before .before .before .before .before .before .before .before .before .before .before .before .before .before .before .before .if4 .left) (c .before .before .before .before .before .if8 .left) (d .holds (not-false _ (c .before .before .before .before .before .before .if7 .left))) (rw (c .before .before .before .run-at .ensures, c .before .run-at2 .ensures) at (c .agree-params .ensures))
 
 pub agree-type-meets : {M : Type 1} (t : ℕ) → lts.Closed (claims t) (agree-type-at t) agree-type.Post M
 agree-type-meets t = lts.spec (claims t) (agree-type-at t) agree-type.Post
     (returns t)
     (returns-2 t)
-    (λ c κs. search needs)  -- type-kind-requires
+    (λ c κs. search needs)  -- kind-at-requires
     (returns-3 t)
-    (λ c κs. search needs)  -- type-kind-requires-2
+    (λ c κs. search needs)  -- kind-at-requires-2
     (returns-4 t)
     (λ c. search needs)  -- mul-at
     (λ c. search needs)  -- mul-at2
