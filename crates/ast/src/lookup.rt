@@ -42,7 +42,7 @@ enum Step {
 const NOTHING: u64 = 4294967296;
 
 // A script has at most so many bytes.
-pub const MAX_BYTES: usize = 65536;
+pub(crate) const MAX_BYTES: usize = 65536;
 
 // The kind is known, and a spelling from the script lies in it. A known kind has one of these, or a fixed one.
 pub(crate) fn well_formed(script: &[u8], t: Token) -> bool
@@ -69,10 +69,10 @@ pub fn refusal(
     if MAX_BYTES < n {
         return 1;
     }
-    if nodes.len() < 16 * n {
+    if nodes.len() < Node::WIDTH * n {
         return 2;
     }
-    if types.len() < 8 * n {
+    if types.len() < TypeExpr::WIDTH * n {
         return 2;
     }
     if lists.len() < 8 * n {
@@ -269,7 +269,7 @@ pub fn node_start(
     if counts.nodes <= i {
         return Start::Refused(3);
     }
-    if nodes.len() < 16 * i as usize + 16 {
+    if nodes.len() < Node::WIDTH * i as usize + Node::WIDTH {
         return Start::Refused(3);
     }
     let cells = used(lists, counts.cells);
@@ -350,7 +350,7 @@ pub fn type_token(
     if counts.types <= i {
         return TypeToken::Refused(3);
     }
-    if types.len() < 8 * i as usize + 8 {
+    if types.len() < TypeExpr::WIDTH * i as usize + TypeExpr::WIDTH {
         return TypeToken::Refused(3);
     }
     token_here(script, types, innermost(&types, i))

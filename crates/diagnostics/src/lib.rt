@@ -2,6 +2,7 @@
 use lex::Diagnostic;
 use lex::Fault;
 use lex::Step;
+use rules::DIAGNOSTIC_WIDTH;
 ghost use mathlib.Core.Path.{_≡_};
 ghost use mathlib.Core.List.{map, foldl};
 ghost use Rattle.lex.specs.Lex.{diagnosticOf};
@@ -15,8 +16,8 @@ pub fn push_diagnostic(diagnostics: &mut [u32], n: u32, d: Diagnostic) -> u32
     if u32::MAX <= n {
         return n;
     }
-    let at = 5 * n as usize;
-    if diagnostics.len() < at + 5 {
+    let at = DIAGNOSTIC_WIDTH * n as usize;
+    if diagnostics.len() < at + DIAGNOSTIC_WIDTH {
         return n;
     }
     diagnostics[at] = d.number;

@@ -59,10 +59,10 @@ const NAME_ENDS: [usize; 44] = [
 
 // The name of a kind; nothing for a number that is no kind.
 fn print_kind(kind: u32) {
-    if kind < 1 {
+    if kind < Type::EOF {
         return;
     }
-    if 43 < kind {
+    if Type::RECORD < kind {
         return;
     }
     let k = kind as usize;
@@ -118,7 +118,7 @@ pub fn print_script(script: &[u8]) {
                 print_token_line(Token {
                     kind: Type::EOF,
                     start: at,
-                    len: 3,
+                    len: Type::spelling_len(Type::EOF),
                 });
                 return;
             }

@@ -5,9 +5,9 @@ ghost use Rattle.listing.specs.Text.{malformed, gap, number};
 ghost use Rattle.listing.specs.Emit.{Emits};
 
 // The last position: counting stops there. It also stands for a text that has what cannot be listed.
-pub const LAST: usize = 18446744073709551615;
+pub(crate) const LAST: usize = 18446744073709551615;
 
-pub fn write_byte(b: u8, out: &mut [u8], at: usize) -> usize
+pub(crate) fn write_byte(b: u8, out: &mut [u8], at: usize) -> usize
     ensures { λ r. ⌜ Emits (b ∷ []) (now (out .entry)) at (now (out .exit)) r ⌝ }
 {
     if at < out.len() {
@@ -18,13 +18,13 @@ pub fn write_byte(b: u8, out: &mut [u8], at: usize) -> usize
 }
 
 // What cannot be listed.
-pub fn write_malformed(out: &mut [u8], at: usize) -> usize
+pub(crate) fn write_malformed(out: &mut [u8], at: usize) -> usize
     ensures { λ r. ⌜ Emits malformed (now (out .entry)) at (now (out .exit)) r ⌝ }
 {
     LAST
 }
 
-pub fn write_text(text: &[u8], out: &mut [u8], at: usize) -> usize
+pub(crate) fn write_text(text: &[u8], out: &mut [u8], at: usize) -> usize
     ensures { λ r. ⌜ Emits (now (text .entry)) (now (out .entry)) at (now (out .exit)) r ⌝ }
 {
     let mut to = at;
@@ -37,7 +37,7 @@ pub fn write_text(text: &[u8], out: &mut [u8], at: usize) -> usize
 }
 
 // The blank in front of what is not the first of its form.
-pub fn write_gap(before: usize, out: &mut [u8], at: usize) -> usize
+pub(crate) fn write_gap(before: usize, out: &mut [u8], at: usize) -> usize
     ensures { λ r. ⌜ Emits (gap before) (now (out .entry)) at (now (out .exit)) r ⌝ }
 {
     if before == 0 {
@@ -46,18 +46,19 @@ pub fn write_gap(before: usize, out: &mut [u8], at: usize) -> usize
     write_byte(b' ', out, at)
 }
 
+// A number in decimal.
 fn write_decimal(n: usize, out: &mut [u8], at: usize) -> usize
     ensures { λ r. ⌜ Emits (number n) (now (out .entry)) at (now (out .exit)) r ⌝ }
 {
     if n < 10 {
-        return write_byte(48 + n as u8, out, at);
+        return write_byte(b'0' + n as u8, out, at);
     }
     let to = write_decimal(n / 10, out, at);
-    write_byte(48 + (n % 10) as u8, out, to)
+    write_byte(b'0' + (n % 10) as u8, out, to)
 }
 
 // A number, with a blank in front where something stands before it.
-pub fn write_number(before: usize, n: usize, out: &mut [u8], at: usize) -> usize
+pub(crate) fn write_number(before: usize, n: usize, out: &mut [u8], at: usize) -> usize
     ensures { λ r. ⌜ Emits (gap before ++ number n) (now (out .entry)) at (now (out .exit)) r ⌝ }
 {
     let a = write_gap(before, out, at);

@@ -8,6 +8,7 @@ use ast::layout::cell;
 use ast::layout::run_at;
 use ast::layout::token_at;
 use lex::Token;
+use lex::Type;
 use rules::Run;
 ghost use mathlib.Core.List.{_++_};
 ghost use Prim.Native.Nat.{_+_, _<_};
@@ -69,10 +70,10 @@ const NAME_ENDS: [usize; 44] = [
 fn write_kind(kind: u32, out: &mut [u8], at: usize) -> usize
     ensures { λ r. ⌜ Emits (kindName kind) (now (out .entry)) at (now (out .exit)) r ⌝ }
 {
-    if kind < 1 {
+    if kind < Type::EOF {
         return write_malformed(out, at);
     }
-    if 43 < kind {
+    if Type::RECORD < kind {
         return write_malformed(out, at);
     }
     let k = kind as usize;
@@ -81,7 +82,7 @@ fn write_kind(kind: u32, out: &mut [u8], at: usize) -> usize
     write_text(&NAMES[from..to], out, at)
 }
 
-pub fn write_token(before: usize, t: Token, out: &mut [u8], at: usize) -> usize
+pub(crate) fn write_token(before: usize, t: Token, out: &mut [u8], at: usize) -> usize
     ensures { λ r. ⌜ Emits (gap before ++ token t) (now (out .entry)) at (now (out .exit)) r ⌝ }
 {
     let a = write_gap(before, out, at);
@@ -92,7 +93,13 @@ pub fn write_token(before: usize, t: Token, out: &mut [u8], at: usize) -> usize
     write_byte(b')', out, e)
 }
 
-pub fn write_tokens(before: usize, lists: &[u32], run: Run, out: &mut [u8], at: usize) -> usize
+pub(crate) fn write_tokens(
+    before: usize,
+    lists: &[u32],
+    run: Run,
+    out: &mut [u8],
+    at: usize,
+) -> usize
     ensures { λ r. ⌜ Emits (gap before ++ tokens (now (lists .entry)) run) (now (out .entry)) at (now (out .exit)) r ⌝ }
 {
     let a = write_gap(before, out, at);
@@ -111,7 +118,7 @@ pub fn write_tokens(before: usize, lists: &[u32], run: Run, out: &mut [u8], at: 
     }
 }
 
-pub fn write_ids(before: usize, lists: &[u32], run: Run, out: &mut [u8], at: usize) -> usize
+pub(crate) fn write_ids(before: usize, lists: &[u32], run: Run, out: &mut [u8], at: usize) -> usize
     ensures { λ r. ⌜ Emits (gap before ++ ids (now (lists .entry)) run) (now (out .entry)) at (now (out .exit)) r ⌝ }
 {
     let a = write_gap(before, out, at);
@@ -141,7 +148,13 @@ fn write_pair(before: usize, lists: &[u32], j: usize, out: &mut [u8], at: usize)
     write_byte(b')', out, d)
 }
 
-pub fn write_pairs(before: usize, lists: &[u32], run: Run, out: &mut [u8], at: usize) -> usize
+pub(crate) fn write_pairs(
+    before: usize,
+    lists: &[u32],
+    run: Run,
+    out: &mut [u8],
+    at: usize,
+) -> usize
     ensures { λ r. ⌜ Emits (gap before ++ pairs (now (lists .entry)) run) (now (out .entry)) at (now (out .exit)) r ⌝ }
 {
     let a = write_gap(before, out, at);
@@ -172,7 +185,13 @@ fn write_case(before: usize, lists: &[u32], j: usize, out: &mut [u8], at: usize)
     write_byte(b')', out, d)
 }
 
-pub fn write_cases(before: usize, lists: &[u32], run: Run, out: &mut [u8], at: usize) -> usize
+pub(crate) fn write_cases(
+    before: usize,
+    lists: &[u32],
+    run: Run,
+    out: &mut [u8],
+    at: usize,
+) -> usize
     ensures { λ r. ⌜ Emits (gap before ++ branches (now (lists .entry)) run) (now (out .entry)) at (now (out .exit)) r ⌝ }
 {
     let a = write_gap(before, out, at);
@@ -205,7 +224,13 @@ fn write_extern_fn(before: usize, lists: &[u32], j: usize, out: &mut [u8], at: u
     write_byte(b')', out, f)
 }
 
-pub fn write_extern_fns(before: usize, lists: &[u32], run: Run, out: &mut [u8], at: usize) -> usize
+pub(crate) fn write_extern_fns(
+    before: usize,
+    lists: &[u32],
+    run: Run,
+    out: &mut [u8],
+    at: usize,
+) -> usize
     ensures { λ r. ⌜ Emits (gap before ++ externFns (now (lists .entry)) run) (now (out .entry)) at (now (out .exit)) r ⌝ }
 {
     let a = write_gap(before, out, at);

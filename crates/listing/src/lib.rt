@@ -17,7 +17,7 @@ pub enum Listing {
     Malformed,
 }
 
-// The text is measured on no buffer before it is written.
+// The text is counted on an empty buffer before it is written, so that a buffer that is too short stays as it is.
 pub fn write_listing(
     answer: Parsed,
     nodes: &[u32],

@@ -11,8 +11,11 @@ use ast::layout::TypeRead;
 use ast::layout::cell;
 use lex::Diagnostic;
 use rules::Counts;
+use rules::DIAGNOSTIC_WIDTH;
+use rules::Node;
 use rules::NodeId;
 use rules::Parsed;
+use rules::TypeExpr;
 use rules::TypeExprId;
 ghost use Prim.Native.Nat.{_+_, _*_, _<_};
 ghost use mathlib.Core.Path.{_≡_};
@@ -139,7 +142,7 @@ fn write_numbers(name: &[u8], e: Diagnostic, out: &mut [u8], at: usize) -> usize
 fn diagnostic_at(diagnostics: &[u32], i: u32) -> Diagnostic
     ensures { λ r. ⌜ r ≡ diagnosticAt (now (diagnostics .entry)) i ⌝ }
 {
-    let at = 5 * i as usize;
+    let at = DIAGNOSTIC_WIDTH * i as usize;
     let number = cell(diagnostics, at, 0);
     let start = cell(diagnostics, at, 1);
     let len = cell(diagnostics, at, 2);
@@ -226,10 +229,10 @@ fn holds_counts(
 ) -> bool
     ensures { λ r. ⌜ r ≡ within c (arraysOf (now (nodes .entry)) (now (types .entry)) (now (lists .entry)) (now (roots .entry)) (now (diagnostics .entry))) ⌝ }
 {
-    if nodes.len() < 16 * c.nodes as usize {
+    if nodes.len() < Node::WIDTH * c.nodes as usize {
         return false;
     }
-    if types.len() < 8 * c.types as usize {
+    if types.len() < TypeExpr::WIDTH * c.types as usize {
         return false;
     }
     if lists.len() < c.cells as usize {
@@ -238,10 +241,10 @@ fn holds_counts(
     if roots.len() < c.roots as usize {
         return false;
     }
-    5 * c.diagnostics as usize <= diagnostics.len()
+    DIAGNOSTIC_WIDTH * c.diagnostics as usize <= diagnostics.len()
 }
 
-pub fn write_answer(
+pub(crate) fn write_answer(
     answer: Parsed,
     nodes: &[u32],
     types: &[u32],

@@ -213,7 +213,7 @@ fn write_array_node(
     write_byte(b')', out, d)
 }
 
-pub fn write_node(lists: &[u32], n: Node, out: &mut [u8], at: usize) -> usize
+pub(crate) fn write_node(lists: &[u32], n: Node, out: &mut [u8], at: usize) -> usize
     ensures { λ r. ⌜ Emits (node (now (lists .entry)) n) (now (out .entry)) at (now (out .exit)) r ⌝ }
 {
     match n {
@@ -283,7 +283,7 @@ fn write_token_type(name: &[u8], t: Token, out: &mut [u8], at: usize) -> usize
 }
 
 // A type that has one inside, as Option and Array; a count of the first line.
-pub fn write_one_number(name: &[u8], n: usize, out: &mut [u8], at: usize) -> usize
+pub(crate) fn write_one_number(name: &[u8], n: usize, out: &mut [u8], at: usize) -> usize
     ensures { λ r. ⌜ Emits (now (name .entry) ++ fields (number n ∷ [])) (now (out .entry)) at (now (out .exit)) r ⌝ }
 {
     let a = write_text(name, out, at);
@@ -300,7 +300,7 @@ fn write_record_type(lists: &[u32], src: Token, fields: Run, out: &mut [u8], at:
     write_byte(b')', out, c)
 }
 
-pub fn write_type(lists: &[u32], t: TypeExpr, out: &mut [u8], at: usize) -> usize
+pub(crate) fn write_type(lists: &[u32], t: TypeExpr, out: &mut [u8], at: usize) -> usize
     ensures { λ r. ⌜ Emits (typeExpr (now (lists .entry)) t) (now (out .entry)) at (now (out .exit)) r ⌝ }
 {
     match t {

@@ -158,6 +158,9 @@ impl TypeExprKind {
     pub const RECORD: u32 = 5;
 }
 
+// The cells of a diagnostic's record.
+pub const DIAGNOSTIC_WIDTH: usize = 5;
+
 // How many records, list cells, roots and values a reading made.
 pub struct Counts {
     pub nodes: u32,
