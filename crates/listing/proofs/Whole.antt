@@ -5,10 +5,10 @@ use mathlib.Core.List.{List, [], _∷_, _++_}
 use Prim.Native.Nat.{ℕ, suc, _+_, _<_, _≤_, min}
 use native.Mathlib.Nat.{suc-ne-zero, zero-add}
 use native.Mathlib.Omega.{arith}
-use lib.Dec.{ltb}
+use lib.Dec.{leb, ltb}
 use lib.ListN.{length, set, drop}
 use lib.Seq.{sets, sets-eq}
-use borrow.Author.Tests.{lt-ltb, le-ltb, ltb-true, le-leb, lt-leb}
+use borrow.Author.Tests.{lt-ltb, le-ltb, ltb-true, le-leb, lt-leb, leb-true}
 use Rattle.listing.specs.declared.Listing.the-variants as L
 use Rattle.listing.specs.Listing.{Written, plain, written}
 use Rattle.listing.specs.Emit.{Output, last, put, emit, Emits}
@@ -119,3 +119,15 @@ module _ {text y : List ℕ} (x : List ℕ) {n : ℕ} (measured : Emits text [] 
       let to : m ≡ length text = ap (λ (o : Output). o .at) g ∙ bytes-count text o e (omega arith) ∙ omega arith in
       let out : z ≡ text ++ drop (length text) x = ap (λ (o : Output). o .buffer) g ∙ bytes-in text o e (omega arith) ∙ sets-eq text x 0 (omega arith) ∙ ap (λ (i : ℕ). text ++ drop i x) (zero-add (length text)) in
       rw (e, lt-ltb (length text) last (omega arith), le-leb (length text) (length x) (omega arith), to, out, written)
+
+-- a text that was written lies in its buffer
+pub inside-buffer : (text buffer : List ℕ) (n : ℕ) → written text buffer .answer ≡ L.Written n → n ≤ length buffer
+unfolding written
+inside-buffer text buffer n h = go (plain text && ltb (length text) last) (leb (length text) (length buffer)) refl h
+  where
+    go : (t u : Bool) → leb (length text) (length buffer) ≡ u
+        → elim t as (λ (_ : Bool). Written) [ true ↦ elim u as (λ (_ : Bool). Written) [ true ↦ record { answer = L.Written (length text); buffer = text ++ drop (length text) buffer } | false ↦ record { answer = L.Short; buffer = buffer } ] | false ↦ record { answer = L.Malformed; buffer = buffer } ] .answer ≡ L.Written n
+        → n ≤ length buffer
+    go true true e h = let z : length text ≡ n = cc in omega (arith, leb-true (length text) (length buffer) e)
+    go true false e h = absurd (let z : _≡_ {A = ℕ} 0 1 = cc in omega arith)
+    go false u e h = absurd (let z : _≡_ {A = ℕ} 0 1 = cc in omega arith)

@@ -7,6 +7,7 @@ use rules::Parsed;
 // Room for the listing of a script of 960 bytes: nodes, types, errors and list members are each at most 960, and none takes over 64 bytes.
 const ROOM: usize = 262144;
 
+// The listing of what a reading answered and left in the arrays.
 pub fn print(
     answer: Parsed,
     nodes: &[u32],
@@ -18,9 +19,7 @@ pub fn print(
     let mut out = [0u8; ROOM];
     match listing::write_listing(answer, nodes, types, lists, roots, diagnostics, &mut out) {
         Listing::Written(n) => {
-            if n <= ROOM {
-                io::write_all(STDOUT_FILENO, &out[..n]);
-            }
+            io::write_all(STDOUT_FILENO, &out[..n]);
         }
         Listing::Short => {
             io::write_all(STDOUT_FILENO, b"(short)\n");

@@ -1,13 +1,21 @@
--- `listing_print::print` meets its contract: the buffer keeps its length, so the text lies in it.
-use mathlib.Core.Path.{sym}
+-- `listing_print::print` meets its contract: the text lies in the buffer, which keeps its length.
+use mathlib.Core.Path.{_≡_, _∙_, ap, sym}
 use native.Mathlib.Omega.{arith}
 use lib.Seq.{length-take-le}
 use borrow.Author.Needs.{needs}
+use Rattle.listing.specs.Listing.{Written}
+use Rattle.listing.proofs.Whole.{inside-buffer}
 use Rattle.listing_print.proofs.print.Statement.{statement}
 use Rattle.listing_print.proofs.print.Tie as tie
 
+array-share-prefix-out : tie.Need-array-share-prefix-out
+array-share-prefix-out c =
+    let w = c .before .before .before .before .write-listing in
+    let h = inside-buffer _ _ _ (ap (λ (x : Written). x .answer) (sym (w .ensures)) ∙ c .before .n .given .1) in
+    omega (arith, w .kept .1 .1 .1 .1 .1 .1 .0)
+
 slice-aggregate-write-all : tie.Need-slice-aggregate-write-all
-slice-aggregate-write-all c = sym (length-take-le _ _ (omega (arith, c .before .before .before .before .before .before .write-listing .kept .1 .1 .1 .1 .1 .1 .0)))
+slice-aggregate-write-all c = sym (length-take-le _ _ (array-share-prefix-out (c .before)))
 
 pub print-spec : {M : Type 1} → statement M
 print-spec =
@@ -16,7 +24,7 @@ print-spec =
     (λ c. search needs)
     (λ c κs. search needs)
     (λ c. search needs)
-    (λ c. search needs)
+    array-share-prefix-out
     slice-aggregate-write-all
     (λ c κs. search needs)
     (λ c. search needs)
@@ -25,7 +33,6 @@ print-spec =
     (λ c. search needs)
     (λ c. search needs)
     (λ c κs. search needs)
-    (λ c. search needs)
     (λ c. search needs)
     (λ c. search needs)
     (λ c. search needs))
