@@ -1,7 +1,7 @@
 -- The bits of a byte's class: each is set where the byte has the property, shown at all 256 bytes by a table that antt computes. A greater number has none.
 -- Assumes nothing.
 use mathlib.Core.Path.{_≡_, refl, _∙_, sym}
-use mathlib.Core.Bool.{Bool, true, false, not}
+use mathlib.Core.Bool.{Bool, true, false, not, _||_}
 use Prim.Native.Nat.{ℕ, _<_, _≤_}
 use native.Mathlib.Omega.{arith}
 use lib.Bits.{bitAnd, bitOr}
@@ -62,10 +62,6 @@ everywhere m p bytes e others b = go (ltb b 256) refl
     go true q = agree (hasBit m) p true 256 b bytes (ltb-true b 256 q)
     go false q = let h = ltb-false b 256 q in no-bit b h m e ∙ sym (others b h)
 
-pub inName-bit : (b : ℕ) → hasBit 1 b ≡ isIdentCont b
-unfolding hasBit classOf bit isIdentCont isIdentStart isDigit isNumCont isWs or between
-inName-bit = everywhere 1 isIdentCont refl refl in-no-name
-
 pub beginsName-bit : (b : ℕ) → hasBit 2 b ≡ isIdentStart b
 unfolding hasBit classOf bit isIdentCont isIdentStart isDigit isNumCont isWs or between
 beginsName-bit = everywhere 2 isIdentStart refl refl no-start
@@ -73,10 +69,6 @@ beginsName-bit = everywhere 2 isIdentStart refl refl no-start
 pub inNumber-bit : (b : ℕ) → hasBit 8 b ≡ isNumCont b
 unfolding hasBit classOf bit isIdentCont isIdentStart isDigit isNumCont isWs or between
 inNumber-bit = everywhere 8 isNumCont refl refl in-no-number
-
-pub separates-bit : (b : ℕ) → hasBit 16 b ≡ isWs b
-unfolding hasBit classOf bit isIdentCont isIdentStart isDigit isNumCont isWs or between
-separates-bit = everywhere 16 isWs refl refl no-separator
 
 -- ---- bytes that are told without the table
 
@@ -92,3 +84,34 @@ letter-class b h q = at-each isLetter classOf 3 b refl h q
 pub digit-class : (b : ℕ) → b < 256 → isDigit b ≡ true → classOf b ≡ 13
 unfolding classOf bit isIdentCont isIdentStart isDigit isNumCont isWs or between
 digit-class b h q = at-each isDigit classOf 13 b refl h q
+
+pub blank-class : (b : ℕ) → b < 256 → isWs b ≡ true → classOf b ≡ 16
+unfolding classOf bit isIdentCont isIdentStart isDigit isNumCont isWs or between
+blank-class b h q = at-each isWs classOf 16 b refl h q
+
+blanks : (space tab cr lf : Bool) → space || tab || cr || lf ≡ or space (or tab (or cr lf))
+unfolding or
+blanks true tab cr lf = refl
+blanks false true cr lf = refl
+blanks false false true lf = refl
+blanks false false false lf = refl
+
+pub separates : (b : ℕ) → eqb b 32 || eqb b 9 || eqb b 13 || eqb b 10 ≡ isWs b
+unfolding isWs
+separates b = blanks _ _ _ _
+
+letters : (small capital digit underscore : Bool) → or small capital || digit || underscore ≡ or (or small (or capital underscore)) digit
+unfolding or
+letters true capital digit underscore = refl
+letters false true digit underscore = refl
+letters false false true true = refl
+letters false false true false = refl
+letters false false false true = refl
+letters false false false false = refl
+
+pub inName : (b : ℕ) → isLetter b || isDigit b || eqb b 95 ≡ isIdentCont b
+unfolding isLetter isIdentCont isIdentStart
+inName b = letters _ _ _ _
+
+pub letter-inName : (b : ℕ) → isLetter b ≡ true → isIdentCont b ≡ true
+letter-inName b e = rw (← inName b, e)

@@ -1,15 +1,15 @@
 -- Laws on tables, lists and runs that the functions' proofs cite.
 -- Assumes nothing.
 use mathlib.Core.Path.{_≡_, refl, _∙_, sym, ap}
-use mathlib.Core.Bool.{Bool, true, false}
+use mathlib.Core.Bool.{Bool, true, false, _&&_}
 use mathlib.Core.List.{List, [], _∷_}
 use Prim.Native.Nat.{ℕ, zero, suc, _+_, _<_, _≤_, zero-le, suc-le-suc}
 use native.Mathlib.Nat.{add-zero, zero-add, le-of-suc-le-suc, not-suc-le-zero}
 use native.Mathlib.Numerals.{add-one}
 use native.Mathlib.Omega.{arith}
 use lib.ListN.{length, getD, take, drop, length-take, length-drop, drop-of-length-le}
-use lib.Seq.{drop-cons}
-use lib.Dec.{leb, ltb, eqb}
+use lib.Seq.{drop-cons, drop-drop, getD-drop}
+use lib.Dec.{leb, ltb, eqb, leb·zero, leb·suc-zero, leb·suc-suc}
 use borrow.Author.Tests.{lt-ltb, le-ltb, ltb-true, ltb-false, leb-true, eq-eqb, ne-eqb, eqb-false}
 use Rattle.lex.specs.declared.byte_search.Found.{Found}
 use Rattle.lex.specs.declared.byte_search.Found.the-variants.{At, Nothing}
@@ -54,6 +54,12 @@ pub at-each : {A : Type 0} (p : ℕ → Bool) (f : ℕ → A) (v : A) (b : ℕ) 
     → b < 256 → p b ≡ true → f b ≡ v
 at-each {A} p f v b e h q = rw q at (agree (λ (x : ℕ). elim (p x) as (λ (_ : Bool). A) [ true ↦ f x | false ↦ v ]) (λ (x : ℕ). v) v 256 b e h)
 
+-- properties that agree have runs of the same length
+pub run-agree : (p q : ℕ → Bool) → ((b : ℕ) → p b ≡ q b) → (s : List ℕ) → countWhile p s ≡ countWhile q s
+unfolding countWhile
+run-agree p q h [] = refl
+run-agree p q h (b ∷ bs) = rw (h b, countWhile) (ap (λ (n : ℕ). elim (q b) as (λ (_ : Bool). ℕ) [ true ↦ suc n | false ↦ 0 ]) (run-agree p q h bs))
+
 -- ---- a run, scanned one byte at a time: `i + countWhile p (drop i s)` stays what it is
 
 module _ (p : ℕ → Bool) (s : List ℕ) (i n : ℕ) (scanned : i + countWhile p (drop i s) ≡ n) where
@@ -69,6 +75,9 @@ module _ (p : ℕ → Bool) (s : List ℕ) (i n : ℕ) (scanned : i + countWhile
   unfolding countWhile
   run-end h = omega (arith, rw (drop-of-length-le s h) at scanned)
 
+  pub run-rest : (q : ℕ → Bool) → ((b : ℕ) → q b ≡ p b) → (r : ℕ) → r ≡ i + countWhile q (drop i s) → r ≡ n
+  run-rest q same r e = omega (arith, run-agree q p same (drop i s))
+
 pub run-pos : (p : ℕ → Bool) (s : List ℕ) → 0 < length s → p (getD s 0 0) ≡ true → 0 < countWhile p s
 unfolding countWhile
 run-pos p [] h e = absurd (not-suc-le-zero h)
@@ -79,11 +88,51 @@ unfolding countWhile
 run-le p [] = zero-le
 run-le p (b ∷ bs) = cases (λ (n : ℕ). n ≤ suc (length bs)) (p b) (λ e. suc-le-suc (run-le p bs)) (λ e. zero-le)
 
--- properties that agree have runs of the same length
-pub run-agree : (p q : ℕ → Bool) → ((b : ℕ) → p b ≡ q b) → (s : List ℕ) → countWhile p s ≡ countWhile q s
+-- ---- a run, scanned by windows
+
+-- a run is as long as the bytes told so far, and one more
+window-more : (p : ℕ → Bool) (k : ℕ) (s : List ℕ) → k < length s → leb k (countWhile p s) && p (getD s k 0) ≡ leb (suc k) (countWhile p s)
 unfolding countWhile
-run-agree p q h [] = refl
-run-agree p q h (b ∷ bs) = rw (h b, countWhile) (ap (λ (n : ℕ). elim (q b) as (λ (_ : Bool). ℕ) [ true ↦ suc n | false ↦ 0 ]) (run-agree p q h bs))
+window-more p k [] h = absurd (not-suc-le-zero h)
+window-more p zero (b ∷ bs) h = go (p b) refl
+  where
+    go : (t : Bool) → p b ≡ t → leb zero (countWhile p (b ∷ bs)) && t ≡ leb 1 (countWhile p (b ∷ bs))
+    go true e = simp (e, countWhile) (rw (leb·zero, leb·suc-suc, leb·zero))
+    go false e = simp (e, countWhile)
+window-more p (suc k) (b ∷ bs) h = go (p b) refl (window-more p k bs (le-of-suc-le-suc h))
+  where
+    go : (t : Bool) → p b ≡ t → leb k (countWhile p bs) && p (getD bs k 0) ≡ leb (suc k) (countWhile p bs)
+        → leb (suc k) (countWhile p (b ∷ bs)) && p (getD bs k 0) ≡ leb (suc (suc k)) (countWhile p (b ∷ bs))
+    go true e more = simp (e, countWhile) (rw (leb·suc-suc, leb·suc-suc) more)
+    go false e more = simp (e, countWhile) (rw (leb·suc-zero, leb·suc-zero))
+
+-- from a place on: whether the first `k` bytes are all of the run
+module _ (p : ℕ → Bool) (s : List ℕ) (at : ℕ) where
+  pub window-none : true ≡ leb 0 (countWhile p (drop at s))
+  window-none = sym (leb·zero (countWhile p (drop at s)))
+
+  pub window-next : (k : ℕ) (t u : Bool) → at + k < length s → t ≡ leb k (countWhile p (drop at s)) → u ≡ p (getD s (at + k) 0)
+      → t && u ≡ leb (k + 1) (countWhile p (drop at s))
+  window-next k t u h e f =
+      rw (e, f, ← getD-drop at s k 0, add-one) (window-more p k (drop at s) (omega (arith, length-drop at s)))
+
+  pub window-end : (k : ℕ) (t : Bool) (w : ℕ) → t ≡ leb k (countWhile p (drop at s)) → k ≡ w → t ≡ leb w (countWhile p (drop at s))
+  window-end k t w e f = e ∙ ap (λ (n : ℕ). leb n (countWhile p (drop at s))) f
+
+-- a run goes on behind its first `k` bytes
+run-over : (p : ℕ → Bool) (k : ℕ) (s : List ℕ) → k ≤ countWhile p s → k + countWhile p (drop k s) ≡ countWhile p s
+unfolding countWhile
+run-over p zero s h = zero-add _
+run-over p (suc k) [] h = absurd (not-suc-le-zero h)
+run-over p (suc k) (b ∷ bs) h = go (p b) refl (run-over p k bs)
+  where
+    go : (t : Bool) → p b ≡ t → (k ≤ countWhile p bs → k + countWhile p (drop k bs) ≡ countWhile p bs)
+        → suc k + countWhile p (drop k bs) ≡ countWhile p (b ∷ bs)
+    go true e more = simp (e, countWhile) (omega (arith, more (omega (arith, simp (e, countWhile) at h))))
+    go false e more = absurd (omega (arith, simp (e, countWhile) at h))
+
+pub run-window : (p : ℕ → Bool) (s : List ℕ) (i n : ℕ) → i + countWhile p (drop i s) ≡ n → (k : ℕ) → k ≤ countWhile p (drop i s) → i + k + countWhile p (drop (i + k) s) ≡ n
+run-window p s i n scanned k h = rw (← drop-drop k i s) (omega (arith, run-over p k (drop i s) h))
 
 -- a run of a weaker property goes on behind that of a stronger one
 pub run-split : (p q : ℕ → Bool) → ((b : ℕ) → p b ≡ true → q b ≡ true) → (s : List ℕ) → countWhile p s + countWhile q (drop (countWhile p s) s) ≡ countWhile q s

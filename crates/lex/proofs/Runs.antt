@@ -1,46 +1,21 @@
--- Names and numbers by the letters and digits in front of them.
+-- Numbers by the digits in front of them.
 -- Assumes nothing.
 use mathlib.Core.Path.{_≡_, refl, _∙_, sym, ap}
 use mathlib.Core.Bool.{Bool, true, false, not}
 use mathlib.Core.List.{List, [], _∷_}
-use Prim.Native.Nat.{ℕ, suc, _+_, _<_, _≤_, zero-le, suc-le-suc}
+use Prim.Native.Nat.{ℕ, suc, _+_, _<_, zero-le, suc-le-suc}
 use native.Mathlib.Omega.{arith}
 use lib.Dec.{eqb}
-use lib.ListN.{length, getD, take, drop, length-take}
+use lib.ListN.{getD, take, drop, length-take}
 use lib.Seq.{length-take-le}
 use borrow.Author.Tests.{eq-eqb, ne-eqb}
 use Rattle.lex.specs.declared.byte_search.Found.the-variants.{At, Nothing}
 use Rattle.lex.specs.declared.tok.Piece.{Piece}
-use Rattle.lex.specs.Bytes.{or, between, isLetter, isAlphanumeric, isDigit, isIdentStart, isIdentCont, isNumCont, hasBit, countWhile, differsFrom, before, findByte}
+use Rattle.lex.specs.Bytes.{or, between, isDigit, isIdentStart, isNumCont, hasBit, countWhile, differsFrom, before, findByte}
 use Rattle.lex.specs.Kind.{kI}
 use Rattle.lex.specs.Lex.{doubleIn, numberIn, number}
-use Rattle.lex.proofs.Bits.{below, inName-bit, inNumber-bit}
+use Rattle.lex.proofs.Bits.{inNumber-bit}
 use Rattle.lex.proofs.Laws.{run-le, run-agree, run-split, find-hit, find-miss}
-
--- ---- a name: letters and digits, and what of it follows them
-
-ors : (x y z d : Bool) → or (or x y) d ≡ true → or (or x (or y z)) d ≡ true
-unfolding or
-ors true y z d e = refl
-ors false true z d e = refl
-ors false false true d e = refl
-ors false false false d e = e
-
-alphanumeric-inName : (b : ℕ) → isAlphanumeric b ≡ true → isIdentCont b ≡ true
-unfolding isAlphanumeric isLetter isIdentCont isIdentStart
-alphanumeric-inName b e = ors _ _ _ _ e
-
-module _ (s : List ℕ) (n : ℕ) (front : n ≡ countWhile isAlphanumeric s) where
-  pub name-split : n + countWhile isIdentCont (drop n s) ≡ countWhile isIdentCont s
-  name-split = rw front (run-split isAlphanumeric isIdentCont alphanumeric-inName s)
-
-  pub name-rest : (k : ℕ) → k ≡ countWhile (hasBit 1) (drop n s) → n + k ≡ countWhile isIdentCont s
-  name-rest k e = ap (λ (m : ℕ). n + m) (e ∙ run-agree (hasBit 1) isIdentCont inName-bit (drop n s)) ∙ name-split
-
--- no byte below `0` continues a name
-pub below-names : (b : ℕ) → b < 48 → isIdentCont b ≡ false
-unfolding isIdentCont isIdentStart isDigit or
-below-names b h = rw (below 97 122 b (omega arith), below 65 90 b (omega arith), ne-eqb b 95 (λ e. omega arith), below 48 57 b h)
 
 -- ---- a number: digits, and what of the run of digits and dots follows them
 

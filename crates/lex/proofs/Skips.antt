@@ -1,10 +1,10 @@
 -- Blanks and comments, passed over one at a time: `i + skipped false (drop i s)` stays what it is.
 -- Assumes nothing.
 use mathlib.Core.Path.{_≡_, refl, _∙_, sym, ap}
-use mathlib.Core.Bool.{Bool, true, false, not}
+use mathlib.Core.Bool.{Bool, true, false}
 use mathlib.Core.List.{List, [], _∷_}
 use Prim.Native.Nat.{ℕ, suc, _+_, _<_, _≤_}
-use native.Mathlib.Nat.{add-zero}
+use native.Mathlib.Nat.{zero-add}
 use native.Mathlib.Numerals.{add-one}
 use native.Mathlib.Omega.{arith}
 use lib.Dec.{eqb}
@@ -13,7 +13,7 @@ use lib.Seq.{drop-cons, drop-drop, getD-drop}
 use borrow.Author.Tests.{eqb-true, eq-eqb, ne-eqb}
 use Rattle.lex.specs.Bytes.{isWs, or, countWhile, differsFrom, before}
 use Rattle.lex.specs.Lex.{beginsComment, skipped}
-use Rattle.lex.proofs.Laws.{cases}
+use Rattle.lex.proofs.Laws.{cases, nonzero-inside}
 
 or-false : (t : Bool) → t ≡ or t false
 unfolding or
@@ -32,6 +32,17 @@ space-separates b e = sym (separates-from-space b (omega arith)) ∙ eq-eqb b 32
 pub stands : (b next : ℕ) → 32 < b → (b ≡ 35 → ⊥) → (isWs b ≡ false) × (beginsComment b next ≡ false)
 unfolding beginsComment
 stands b next h n = (sym (separates-from-space b (omega arith)) ∙ ne-eqb b 32 (λ e. omega arith), rw (ne-eqb b 35 n, beginsComment))
+
+-- blanks are passed over as a run
+blank-run : (bs : List ℕ) → countWhile isWs bs + skipped false (drop (countWhile isWs bs) bs) ≡ skipped false bs
+unfolding countWhile skipped
+blank-run [] = refl
+blank-run (b ∷ bs) = go (isWs b) refl (blank-run bs)
+  where
+    go : (t : Bool) → isWs b ≡ t → countWhile isWs bs + skipped false (drop (countWhile isWs bs) bs) ≡ skipped false bs
+        → countWhile isWs (b ∷ bs) + skipped false (drop (countWhile isWs (b ∷ bs)) (b ∷ bs)) ≡ skipped false (b ∷ bs)
+    go true e h = simp (e, countWhile, skipped) (omega arith)
+    go false e h = simp (e, countWhile) (zero-add _)
 
 -- a comment runs to the end of its line
 comment : (bs : List ℕ) → skipped true bs ≡ before 10 bs + skipped false (drop (before 10 bs) bs)
@@ -66,6 +77,12 @@ module _ (s : List ℕ) (i n : ℕ) (scanned : i + skipped false (drop i s) ≡ 
   unfolding skipped
   skip-end h = omega (arith, rw (drop-of-length-le s h) at scanned)
 
+  pub skip-blanks : (k : ℕ) → k ≡ i + countWhile isWs (drop i s) → k + skipped false (drop k s) ≡ n
+  skip-blanks k e =
+      let m = countWhile isWs (drop i s) in
+      let to : drop k s ≡ drop m (drop i s) = ap (λ (x : ℕ). drop x s) e ∙ sym (drop-drop m i s) in
+      rw to (omega (arith, blank-run (drop i s)))
+
   module _ (h : i < length s) where
     pub skip-blank : isWs (getD s i 0) ≡ true → i + 1 + skipped false (drop (i + 1) s) ≡ n
     unfolding skipped
@@ -88,3 +105,10 @@ module _ (s : List ℕ) (i n : ℕ) (scanned : i + skipped false (drop i s) ≡ 
         let to : drop (i + k) s ≡ drop m (drop (suc i) s) = ap (λ (x : ℕ). drop x s) sum ∙ sym (drop-drop m (suc i) s) in
         let here = rw (drop-cons s i 0 h, e, g, skipped) at scanned in
         rw to (omega (arith, comment (drop (suc i) s)))
+
+-- a space in front is passed over, if there is one
+pub skip-space : (s : List ℕ) (i k : ℕ) → getD s i 0 ≡ 32 → k ≡ i + 1 → k + skipped false (drop k s) ≡ i + skipped false (drop i s)
+skip-space s i k e f = rw f (skip-blank s i _ refl (nonzero-inside s i (omega arith)) (space-separates _ e))
+
+pub skip-none : (s : List ℕ) (i k : ℕ) → k ≡ i → k + skipped false (drop k s) ≡ i + skipped false (drop i s)
+skip-none s i k e = ap (λ (x : ℕ). x + skipped false (drop x s)) e

@@ -26,9 +26,6 @@ isDigit b = between 48 57 b
 unfoldable pub isLetter : ℕ → Bool
 isLetter b = or (between 97 122 b) (between 65 90 b)
 
-unfoldable pub isAlphanumeric : ℕ → Bool
-isAlphanumeric b = or (isLetter b) (isDigit b)
-
 unfoldable pub isIdentStart : ℕ → Bool
 isIdentStart b = or (between 97 122 b) (or (between 65 90 b) (eqb b 95))
 
@@ -62,6 +59,18 @@ countWhile p (b ∷ bs) = elim (p b) [ true ↦ suc (countWhile p bs) | false �
 
 unfoldable pub differsFrom : ℕ → ℕ → Bool
 differsFrom b x = not (eqb x b)
+
+-- the sets of bytes that scans pass over, by number; the last one has all bytes but `except`
+unfoldable pub inSet : ℕ → ℕ → ℕ → Bool
+inSet set except b =
+    elim (eqb set 0) [
+      | true ↦ isIdentCont b
+      | false ↦
+          elim (eqb set 1) [
+            | true ↦ isDigit b
+            | false ↦ elim (eqb set 2) [ true ↦ isWs b | false ↦ elim (eqb set 3) [ true ↦ ltb b 0x80 | false ↦ differsFrom except b ] ]
+          ]
+    ]
 
 -- how many bytes stand before the first `b`; all of them where there is none
 unfoldable pub before : ℕ → List ℕ → ℕ

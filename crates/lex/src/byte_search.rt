@@ -1,12 +1,14 @@
 // Byte-level scans for the lexer.
-use crate::class::CLASS;
-use crate::class::Class;
 use crate::class::has_bit;
 use crate::class::is_digit;
+use crate::class::is_ident_cont;
 use crate::class::is_letter;
+use crate::class::is_ws;
 ghost use mathlib.Core.Path.{_≡_};
-ghost use lib.ListN.{getD};
-ghost use Rattle.lex.specs.Bytes.{isAlphanumeric, isDigit, isIdentCont, hasBit, Classes, countWhile, before, findByte};
+ghost use Prim.Native.Nat.{_+_, _≤_};
+ghost use lib.Dec.{leb};
+ghost use lib.ListN.{length, getD, drop};
+ghost use Rattle.lex.specs.Bytes.{isDigit, isIdentCont, inSet, hasBit, Classes, countWhile, before, findByte};
 
 // What a search found.
 pub enum Found {
@@ -14,27 +16,62 @@ pub enum Found {
     Nothing,
 }
 
-// The first place of `needle`.
-pub(crate) fn find_byte(needle: u8, haystack: &[u8]) -> Found
-    ensures { λ r. ⌜ r ≡ findByte needle (now (haystack .entry)) ⌝ }
-{
-    let mut i = 0;
-    while i < haystack.len() {
-        if haystack[i] == needle {
-            return Found::At(i);
-        }
-        i += 1;
-    }
-    Found::Nothing
+// The sets of bytes that a scan passes over.
+pub(crate) struct ByteSet(pub u8);
+
+impl ByteSet {
+    pub(crate) const IDENT_CONT: u8 = 0;
+
+    pub(crate) const DIGIT: u8 = 1;
+
+    pub(crate) const WS: u8 = 2;
+
+    pub(crate) const ASCII: u8 = 3;
+
+    pub(crate) const EXCEPT: u8 = 4; // all bytes but one, which is given
 }
 
-// How many bytes in front are letters or digits.
-fn skip_alphanumeric(haystack: &[u8]) -> usize
-    ensures { λ r. ⌜ r ≡ countWhile isAlphanumeric (now (haystack .entry)) ⌝ }
+// Whether the byte is in the set.
+fn in_set(set: u8, except: u8, b: u8) -> bool
+    ensures { λ r. ⌜ r ≡ inSet set except b ⌝ }
 {
-    let mut i = 0;
-    while i < haystack.len() {
-        if !is_alphanumeric(haystack[i]) {
+    match set {
+        ByteSet::IDENT_CONT => is_ident_cont(b),
+        ByteSet::DIGIT => is_digit(b),
+        ByteSet::WS => is_ws(b),
+        ByteSet::ASCII => b < 0x80,
+        _ => b != except,
+    }
+}
+
+// Whether the 16 bytes from `at` on are all in the set. The loop has no early exit: so the compiled code compares all of them at once.
+fn window_in_set(set: u8, except: u8, bytes: &[u8], at: usize) -> bool
+    requires { ⌜ at + 16 ≤ length (now bytes) ⌝ }
+    ensures { λ r. ⌜ r ≡ leb 16 (countWhile (inSet set except) (drop at (now (bytes .entry)))) ⌝ }
+{
+    let mut all = true;
+    let mut k = 0;
+    while k < 16 {
+        all = all & in_set(set, except, bytes[at + k]);
+        k += 1;
+    }
+    all
+}
+
+// The position after the bytes from `from` on that are in the set: by windows of 16 bytes, and one by one where a window has another byte.
+pub(crate) fn skip_set(set: u8, except: u8, bytes: &[u8], from: usize) -> usize
+    requires { ⌜ from ≤ length (now bytes) ⌝ }
+    ensures { λ r. ⌜ r ≡ from + countWhile (inSet set except) (drop from (now (bytes .entry))) ⌝ }
+{
+    let mut i = from;
+    while 16 <= bytes.len() - i {
+        if !window_in_set(set, except, bytes, i) {
+            break;
+        }
+        i += 16;
+    }
+    while i < bytes.len() {
+        if !in_set(set, except, bytes[i]) {
             return i;
         }
         i += 1;
@@ -42,14 +79,40 @@ fn skip_alphanumeric(haystack: &[u8]) -> usize
     i
 }
 
-// Whether the byte is a letter or a digit.
-fn is_alphanumeric(b: u8) -> bool
-    ensures { λ r. ⌜ r ≡ isAlphanumeric b ⌝ }
+// How many bytes stand before the first `needle`. Here and below the first 8 bytes are told one by one: most runs end there.
+fn skip_until(needle: u8, haystack: &[u8]) -> usize
+    ensures { λ r. ⌜ r ≡ before needle (now (haystack .entry)) ⌝ }
 {
-    if is_letter(b) {
-        return true;
+    let mut i = 0;
+    while i < 8 {
+        if haystack.len() <= i {
+            return i;
+        }
+        if haystack[i] == needle {
+            return i;
+        }
+        i += 1;
     }
-    is_digit(b)
+    skip_set(ByteSet::EXCEPT, needle, haystack, i)
+}
+
+// The first place of `needle`.
+pub(crate) fn find_byte(needle: u8, haystack: &[u8]) -> Found
+    ensures { λ r. ⌜ r ≡ findByte needle (now (haystack .entry)) ⌝ }
+{
+    let i = skip_until(needle, haystack);
+    if i < haystack.len() {
+        Found::At(i)
+    } else {
+        Found::Nothing
+    }
+}
+
+// How many bytes stand before the end of the first line.
+pub(crate) fn line_end(haystack: &[u8]) -> usize
+    ensures { λ r. ⌜ r ≡ before 10 (now (haystack .entry)) ⌝ }
+{
+    skip_until(b'\n', haystack)
 }
 
 // How many bytes in front are digits.
@@ -57,13 +120,35 @@ pub(crate) fn skip_digits(haystack: &[u8]) -> usize
     ensures { λ r. ⌜ r ≡ countWhile isDigit (now (haystack .entry)) ⌝ }
 {
     let mut i = 0;
-    while i < haystack.len() {
+    while i < 8 {
+        if haystack.len() <= i {
+            return i;
+        }
         if !is_digit(haystack[i]) {
             return i;
         }
         i += 1;
     }
-    i
+    skip_set(ByteSet::DIGIT, 0, haystack, i)
+}
+
+// How many bytes in front can continue a name.
+pub(crate) fn skip_ident_cont(haystack: &[u8]) -> usize
+    ensures { λ r. ⌜ r ≡ countWhile isIdentCont (now (haystack .entry)) ⌝ }
+{
+    let mut i = 0;
+    while i < 8 {
+        if haystack.len() <= i {
+            return i;
+        }
+        if !is_letter(haystack[i]) {
+            if !is_ident_cont(haystack[i]) {
+                return i;
+            }
+        }
+        i += 1;
+    }
+    skip_set(ByteSet::IDENT_CONT, 0, haystack, i)
 }
 
 // How many bytes in front have a bit in their class, by the table that is lent.
@@ -79,31 +164,6 @@ pub(crate) fn skip_class(class: &[u8; 256], bit: u8, haystack: &[u8]) -> usize
         i += 1;
     }
     i
-}
-
-// How many bytes in front can continue a name. The table is taken only where letters and digits end at another byte from `0` on.
-pub(crate) fn skip_ident_cont(haystack: &[u8]) -> usize
-    ensures { λ r. ⌜ r ≡ countWhile isIdentCont (now (haystack .entry)) ⌝ }
-{
-    let n = skip_alphanumeric(haystack);
-    if haystack.len() <= n {
-        return n;
-    }
-    if haystack[n] < b'0' {
-        return n;
-    }
-    let class = CLASS;
-    n + skip_class(&class, Class::IDENT_CONT, &haystack[n..])
-}
-
-// How many bytes stand before the end of the first line.
-pub(crate) fn line_end(haystack: &[u8]) -> usize
-    ensures { λ r. ⌜ r ≡ before 10 (now (haystack .entry)) ⌝ }
-{
-    match find_byte(b'\n', haystack) {
-        Found::At(i) => i,
-        Found::Nothing => haystack.len(),
-    }
 }
 
 // The byte at a position; 0 past the end.

@@ -1,6 +1,6 @@
 // The class of a byte: five bits, looked up in one table.
 ghost use mathlib.Core.Path.{_≡_};
-ghost use Rattle.lex.specs.Bytes.{isWs, isLetter, isDigit, isIdentStart, classOf, hasBit, Classes};
+ghost use Rattle.lex.specs.Bytes.{isWs, isLetter, isDigit, isIdentStart, isIdentCont, classOf, hasBit, Classes};
 
 // The bits of a class: what the byte can be or begin.
 pub(crate) struct Class(pub u8);
@@ -299,6 +299,20 @@ pub(crate) fn is_digit(b: u8) -> bool
     b <= b'9'
 }
 
+// Whether the byte separates: space, tab, CR or LF. Without branches, here and for names: so that 16 bytes are told at once.
+pub(crate) fn is_ws(b: u8) -> bool
+    ensures { λ r. ⌜ r ≡ isWs b ⌝ }
+{
+    (b == b' ') | (b == b'\t') | (b == b'\r') | (b == b'\n')
+}
+
+// Whether the byte can continue a name.
+pub(crate) fn is_ident_cont(b: u8) -> bool
+    ensures { λ r. ⌜ r ≡ isIdentCont b ⌝ }
+{
+    is_letter(b) | is_digit(b) | (b == b'_')
+}
+
 // The class of a byte.
 fn class_of(b: u8) -> u8
     ensures { λ r. ⌜ r ≡ classOf b ⌝ }
@@ -309,6 +323,9 @@ fn class_of(b: u8) -> u8
     if is_digit(b) {
         return Class::DIGIT | Class::IDENT_CONT | Class::NUM_CONT;
     }
+    if is_ws(b) {
+        return Class::WS;
+    }
     CLASS[b as usize]
 }
 
@@ -317,16 +334,6 @@ pub(crate) fn is_ident_start(b: u8) -> bool
     ensures { λ r. ⌜ r ≡ isIdentStart b ⌝ }
 {
     class_of(b) & Class::IDENT_START != 0
-}
-
-// Whether the byte separates: space, tab, CR or LF.
-pub(crate) fn is_ws(b: u8) -> bool
-    ensures { λ r. ⌜ r ≡ isWs b ⌝ }
-{
-    if b' ' <= b {
-        return b == b' ';
-    }
-    class_of(b) & Class::WS != 0
 }
 
 // Whether the byte's class has the bit, by the table that is lent.

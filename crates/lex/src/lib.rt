@@ -5,6 +5,7 @@ mod diagnostic;
 mod tok;
 mod utf8;
 
+use byte_search::ByteSet;
 pub use byte_search::Found;
 use byte_search::find_byte;
 use byte_search::line_end;
@@ -12,9 +13,9 @@ use byte_search::peek;
 use byte_search::skip_class;
 use byte_search::skip_digits;
 use byte_search::skip_ident_cont;
+use byte_search::skip_set;
 use class::CLASS;
 use class::Class;
-use class::has_bit;
 use class::is_digit;
 use class::is_ident_start;
 use class::is_ws;
@@ -32,7 +33,6 @@ ghost use mathlib.Core.Path.{_≡_};
 ghost use mathlib.Core.Bool.{false};
 ghost use Prim.Native.Nat.{_+_, _<_, _≤_};
 ghost use lib.ListN.{length, getD, drop};
-ghost use Rattle.lex.specs.Bytes.{Classes};
 ghost use Rattle.lex.specs.declared.tok.Piece.{Piece};
 ghost use Rattle.lex.specs.Kind.{punctuatorKind};
 ghost use Rattle.lex.specs.Lex.{beginsComment, skipped, punctuation as punctuationOf, leadingSpace, doc as docOf, string as stringOf, doubleIn, number as numberOf, name as nameOf, symbol as symbolOf, piece as pieceOf, stepAt, nextAt, isPrefixSign};
@@ -67,30 +67,18 @@ fn begins_comment(b: u8, next: u8) -> bool
     next != b'!'
 }
 
-// The position after spaces.
-fn skip_spaces(script: &[u8], pos: usize) -> usize
-    ensures { λ r. ⌜ r + skipped false (drop r (now (script .entry))) ≡ pos + skipped false (drop pos (now (script .entry))) ⌝ }
-{
-    let mut p = pos;
-    while p < script.len() {
-        if script[p] != b' ' {
-            return p;
-        }
-        p += 1;
-    }
-    p
-}
-
-// The position after blanks and comments, by the table that is lent.
-fn skip_separators(class: &[u8; 256], script: &[u8], pos: usize) -> usize
-    requires { ⌜ Classes (now class) ⌝ }
+// The position after blanks and comments. A long run of blanks is passed over from a multiple of 16 on.
+fn skip_separators(script: &[u8], pos: usize) -> usize
     ensures { λ r. ⌜ r ≡ pos + skipped false (drop pos (now (script .entry))) ⌝ }
 {
     let mut p = pos;
     while p < script.len() {
         let b = script[p];
-        if has_bit(class, Class::WS, b) {
+        if is_ws(b) {
             p += 1;
+            if p % 16 == 0 {
+                p = skip_set(ByteSet::WS, 0, script, p);
+            }
         } else if begins_comment(b, peek(script, p + 1)) {
             p += line_end(&script[p..]);
         } else {
@@ -100,22 +88,21 @@ fn skip_separators(class: &[u8; 256], script: &[u8], pos: usize) -> usize
     p
 }
 
-// The position after blanks and comments. The table is taken only where another byte up to the space stands, or `#`.
+// The position after blanks and comments: mostly one space, or nothing.
 fn skip_whitespace(script: &[u8], pos: usize) -> usize
     ensures { λ r. ⌜ r ≡ pos + skipped false (drop pos (now (script .entry))) ⌝ }
 {
-    let p = skip_spaces(script, pos);
-    if script.len() <= p {
-        return p;
+    let mut p = pos;
+    if peek(script, p) == b' ' {
+        p += 1;
     }
-    let b = script[p];
+    let b = peek(script, p);
     if b' ' < b {
         if b != b'#' {
             return p;
         }
     }
-    let class = CLASS;
-    skip_separators(&class, script, p)
+    skip_separators(script, p)
 }
 
 // A sign of two bytes, or that of one byte, which has this kind.

@@ -1,44 +1,46 @@
 -- `skip_whitespace` meets its contract.
 -- Assumes nothing.
+use mathlib.Core.Logic.{⊎-elim}
+use mathlib.Core.Path.{_∙_, sym}
+use native.Mathlib.Omega.{arith}
 use borrow.Author.Needs.{needs}
-use Rattle.lex.specs.Bytes.{classOf, bit, isIdentCont, isIdentStart, isDigit, isNumCont, isWs, or, between}
-use Rattle.lex.proofs.Bits.{classes}
-use Rattle.lex.proofs.Skips.{stands, skip-end, skip-stop}
+use Rattle.lex.proofs.Laws.{nonzero-inside}
+use Rattle.lex.proofs.Skips.{stands, skip-stop, skip-space, skip-none}
 use Rattle.lex.proofs.skip_whitespace.Statement.{statement}
 use Rattle.lex.proofs.skip_whitespace.Tie as tie
 
-skip-spaces-requires : tie.Need-skip-spaces-requires
-skip-spaces-requires c κs = search needs
+add-p : tie.Need-add-p
+add-p c =
+    let c3 = c .before .before .before in
+    omega (arith, nonzero-inside (c3 .args .script .now) (c3 .args .pos) (omega (arith, c .before .peek .ensures)))
 
 returns : tie.Need-returns
 returns c =
     let c3 = c .before .before .before in
-    skip-end (c3 .args .script .now) _ _ (c .before .skip-spaces .ensures) (c .if1 .taken)
-
-shared-slice-read-b : tie.Need-shared-slice-read-b
-shared-slice-read-b c = search needs
+    let c4 = c3 .before in
+    let c6 = c4 .before .before in
+    let s = c6 .args .script .now in
+    let above = rw (c .before .before .peek2 .ensures) at (c .before .if2 .taken) in
+    let here = stands _ _ above (rw (c .before .before .peek2 .ensures) at (c .if3 .taken)) in
+    skip-stop s _ _
+    (⊎-elim (λ w. skip-space s _ _ (sym (c4 .peek .ensures) ∙ w .0 .taken) (w .1)) (λ w. skip-none s _ _ (w .1)) (c3 .if1 .came))
+    (nonzero-inside s _ (omega arith)) (here .0) (here .1)
 
 returns-2 : tie.Need-returns-2
 returns-2 c =
     let c3 = c .before .before .before in
     let c4 = c3 .before in
     let c6 = c4 .before .before in
-    let here = stands _ _ (c .before .if2 .taken) (c .if3 .taken) in skip-stop (c6 .args .script .now) _ _ (c4 .skip-spaces .ensures) (c3 .if1 .left) (here .0) (here .1)
-
-skip-separators-requires : tie.Need-skip-separators-requires
-unfolding classOf bit isIdentCont isIdentStart isDigit isNumCont isWs or between
-skip-separators-requires c κs = classes
-
-returns-3 : tie.Need-returns-3
-returns-3 c = search needs
+    let s = c6 .args .script .now in
+    c .skip-separators .ensures ∙ ⊎-elim (λ w. skip-space s _ _ (sym (c4 .peek .ensures) ∙ w .0 .taken) (w .1)) (λ w. skip-none s _ _ (w .1)) (c3 .if1 .came)
 
 pub skip-whitespace-spec : {M : Type 1} → statement M
 skip-whitespace-spec =
     tie.close
     (tie.spec
-    skip-spaces-requires
+    (λ c κs. search needs)
+    add-p
+    (λ c κs. search needs)
     returns
-    shared-slice-read-b
-    returns-2
-    skip-separators-requires
-    returns-3)
+    (λ c κs. search needs)
+    returns-2)

@@ -1,48 +1,39 @@
--- `skip_digits` meets its contract: the run is scanned one byte at a time.
+-- `skip_digits` meets its contract: the first bytes are told one by one, the rest of the run by `skip_set`.
 -- Assumes nothing.
-use mathlib.Core.Path.{_≡_, _∙_, sym}
+use mathlib.Core.Path.{_≡_, refl, _∙_, sym}
 use Prim.Native.Nat.{_+_, _-_, _≤_}
 use lib.ListN.{length, drop}
 use borrow.Author.Needs.{needs}
 use borrow.Author.Tests.{not-true, not-false}
-use Rattle.lex.specs.Bytes.{countWhile, isDigit}
-use Rattle.lex.proofs.Laws.{run-more, run-stop, run-end}
+use Rattle.lex.specs.Bytes.{countWhile, inSet, isDigit}
+use Rattle.lex.proofs.Laws.{run-more, run-stop, run-end, run-rest}
 use Rattle.lex.proofs.byte_search.skip_digits.Statement.{statement}
 use Rattle.lex.proofs.byte_search.skip_digits.Tie as tie
 
 abbrev Inv-loop : tie.InvT-loop
-Inv-loop haystack i₀ i = (i ≤ length haystack) × (i + countWhile isDigit (drop i haystack) ≡ countWhile isDigit haystack)
+Inv-loop haystack i₀ i = (i ≤ 8) × (i ≤ length haystack) × (i + countWhile isDigit (drop i haystack) ≡ countWhile isDigit haystack)
 
 abbrev μ-loop : tie.MeasureT-loop
-μ-loop haystack i₀ i = length haystack - i
-
-loop-holds : tie.Need-loop-holds Inv-loop μ-loop
-loop-holds c = search needs
-
-shared-slice-read-is-digit : tie.Need-shared-slice-read-is-digit Inv-loop μ-loop
-shared-slice-read-is-digit c = search needs
-
-is-digit-requires : tie.Need-is-digit-requires Inv-loop μ-loop
-is-digit-requires c κs = search needs
+μ-loop haystack i₀ i = 8 - i
 
 returns : tie.Need-returns Inv-loop μ-loop
-returns c =
-    let c4 = c .before .before .before .before in
-    run-stop isDigit _ _ _ (c4 .loop .inv .1) (search needs) (sym (c .before .is-digit .ensures) ∙ not-true _ (c .if1 .taken))
+returns c = run-end isDigit _ _ _ (c .before .before .loop .inv .2) (c .if1 .taken)
 
-add-i : tie.Need-add-i Inv-loop μ-loop
-add-i c = search needs
-
-loop-less : tie.Need-loop-less Inv-loop μ-loop
-loop-less c = search needs
+returns-2 : tie.Need-returns-2 Inv-loop μ-loop
+returns-2 c =
+    let c5 = c .before .before .before .before .before in
+    run-stop isDigit _ _ _ (c5 .loop .inv .2) (search needs) (sym (c .before .is-digit .ensures) ∙ not-true _ (c .if2 .taken))
 
 loop-again : tie.Need-loop-again Inv-loop μ-loop
 loop-again c =
-    let c4 = c .before .before .before .before in
-    (search needs, run-more isDigit _ _ _ (c4 .loop .inv .1) (search needs) (sym (c .before .is-digit .ensures) ∙ not-false _ (c .if1 .left)))
+    let c5 = c .before .before .before .before .before in
+    (search needs, search needs, run-more isDigit _ _ _ (c5 .loop .inv .2) (search needs) (sym (c .before .is-digit .ensures) ∙ not-false _ (c .if2 .left)))
 
-returns-2 : tie.Need-returns-2 Inv-loop μ-loop
-returns-2 c = run-end isDigit _ _ _ (c .before .loop .inv .1) (search needs)
+returns-3 : tie.Need-returns-3 Inv-loop μ-loop
+unfolding inSet
+returns-3 c =
+    let c4 = c .before .before .before .before in
+    run-rest isDigit (c4 .args .haystack .now) _ _ (c .before .before .loop .inv .2) (inSet 1 0) (λ b. refl) _ (c .skip-set .ensures)
 
 pub skip-digits-spec : {M : Type 1} → statement M
 skip-digits-spec =
@@ -50,11 +41,13 @@ skip-digits-spec =
     (tie.spec
     Inv-loop
     μ-loop
-    loop-holds
-    shared-slice-read-is-digit
-    is-digit-requires
+    (λ c. search needs)
     returns
-    add-i
-    loop-less
+    (λ c. search needs)
+    (λ c κs. search needs)
+    returns-2
+    (λ c. search needs)
+    (λ c. search needs)
     loop-again
-    returns-2)
+    (λ c κs. search needs)
+    returns-3)

@@ -1,64 +1,61 @@
--- `skip_ident_cont` meets its contract: the run goes on behind the letters and digits, if it does.
+-- `skip_ident_cont` meets its contract: the first bytes are told one by one, the rest of the run by `skip_set`.
 -- Assumes nothing.
-use native.Mathlib.Omega.{arith}
-use borrow.Rule.Slice.PartAt.{part-to-end}
+use mathlib.Core.Path.{_≡_, refl, _∙_, sym}
+use Prim.Native.Nat.{_+_, _-_, _≤_}
+use lib.ListN.{length, drop}
 use borrow.Author.Needs.{needs}
-use Rattle.lex.specs.Bytes.{classOf, bit, isIdentCont, isIdentStart, isDigit, isNumCont, isWs, or, between}
-use Rattle.lex.proofs.Bits.{classes}
-use Rattle.lex.proofs.Laws.{run-stop, run-end, run-le}
-use Rattle.lex.proofs.Runs.{name-split, name-rest, below-names}
+use mathlib.Core.Logic.{⊎-elim}
+use borrow.Author.Tests.{not-true, not-false}
+use Rattle.lex.specs.Bytes.{countWhile, inSet, isIdentCont}
+use Rattle.lex.proofs.Bits.{letter-inName}
+use Rattle.lex.proofs.Laws.{run-more, run-stop, run-end, run-rest}
 use Rattle.lex.proofs.byte_search.skip_ident_cont.Statement.{statement}
 use Rattle.lex.proofs.byte_search.skip_ident_cont.Tie as tie
 
-skip-alphanumeric-requires : tie.Need-skip-alphanumeric-requires
-skip-alphanumeric-requires c κs = search needs
+abbrev Inv-loop : tie.InvT-loop
+Inv-loop haystack i₀ i = (i ≤ 8) × (i ≤ length haystack) × (i + countWhile isIdentCont (drop i haystack) ≡ countWhile isIdentCont haystack)
 
-returns : tie.Need-returns
-returns c = run-end isIdentCont _ _ _ (name-split _ _ (c .before .skip-alphanumeric .ensures)) (c .if1 .taken)
+abbrev μ-loop : tie.MeasureT-loop
+μ-loop haystack i₀ i = 8 - i
 
-shared-slice-read-if2 : tie.Need-shared-slice-read-if2
-shared-slice-read-if2 c = search needs
+returns : tie.Need-returns Inv-loop μ-loop
+returns c = run-end isIdentCont _ _ _ (c .before .before .loop .inv .2) (c .if1 .taken)
 
-returns-2 : tie.Need-returns-2
+returns-2 : tie.Need-returns-2 Inv-loop μ-loop
 returns-2 c =
-    let c3 = c .before .before .before in
-    run-stop isIdentCont _ _ _ (name-split _ _ (c3 .skip-alphanumeric .ensures)) (c .before .before .if1 .left) (below-names _ (c .if2 .taken))
+    let c8 = c .before .before .before .before .before .before .before .before in
+    run-stop isIdentCont _ _ _ (c8 .loop .inv .2) (search needs) (sym (c .before .is-ident-cont .ensures) ∙ not-true _ (c .if3 .taken))
 
-sub-skip-class : tie.Need-sub-skip-class
-sub-skip-class c = search needs
+loop-again : tie.Need-loop-again Inv-loop μ-loop
+loop-again c =
+    let c5 = c .before .before .before .before .before in (
+      search needs,
+      search needs,
+      run-more isIdentCont _ _ _ (c5 .loop .inv .2) (search needs)
+          (⊎-elim (λ w. sym (w .2 .ensures) ∙ not-false _ (w .3 .left)) (λ w. letter-inName _ (sym (c .before .is-letter .ensures) ∙ not-false _ (w .left))) (c .if2 .came)),
+    )
 
-part-skip-class-start : tie.Need-part-skip-class-start
-part-skip-class-start c = search needs
-
-part-skip-class-end : tie.Need-part-skip-class-end
-part-skip-class-end c = search needs
-
-skip-class-requires : tie.Need-skip-class-requires
-unfolding classOf bit isIdentCont isIdentStart isDigit isNumCont isWs or between
-skip-class-requires c κs = classes
-
-add-result : tie.Need-add-result
-add-result c =
-    let c6 = c .before .before .before .before .before .before in
-    let c8 = c6 .before .before in
-    omega (arith, name-rest (c8 .args .haystack .now) _ (c6 .skip-alphanumeric .ensures) _ (rw part-to-end at (c .skip-class .ensures)), run-le isIdentCont (c8 .args .haystack .now))
-
-returns-3 : tie.Need-returns-3
+returns-3 : tie.Need-returns-3 Inv-loop μ-loop
+unfolding inSet
 returns-3 c =
-    let c6 = c .before .before .before .before .before .before in
-    name-rest _ _ (c6 .skip-alphanumeric .ensures) _ (rw part-to-end at (c .skip-class .ensures))
+    let c4 = c .before .before .before .before in
+    run-rest isIdentCont (c4 .args .haystack .now) _ _ (c .before .before .loop .inv .2) (inSet 0 0) (λ b. refl) _ (c .skip-set .ensures)
 
 pub skip-ident-cont-spec : {M : Type 1} → statement M
 skip-ident-cont-spec =
     tie.close
     (tie.spec
-    skip-alphanumeric-requires
+    Inv-loop
+    μ-loop
+    (λ c. search needs)
     returns
-    shared-slice-read-if2
+    (λ c. search needs)
+    (λ c κs. search needs)
+    (λ c. search needs)
+    (λ c κs. search needs)
     returns-2
-    sub-skip-class
-    part-skip-class-start
-    part-skip-class-end
-    skip-class-requires
-    add-result
+    (λ c. search needs)
+    (λ c. search needs)
+    loop-again
+    (λ c κs. search needs)
     returns-3)
