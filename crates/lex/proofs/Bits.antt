@@ -6,7 +6,7 @@ use Prim.Native.Nat.{ℕ, _<_, _≤_}
 use native.Mathlib.Omega.{arith}
 use lib.Bits.{bitAnd, bitOr}
 use lib.Dec.{leb, ltb, eqb}
-use borrow.Author.Tests.{lt-leb, ltb-true, ltb-false, ne-eqb}
+use borrow.Author.Tests.{le-leb, lt-leb, leb-true, ltb-true, ltb-false, ne-eqb}
 use Rattle.lex.specs.Bytes.{classOf, bit, hasBit, Classes, isLetter, isIdentCont, isIdentStart, isDigit, isNumCont, isWs, or, between}
 use Rattle.lex.proofs.Laws.{cases, table, table-at, agree, at-each}
 
@@ -18,11 +18,20 @@ pub below : (low high b : ℕ) → b < low → between low high b ≡ false
 unfolding between
 below low high b h = rw (lt-leb low b h, between)
 
--- ---- a number that is no byte
-
-outside : (low high b : ℕ) → high < b → between low high b ≡ false
+pub outside : (low high b : ℕ) → high < b → between low high b ≡ false
 unfolding between
 outside low high b h = cases (λ (t : Bool). t ≡ false) (leb low b) (λ e. lt-leb b high h) (λ e. refl)
+
+pub within : (low high b : ℕ) → low ≤ b → b ≤ high → between low high b ≡ true
+unfolding between
+within low high b h k = rw (le-leb low b h, between) (le-leb b high k)
+
+pub from-low : (low high b : ℕ) → between low high b ≡ true → low ≤ b
+unfolding between
+from-low low high b =
+    cases (λ (t : Bool). t ≡ true → low ≤ b) (leb low b) (λ e f. leb-true low b e) (λ e f. let z : _≡_ {A = ℕ} 0 1 = cc in absurd (omega arith))
+
+-- ---- a number that is no byte
 
 module _ (b : ℕ) (h : 256 ≤ b) where
   no-start : isIdentStart b ≡ false

@@ -19,6 +19,9 @@ use Rattle.lex.specs.Kind.{Keyword, kIdent, sameBytes, nameKind}
 use Rattle.lex.specs.Utf8.{nextState, stateAfter}
 use Rattle.lex.specs.Lex.{leadingSpace}
 
+pub false-true : {A : Type 0} → false ≡ true → A
+false-true e = let z : _≡_ {A = ℕ} 0 1 = cc in absurd (omega arith)
+
 -- ---- a property of a choice holds if it holds of each case
 
 pub cases : {A : Type 0} (P : A → Type 0) {a b : A} (t : Bool) → (t ≡ true → P a) → (t ≡ false → P b) → P (elim t as (λ (_ : Bool). A) [ true ↦ a | false ↦ b ])

@@ -1,6 +1,14 @@
 // Well-formed UTF-8, by RFC 3629, section 4.
+use crate::byte_search::ByteSet;
+use crate::byte_search::peek;
+use crate::byte_search::skip_set;
 ghost use mathlib.Core.Path.{_≡_};
-ghost use Rattle.lex.specs.Utf8.{leastSecond, greatestSecond, afterLead, afterContinuation, nextState, isBoundary, utf8};
+ghost use mathlib.Core.Bool.{true};
+ghost use Prim.Native.Nat.{_+_, _<_, _≤_};
+ghost use lib.ListN.{length, take, drop};
+ghost use Rattle.lex.specs.declared.utf8.Utf8State.the-variants.{Expecting};
+ghost use Rattle.lex.specs.Bytes.{between};
+ghost use Rattle.lex.specs.Utf8.{leastSecond, greatestSecond, afterLead, isBoundary, stateAfter, utf8};
 
 // Where a reading of bytes stands: between characters, inside one with `more` bytes to come, the next of them from
 // `low` to `high`, or behind a byte that no character has there.
@@ -70,69 +78,57 @@ fn after_lead(b: u8) -> Utf8State
     Utf8State::Invalid
 }
 
-// The place behind one more byte of a character of which `more` were to come.
-fn after_continuation(more: u8) -> Utf8State
-    ensures { λ r. ⌜ r ≡ afterContinuation more ⌝ }
+// Whether the byte can stand behind the second of a character.
+fn is_continuation(b: u8) -> bool
+    ensures { λ r. ⌜ r ≡ between 0x80 0xbf b ⌝ }
 {
-    if more == 3 {
-        return Utf8State::Expecting {
-            more: 2,
-            low: 0x80,
-            high: 0xbf,
-        };
+    if b < 0x80 {
+        return false;
+    }
+    b <= 0xbf
+}
+
+// Whether the bytes from `at` on complete a character of which `more` are to come, the first of them from `low` to `high`.
+fn completes(bytes: &[u8], at: usize, more: u8, low: u8, high: u8) -> bool
+    requires { ⌜ (0 < more) × (more ≤ 3) × (0 < low) ⌝ }
+    ensures { λ r. ⌜ r ≡ isBoundary (stateAfter (Expecting more low high) (take more (drop at (now (bytes .entry))))) ⌝ }
+    ensures { λ r. ⌜ (r ≡ true → at + more ≤ length (now (bytes .entry))) ⌝ }
+{
+    let b = peek(bytes, at);
+    if b < low {
+        return false;
+    }
+    if high < b {
+        return false;
+    }
+    if more == 1 {
+        return true;
+    }
+    if !is_continuation(peek(bytes, at + 1)) {
+        return false;
     }
     if more == 2 {
-        return Utf8State::Expecting {
-            more: 1,
-            low: 0x80,
-            high: 0xbf,
-        };
+        return true;
     }
-    Utf8State::Boundary
+    is_continuation(peek(bytes, at + 2))
 }
 
-// The place behind one more byte.
-fn next_state(state: Utf8State, b: u8) -> Utf8State
-    ensures { λ r. ⌜ r ≡ nextState state b ⌝ }
-{
-    match state {
-        Utf8State::Boundary => after_lead(b),
-        Utf8State::Expecting { more, low, high } => {
-            if low <= b {
-                if b <= high {
-                    return after_continuation(more);
-                }
-            }
-            Utf8State::Invalid
-        }
-        Utf8State::Invalid => Utf8State::Invalid,
-    }
-}
-
-// No character is begun.
-fn is_boundary(state: Utf8State) -> bool
-    ensures { λ r. ⌜ r ≡ isBoundary state ⌝ }
-{
-    match state {
-        Utf8State::Boundary => true,
-        Utf8State::Expecting {
-            more: _,
-            low: _,
-            high: _,
-        } => false,
-        Utf8State::Invalid => false,
-    }
-}
-
-// The bytes are whole characters.
+// The bytes are whole characters: first those of one byte, as long as there is no other, then one character a turn.
 pub fn is_utf8(bytes: &[u8]) -> bool
     ensures { λ r. ⌜ r ≡ utf8 (now (bytes .entry)) ⌝ }
 {
-    let mut state = Utf8State::Boundary;
-    let mut i = 0;
+    let mut i = skip_set(ByteSet::ASCII, 0, bytes, 0);
     while i < bytes.len() {
-        state = next_state(state, bytes[i]);
-        i += 1;
+        match after_lead(bytes[i]) {
+            Utf8State::Boundary => i += 1,
+            Utf8State::Expecting { more, low, high } => {
+                if !completes(bytes, i + 1, more, low, high) {
+                    return false;
+                }
+                i += 1 + more as usize;
+            }
+            Utf8State::Invalid => return false,
+        }
     }
-    is_boundary(state)
+    true
 }
