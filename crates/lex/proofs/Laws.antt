@@ -123,7 +123,7 @@ module _ (p : ℕ → Bool) (s : List ℕ) (at : ℕ) where
   window-end k t w e f = e ∙ ap (λ (n : ℕ). leb n (countWhile p (drop at s))) f
 
 -- a run goes on behind its first `k` bytes
-run-over : (p : ℕ → Bool) (k : ℕ) (s : List ℕ) → k ≤ countWhile p s → k + countWhile p (drop k s) ≡ countWhile p s
+pub run-over : (p : ℕ → Bool) (k : ℕ) (s : List ℕ) → k ≤ countWhile p s → k + countWhile p (drop k s) ≡ countWhile p s
 unfolding countWhile
 run-over p zero s h = zero-add _
 run-over p (suc k) [] h = absurd (not-suc-le-zero h)

@@ -244,6 +244,15 @@ fn number(rest: &[u8]) -> Piece
             taken: first,
         };
     }
+    // One dot is answered without the table, which is written onto the stack at each use.
+    let second = first + 1 + skip_digits(&rest[first + 1..]);
+    if peek(rest, second) != b'.' {
+        return Piece::Token {
+            kind: Type::D,
+            len: second,
+            taken: second,
+        };
+    }
     let class = CLASS;
     let n = first + skip_class(&class, Class::NUM_CONT, &rest[first..]);
     double(rest, n, first + 1)

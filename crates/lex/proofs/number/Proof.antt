@@ -7,7 +7,7 @@ use borrow.Author.Needs.{needs}
 use Rattle.lex.specs.Bytes.{classOf, bit, isIdentCont, isIdentStart, isDigit, isNumCont, isWs, or, between}
 use Rattle.lex.proofs.Bits.{classes}
 use Rattle.lex.proofs.Laws.{run-le}
-use Rattle.lex.proofs.Runs.{number-whole, dot-before, number-field, number-double, number-run}
+use Rattle.lex.proofs.Runs.{number-whole, dot-before, number-field, number-double, back-inside, number-one-dot, number-run}
 use Rattle.lex.proofs.number.Statement.{statement}
 use Rattle.lex.proofs.number.Tie as tie
 
@@ -19,13 +19,15 @@ peek-requires c κs = search needs
 
 returns : tie.Need-returns
 returns c =
-    let c4 = c .before .before .before .before in
-    number-whole (c4 .args .rest .now) _ (c .before .before .skip-digits .ensures) (λ e. c .if1 .taken (c .before .peek .ensures ∙ e))
+    let s = c .before .before .before .before .args .rest .now in
+    let front = c .before .before .skip-digits .ensures in
+    number-whole s _ front (λ e. c .if1 .taken (c .before .peek .ensures ∙ e))
 
 add-peek : tie.Need-add-peek
 add-peek c =
-    let c4 = c .before .before .before .before in
-    omega (arith, c .before .before .skip-digits .ensures, run-le isDigit (c4 .args .rest .now))
+    let s = c .before .before .before .before .args .rest .now in
+    let front = c .before .before .skip-digits .ensures in
+    omega (arith, front, run-le isDigit s)
 
 peek-requires-2 : tie.Need-peek-requires-2
 peek-requires-2 c κs = search needs
@@ -35,23 +37,75 @@ is-ident-start-requires c κs = search needs
 
 returns-2 : tie.Need-returns-2
 returns-2 c =
-    let c3 = c .before .before .before in
-    let c4 = c3 .before in
-    let c5 = c4 .before in
-    let c7 = c5 .before .before in
-    number-field (c7 .args .rest .now) _ (c5 .skip-digits .ensures) (sym (c4 .peek .ensures) ∙ c3 .if1 .left) (ap isIdentStart (sym (c .before .before .peek2 .ensures)) ∙ sym (c .before .is-ident-start .ensures) ∙ c .if2 .taken)
+    let s = c .before .before .before .before .before .before .before .args .rest .now in
+    let front = c .before .before .before .before .before .skip-digits .ensures in
+    let dot = sym (c .before .before .before .before .peek .ensures) ∙ c .before .before .before .if1 .left in
+    let name = ap isIdentStart (sym (c .before .before .peek2 .ensures)) ∙ sym (c .before .is-ident-start .ensures) ∙ c .if2 .taken in
+    number-field s _ front dot name
+
+add-second : tie.Need-add-second
+add-second c =
+    let s = c .before .before .before .before .before .before .before .args .rest .now in
+    let front = c .before .before .before .before .before .skip-digits .ensures in
+    omega (arith, front, run-le isDigit s)
+
+add-skip-digits : tie.Need-add-skip-digits
+add-skip-digits c =
+    let s = c .before .before .before .before .before .before .before .args .rest .now in
+    let front = c .before .before .before .before .before .skip-digits .ensures in
+    omega (arith, front, run-le isDigit s)
+
+sub-skip-digits : tie.Need-sub-skip-digits
+sub-skip-digits c =
+    let s = c .before .before .before .before .before .before .before .args .rest .now in
+    let front = c .before .before .before .before .before .skip-digits .ensures in
+    let dot = sym (c .before .before .before .before .peek .ensures) ∙ c .before .before .before .if1 .left in
+    omega (arith, dot-before s _ front dot, run-le isNumCont s)
+
+part-skip-digits-start : tie.Need-part-skip-digits-start
+part-skip-digits-start c =
+    let s = c .before .before .before .before .before .before .before .args .rest .now in
+    let front = c .before .before .before .before .before .skip-digits .ensures in
+    let dot = sym (c .before .before .before .before .peek .ensures) ∙ c .before .before .before .if1 .left in
+    omega (arith, dot-before s _ front dot, run-le isNumCont s)
+
+part-skip-digits-end : tie.Need-part-skip-digits-end
+part-skip-digits-end c = search needs
+
+skip-digits-requires-2 : tie.Need-skip-digits-requires-2
+skip-digits-requires-2 c κs = search needs
+
+add-second-2 : tie.Need-add-second-2
+add-second-2 c =
+    let s = c .before .before .before .before .before .before .before .before .before .args .rest .now in
+    let front = c .before .before .before .before .before .before .before .skip-digits .ensures in
+    let dot = sym (c .before .before .before .before .before .before .peek .ensures) ∙ c .before .before .before .before .before .if1 .left in
+    let back = rw part-to-end at (c .skip-digits2 .ensures) in
+    omega (arith, back-inside s _ front dot _ back)
+
+peek-requires-3 : tie.Need-peek-requires-3
+peek-requires-3 c κs = search needs
+
+returns-3 : tie.Need-returns-3
+returns-3 c =
+    let s = c .before .before .before .before .before .before .before .before .before .before .before .args .rest .now in
+    let front = c .before .before .before .before .before .before .before .before .before .skip-digits .ensures in
+    let dot = sym (c .before .before .before .before .before .before .before .before .peek .ensures) ∙ c .before .before .before .before .before .before .before .if1 .left in
+    let name = ap isIdentStart (sym (c .before .before .before .before .before .before .peek2 .ensures)) ∙ sym (c .before .before .before .before .before .is-ident-start .ensures) ∙ c .before .before .before .before .if2 .left in
+    let back = rw part-to-end at (c .before .before .skip-digits2 .ensures) in
+    number-one-dot s _ front dot _ back name (λ e. c .if3 .taken (c .before .peek3 .ensures ∙ e))
 
 sub-skip-class : tie.Need-sub-skip-class
 sub-skip-class c =
-    let c6 = c .before .before .before .before .before .before in
-    let c8 = c6 .before .before in
-    omega (arith, c6 .skip-digits .ensures, run-le isDigit (c8 .args .rest .now))
+    let s = c .before .before .before .before .before .before .before .before .before .before .before .before .args .rest .now in
+    let front = c .before .before .before .before .before .before .before .before .before .before .skip-digits .ensures in
+    omega (arith, front, run-le isDigit s)
 
 part-skip-class-start : tie.Need-part-skip-class-start
 part-skip-class-start c =
-    let c6 = c .before .before .before .before .before .before in
-    let c8 = c6 .before .before in
-    omega (arith, c6 .skip-digits .ensures, run-le isDigit (c8 .args .rest .now))
+    let s = c .before .before .before .before .before .before .before .before .before .before .before .before .args .rest .now in
+    let front = c .before .before .before .before .before .before .before .before .before .before .skip-digits .ensures in
+    omega (arith, front, run-le isDigit s)
 
 part-skip-class-end : tie.Need-part-skip-class-end
 part-skip-class-end c = search needs
@@ -62,42 +116,33 @@ skip-class-requires c κs = classes
 
 add-n : tie.Need-add-n
 add-n c =
-    let c8 = c .before .before .before .before .before .before .before .before in
-    let c10 = c8 .before .before in
-    omega (arith, number-run (c10 .args .rest .now) _ (c8 .skip-digits .ensures) _ (rw part-to-end at (c .skip-class .ensures)), run-le isNumCont (c10 .args .rest .now))
+    let s = c .before .before .before .before .before .before .before .before .before .before .before .before .before .before .args .rest .now in
+    let front = c .before .before .before .before .before .before .before .before .before .before .before .before .skip-digits .ensures in
+    let run = rw part-to-end at (c .skip-class .ensures) in
+    omega (arith, number-run s _ front _ run, run-le isNumCont s)
 
 add-double : tie.Need-add-double
 add-double c =
-    let c8 = c .before .before .before .before .before .before .before .before in
-    let c10 = c8 .before .before in
-    omega (arith, c8 .skip-digits .ensures, run-le isDigit (c10 .args .rest .now))
+    let s = c .before .before .before .before .before .before .before .before .before .before .before .before .before .before .args .rest .now in
+    let front = c .before .before .before .before .before .before .before .before .before .before .before .before .skip-digits .ensures in
+    omega (arith, front, run-le isDigit s)
 
 double-requires : tie.Need-double-requires
 double-requires c κs =
-    let c6 = c .before .before .before .before .before .before in
-    let c7 = c6 .before in
-    let c8 = c7 .before in
-    let c10 = c8 .before .before in
-    omega (
-      arith,
-      number-run (c10 .args .rest .now) _ (c8 .skip-digits .ensures) _ (rw part-to-end at (c .skip-class .ensures)),
-      dot-before (c10 .args .rest .now) _ (c8 .skip-digits .ensures) (sym (c7 .peek .ensures) ∙ c6 .if1 .left),
-      run-le isNumCont (c10 .args .rest .now),
-    )
+    let s = c .before .before .before .before .before .before .before .before .before .before .before .before .before .before .args .rest .now in
+    let front = c .before .before .before .before .before .before .before .before .before .before .before .before .skip-digits .ensures in
+    let dot = sym (c .before .before .before .before .before .before .before .before .before .before .before .peek .ensures) ∙ c .before .before .before .before .before .before .before .before .before .before .if1 .left in
+    let run = rw part-to-end at (c .skip-class .ensures) in
+    omega (arith, number-run s _ front _ run, dot-before s _ front dot, run-le isNumCont s)
 
-returns-3 : tie.Need-returns-3
-returns-3 c =
-    let c4 = c .before .before .before .before in
-    let c5 = c4 .before in
-    let c6 = c5 .before in
-    let c7 = c6 .before in
-    let c8 = c7 .before in
-    let c9 = c8 .before in
-    let c11 = c9 .before .before in
-    c .double .ensures
-    ∙ number-double (c11 .args .rest .now) _ (c9 .skip-digits .ensures) (sym (c8 .peek .ensures) ∙ c7 .if1 .left)
-    (ap isIdentStart (sym (c6 .peek2 .ensures)) ∙ sym (c5 .is-ident-start .ensures) ∙ c4 .if2 .left) _
-    (number-run (c11 .args .rest .now) _ (c9 .skip-digits .ensures) _ (rw part-to-end at (c .before .skip-class .ensures)))
+returns-4 : tie.Need-returns-4
+returns-4 c =
+    let s = c .before .before .before .before .before .before .before .before .before .before .before .before .before .before .before .args .rest .now in
+    let front = c .before .before .before .before .before .before .before .before .before .before .before .before .before .skip-digits .ensures in
+    let dot = sym (c .before .before .before .before .before .before .before .before .before .before .before .before .peek .ensures) ∙ c .before .before .before .before .before .before .before .before .before .before .before .if1 .left in
+    let name = ap isIdentStart (sym (c .before .before .before .before .before .before .before .before .before .before .peek2 .ensures)) ∙ sym (c .before .before .before .before .before .before .before .before .before .is-ident-start .ensures) ∙ c .before .before .before .before .before .before .before .before .if2 .left in
+    let run = rw part-to-end at (c .before .skip-class .ensures) in
+    c .double .ensures ∙ number-double s _ front dot name _ (number-run s _ front _ run)
 
 pub number-spec : {M : Type 1} → statement M
 number-spec =
@@ -110,6 +155,15 @@ number-spec =
     peek-requires-2
     is-ident-start-requires
     returns-2
+    add-second
+    add-skip-digits
+    sub-skip-digits
+    part-skip-digits-start
+    part-skip-digits-end
+    skip-digits-requires-2
+    add-second-2
+    peek-requires-3
+    returns-3
     sub-skip-class
     part-skip-class-start
     part-skip-class-end
@@ -117,4 +171,4 @@ number-spec =
     add-n
     add-double
     double-requires
-    returns-3)
+    returns-4)
