@@ -1,16 +1,13 @@
--- An array that is cleared from a place on.
+-- Arrays that are cleared.
 use mathlib.Core.Path.{_≡_, refl, sym, ap, _∙_}
 use mathlib.Core.List.{List, [], _∷_, _++_, append-assoc, append-nil}
 use Prim.Native.Nat.{ℕ, suc, _+_, _-_, _≤_, _<_}
 use native.Mathlib.Omega.{arith}
 use lib.ListN.{length, take, drop, set, getD, length-append, length-take, take-append-drop, drop-of-length-le, replicate-append-replicate}
-use lib.Seq.{drop-cons, set-at, take-at}
+use lib.Seq.{drop-cons, drop-at, set-at, take-at}
 use Rattle.rules.specs.Layout.{zeros}
 use Rattle.parser_base.proofs.Cells.{zeros-length}
-
--- after some turns
-abbrev pub cleared : List ℕ → ℕ → ℕ → List ℕ
-cleared a from i = take from a ++ (zeros (i - from) ++ drop i a)
+use Rattle.parser.specs.Whole.{cleared, Left}
 
 pub cleared-start : (a : List ℕ) (from : ℕ) → a ≡ cleared a from from
 cleared-start a from = sym (take-append-drop from a) ∙ ap (λ (n : ℕ). take from a ++ (zeros n ++ drop from a)) {x = 0} {y = from - from} (omega arith)
@@ -55,3 +52,17 @@ end-cleared {array} {array′} front back z n k e b f w =
       same = same;
       laid = new ∙ append-assoc front (zeros z) (zeros n) ∙ ap (λ (l : List ℕ). front ++ l) (replicate-append-replicate z n 0 ∙ ap zeros {x = z + n} {y = length array′ - k} (omega arith) ∙ sym (append-nil _));
     }
+
+-- the front first, then the far end
+pub ends-cleared : {a a₁ a₂ : List ℕ} {front back : ℕ} → Left a front back → a₁ ≡ cleared a 0 front → a₂ ≡ take (length a₁ - back) a₁ ++ zeros (length a₁ - (length a₁ - back)) → a₂ ≡ zeros (length a)
+ends-cleared {a} {a₁} {a₂} {front} {back} h e w =
+    let rest : drop front a ≡ zeros (h .between) ++ h .behind = ap (drop front) (h .laid) ∙ drop-at (h .before) _ front (h .inFront) in
+    let one : a₁ ≡ zeros front ++ (zeros (h .between) ++ h .behind) = e ∙ ap (λ (l : List ℕ). zeros (front - 0) ++ l) rest ∙ ap (λ (n : ℕ). zeros n ++ (zeros (h .between) ++ h .behind)) {x = front - 0} {y = front} (omega arith) in
+    let two = end-cleared {array = a₁} {array′ = a₂} (zeros front) (h .behind) (h .between) back front one (h .atEnd) (zeros-length front) w in
+    let same : length a₁ ≡ length a = omega (arith, ap length one ∙ length-append (zeros front) _, zeros-length front, ap length (h .laid) ∙ length-append (h .before) _, h .inFront) in
+    let fits : front ≤ length a = omega (arith, ap length (h .laid) ∙ length-append (h .before) _, h .inFront) in
+    two .laid ∙ ap (λ (l : List ℕ). zeros front ++ l) (append-nil _) ∙ replicate-append-replicate front (length a₂ - front) 0 ∙ ap zeros {x = front + (length a₂ - front)} {y = length a} (omega (arith, two .same, same, fits))
+
+-- a part that is left behind lies in its array
+pub left-fits : {a : List ℕ} {front back : ℕ} → Left a front back → front + back ≤ length a
+left-fits h = omega (arith, ap length (h .laid) ∙ length-append (h .before) _, length-append (zeros (h .between)) (h .behind), h .inFront, h .atEnd)

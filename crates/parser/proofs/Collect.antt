@@ -30,16 +30,14 @@ use Rattle.diagnostics.specs.Faults.{faultsBetween, lowDiagnostic}
 use Rattle.diagnostics.proofs.Faults.{faults-low}
 use Rattle.diagnostics.proofs.Order.{Ordered, ordered-start, ordered-error, ordered-end, ordered-room}
 use Rattle.parser_base.specs.Represents.{Failed, Code, code, going, isGoing, ahead, Represents, FailedAt}
-use Rattle.parser_base.specs.Refines.{Ends, kept, Refines, deeper, wanted}
+use Rattle.parser_base.specs.Refines.{Ends, kept, Refines, deeper, memberFollows}
 use Rattle.parser_base.specs.declared.Parser.{Parser}
 use Rattle.parser_base.specs.declared.Status.{Status}
 use Rattle.parser_base.proofs.Steps.{either, true≢false, left-some, current-represents, represents-less, represents-going, failed-fails}
 use Rattle.parser_base.proofs.Rounds.{after, iterate-suc, ifKind-is-yes, ifKind-is-no}
-use Rattle.parser_base.proofs.Loops.{wanted-going, wanted-eof}
-use Rattle.parser.specs.Whole.{Blank, fresh, RootsAre, dropDocs, Holds, Resumes, synchronizing}
-use Rattle.parser.specs.Collect.{collectStep, DiagnosticsAre, Gathers, Room, TurnEnds, inOrder, CollectEnds}
-use Rattle.parser.specs.declared.RootsRead.{RootsRead}
-use Rattle.parser.specs.declared.RootsCollected.{RootsCollected}
+use Rattle.parser_base.proofs.Loops.{member-going, member-eof}
+use Rattle.parser.specs.Whole.{RootsRead, Blank, fresh, RootsAre, dropDocs, Holds, Resumes, synchronizing}
+use Rattle.parser.specs.Collect.{RootsCollected, collectStep, DiagnosticsAre, Gathers, Room, TurnEnds, inOrder, CollectEnds}
 use Rattle.parser.proofs.Synchronize.{Recovered, recovered}
 use Rattle.parser.proofs.Roots.{some-ahead, root-pushed, at-eof, tree-held, begun}
 
@@ -108,14 +106,14 @@ module _ (script : List ℕ) (g : Gathered) (e : Diagnostic) (m : State) where
   recover-goes-on z w = recover-by ∙ ap (λ (b : Bool). by-number b (synchronizeRoot m)) z ∙ ap (by-number false) w
 
 -- by how the root ends
-pub collect-turn : {script nodes types lists nodes′ types′ lists′ roots diagnostics : List ℕ} {p : Parser} {id : NodeId} {s′ : Code} (c : RootsCollected) (g : Gathered) (m : State) → wanted p kEof ≡ true
+pub collect-turn : {script nodes types lists nodes′ types′ lists′ roots diagnostics : List ℕ} {p : Parser} {id : NodeId} {s′ : Code} (c : RootsCollected) (g : Gathered) (m : State) → memberFollows p kEof ≡ true
     → Represents script (code nodes types lists p) 0 0 [] m → Refines script 0 0 (deeper script maxLevels .prefix) (λ a. a ≡ id) kept 1 0 8 (code nodes types lists p) s′
     → ((a : NodeId) (m₁ : State) → a ≡ id → Represents script s′ 0 0 [] m₁ → TurnEnds script nodes′ types′ lists′ roots diagnostics c (ok (continue (record { roots = g .roots ++ (a .0 ∷ []); errors = g .errors })) m₁))
     → ((e : Diagnostic) (m₁ : State) → FailedAt script s′ e 0 0 [] m₁ → TurnEnds script nodes′ types′ lists′ roots diagnostics c (recover stageOne script g e m₁))
     → TurnEnds script nodes′ types′ lists′ roots diagnostics c (collectStep script g m)
 collect-turn {script} {nodes′ = nodes′} {types′} {lists′} {roots} {diagnostics} {p} {id} {s′} c g m w h q f k =
     let cur : current (m .left) ≡ p .cur = current-represents (h .related) in
-    subst (TurnEnds script nodes′ types′ lists′ roots diagnostics c) (sym (ifKind-is-no kEof _ _ m (rw cur (wanted-eof p kEof w)))) (go (deeper script maxLevels .prefix m) (q .simulates 0 0 [] m h))
+    subst (TurnEnds script nodes′ types′ lists′ roots diagnostics c) (sym (ifKind-is-no kEof _ _ m (rw cur (member-eof p kEof w)))) (go (deeper script maxLevels .prefix m) (q .simulates 0 0 [] m h))
   where
     go : (r : Result NodeId) → Ends script (λ a. a ≡ id) kept s′ 0 0 0 8 [] r
         → TurnEnds script nodes′ types′ lists′ roots diagnostics c (elim r as (λ _. Result (ControlFlow Gathered)) [ ok n s₁ ↦ ok (continue (record { roots = g .roots ++ (n .0 ∷ []); errors = g .errors })) s₁ | err e s₁ ↦ recover stageOne script g e s₁ ])
@@ -130,12 +128,13 @@ ended-by-ten {script} {nodes} {types} {lists} {d} roots array c g e m failed ten
     subst (TurnEnds script nodes types lists roots array c) (sym (recover-ends script g e m (ap (λ (x : Diagnostic). eqb (x .number) 10) (sym named) ∙ ten))) (h .status)
 
 -- an error is gathered, and the reading goes on
-pub gathered-error : {script nodes types lists roots array types′ lists′ array₁ array₂ : List ℕ} {c : RootsCollected} {n₁ n₂ : ℕ} {d : Diagnostic} {q₁ q₂ : Parser} (g : Gathered) (e : Diagnostic) (m : State) → d ≡ c .parser .status .error → eqb (d .number) 10 ≡ false
-    → diagnostics array₁ n₁ ≡ foldl pushed (diagnostics array (c .diagnostics)) (map lowDiagnostic (faultsBetween script (c .listed) (c .parser .pos))) → diagnostics array₂ n₂ ≡ pushed (diagnostics array₁ n₁) d → length array₂ ≡ length array
+pub gathered-error : {script nodes types lists roots array types′ lists′ array₁ array₂ : List ℕ} {c : RootsCollected} {n₁ n₂ : ℕ} {d : Diagnostic} {q₁ q₂ : Parser} {at : ℕ} (g : Gathered) (e : Diagnostic) (m : State) → at ≡ c .parser .pos → d ≡ c .parser .status .error → eqb (d .number) 10 ≡ false
+    → diagnostics array₁ n₁ ≡ foldl pushed (diagnostics array (c .diagnostics)) (map lowDiagnostic (faultsBetween script (c .listed) at)) → diagnostics array₂ n₂ ≡ pushed (diagnostics array₁ n₁) d → length array₂ ≡ length array
     → Resumes script (code nodes types lists (c .parser)) (code nodes types′ lists′ q₁) → Refines script 0 0 synchronizing (λ n. n ≡ 0) kept 0 0 0 (code nodes types′ lists′ q₁) (code nodes types′ lists′ q₂)
     → Room script roots array g → FailedAt script (code nodes types lists (c .parser)) e 0 0 [] m → Gathers script nodes types lists roots array c g
-    → TurnEnds script nodes types′ lists′ roots array₂ (record { parser = q₂; members = c .members; diagnostics = n₂; listed = c .parser .pos }) (recover stageOne script g e m)
-gathered-error {script} {nodes} {types} {lists} {roots} {array} {types′} {lists′} {array₁} {array₂} {c} {n₁} {n₂} {d} {q₁} {q₂} g e m failed ten faults pushes same resumes goes room h z =
+    → TurnEnds script nodes types′ lists′ roots array₂ (record { parser = q₂; members = c .members; diagnostics = n₂; listed = at }) (recover stageOne script g e m)
+gathered-error {script} {nodes} {types} {lists} {roots} {array} {types′} {lists′} {array₁} {array₂} {c} {n₁} {n₂} {d} {q₁} {q₂} g e m place failed ten faults₀ pushes same resumes goes room h z =
+    let faults = subst (λ (k : ℕ). diagnostics array₁ n₁ ≡ foldl pushed (diagnostics array (c .diagnostics)) (map lowDiagnostic (faultsBetween script (c .listed) k))) place faults₀ in
     let named : d ≡ e = failed ∙ ap (λ (s : Status). s .error) (h .status) in
     let r = recovered h resumes goes in
     let last : RootsCollected = record { parser = q₂; members = c .members; diagnostics = n₂; listed = c .parser .pos } in
@@ -144,13 +143,14 @@ gathered-error {script} {nodes} {types} {lists} {roots} {array} {types′} {list
     let lexed = h .related .lexed in
     let count : length (tokensOf (cut script)) - length (ahead script (code nodes types lists (c .parser))) ≡ length (begin script .left) - length (m .left) = omega (arith, begin-left script) in
     let one = error-pushed (h .related .lent .small) (room .diagnosticsLong) (omega (arith, room .fewErrors)) (z .diagnosticsHeld) (lexed .stands) (lexed .counted) faults {left′ = length (ahead script (code nodes types′ lists′ q₂))} e (room .fewErrors) (pushes ∙ ap (pushed (diagnostics array₁ n₁)) named) same (omega (arith, r .fewer)) in
-    subst (TurnEnds script nodes types′ lists′ roots array₂ last) (sym (recover-goes-on script g e m (ap (λ (x : Diagnostic). eqb (x .number) 10) (sym named) ∙ ten) (r .comes))) (
+    subst (λ (k : ℕ). TurnEnds script nodes types′ lists′ roots array₂ (record { parser = q₂; members = c .members; diagnostics = n₂; listed = k }) (recover stageOne script g e m)) (sym place)
+    (subst (TurnEnds script nodes types′ lists′ roots array₂ last) (sym (recover-goes-on script g e m (ap (λ (x : Diagnostic). eqb (x .number) 10) (sym named) ∙ ten) (r .comes))) (
       r .represents,
       record {
         rootsHeld = (z .rootsHeld .0, z .rootsHeld .1, omega (arith, z .rootsHeld .2, r .fewer));
         diagnosticsHeld = subst (λ (k : ℕ). DiagnosticsAre script array₂ n₂ (c .parser .pos) (length (ahead script (code nodes types′ lists′ q₂))) (g .errors ++ (record { after = k; diagnostic = e } ∷ []))) count one;
       },
-    )
+    ))
 
 -- what is gathered stays while tokens are taken
 diagnostics-on : {script array : List ℕ} {n listed left left′ : ℕ} {es : List Occurrence} → DiagnosticsAre script array n listed left es → left′ ≤ left → DiagnosticsAre script array n listed left′ es
@@ -230,7 +230,7 @@ module _ (script : List ℕ) where
     pub progress : Progress nodes′ types′ lists′ roots′ diagnostics′ c′
     pub less : toGo nodes′ types′ lists′ c′ < toGo nodes types lists c
 
-  pub turn : {nodes types lists roots diagnostics nodes′ types′ lists′ roots′ diagnostics′ : List ℕ} {c c′ : RootsCollected} → wanted (c .parser) kEof ≡ true → length script ≤ length roots → 5 * length script ≤ length diagnostics
+  pub turn : {nodes types lists roots diagnostics nodes′ types′ lists′ roots′ diagnostics′ : List ℕ} {c c′ : RootsCollected} → memberFollows (c .parser) kEof ≡ true → length script ≤ length roots → 5 * length script ≤ length diagnostics
       → Progress nodes types lists roots diagnostics c
       → ((g : Gathered) (m : State) → Room script roots diagnostics g → Represents script (code nodes types lists (c .parser)) 0 0 [] m → Gathers script nodes types lists roots diagnostics c g → TurnEnds script nodes′ types′ lists′ roots′ diagnostics′ c′ (collectStep script g m))
       → Turn nodes types lists roots diagnostics nodes′ types′ lists′ roots′ diagnostics′ c c′
@@ -252,13 +252,13 @@ module _ (script : List ℕ) where
       one zero g m e k q h z = absurd (omega (arith, Counting.some-pending stageOne no-eof script (q .reached)))
       one (suc n) g m e k q h z =
           let cur : current (m .left) ≡ c .parser .cur = current-represents (h .related) in
-          let two : 2 ≤ length (m .left) = two-left (m .left) (q .reached .ended) (rw cur (eqb-false _ _ (wanted-eof (c .parser) kEof w))) in
+          let two : 2 ≤ length (m .left) = two-left (m .left) (q .reached .ended) (rw cur (eqb-false _ _ (member-eof (c .parser) kEof w))) in
           next n g m k h (collectStep script g m) (e ∙ iterate-suc (collectStep script) n g m) (Counting.turn-ends stageOne no-eof script g m q)
           (f g m (record { rootsLong = long; diagnosticsLong = room; fewErrors = omega (arith, q .fewErrors, begin-left script) }) h z)
 
       go : Progress nodes types lists roots diagnostics c → Turn nodes types lists roots diagnostics nodes′ types′ lists′ roots′ diagnostics′ c c′
       go (live v) = one (v .fuel) (v .g) (v .m) (v .comes) (v .fuelled) (v .counts) (v .represents) (v .gathers)
-      go (over e m z s) = absurd (true≢false (wanted-going (c .parser) kEof w) (ap isGoing s))
+      go (over e m z s) = absurd (true≢false (member-going (c .parser) kEof w) (ap isGoing s))
 
   -- ---- the beginning and the end
 
@@ -287,13 +287,17 @@ module _ (script : List ℕ) where
   ended-by {nodes} {types} {lists} {roots} {diagnostics} {c} g (over e m z s) = subst (CollectEnds script nodes types lists roots diagnostics c) (sym z) s
 
   -- all roots are read
-  pub ends : {nodes types types′ lists roots array array′ : List ℕ} {c : RootsCollected} {q : Parser} {n : ℕ} → wanted (c .parser) kEof ≡ false → isGoing (c .parser .status) ≡ true → 5 * length script ≤ length array → Progress nodes types lists roots array c
-      → diagnostics array′ n ≡ foldl pushed (diagnostics array (c .diagnostics)) (map lowDiagnostic (faultsBetween script (c .listed) (c .parser .pos))) → length array′ ≡ length array
+  pub ends : {nodes types types′ lists roots array array′ : List ℕ} {c : RootsCollected} {q : Parser} {n at : ℕ} → at ≡ c .parser .pos → memberFollows (c .parser) kEof ≡ false → isGoing (c .parser .status) ≡ true → 5 * length script ≤ length array → Progress nodes types lists roots array c
+      → diagnostics array′ n ≡ foldl pushed (diagnostics array (c .diagnostics)) (map lowDiagnostic (faultsBetween script (c .listed) at)) → length array′ ≡ length array
       → Refines script 0 0 dropDocs (λ n. n ≡ 0) kept 0 0 0 (code nodes types lists (c .parser)) (code nodes types′ lists q)
-      → CollectEnds script nodes types′ lists roots array′ (record { parser = q; members = c .members; diagnostics = n; listed = c .parser .pos }) (parseRootsCollect stageOne script (begin script))
+      → CollectEnds script nodes types′ lists roots array′ (record { parser = q; members = c .members; diagnostics = n; listed = at }) (parseRootsCollect stageOne script (begin script))
   unfolding after pure
-  ends {nodes} {types} {types′} {lists} {roots} {array} {array′} {c} {q} {n} w g room i p same d = go i
+  ends {nodes} {types} {types′} {lists} {roots} {array} {array′} {c} {q} {n} place w g room i p₀ same d =
+      subst (λ (k : ℕ). CollectEnds script nodes types′ lists roots array′ (record { parser = q; members = c .members; diagnostics = n; listed = k }) (parseRootsCollect stageOne script (begin script))) (sym place) (go i)
     where
+      p : diagnostics array′ n ≡ foldl pushed (diagnostics array (c .diagnostics)) (map lowDiagnostic (faultsBetween script (c .listed) (c .parser .pos)))
+      p = subst (λ (k : ℕ). diagnostics array′ n ≡ foldl pushed (diagnostics array (c .diagnostics)) (map lowDiagnostic (faultsBetween script (c .listed) k))) place p₀
+
       last : RootsCollected
       last = record { parser = q; members = c .members; diagnostics = n; listed = c .parser .pos }
 

@@ -17,13 +17,12 @@ use Rattle.rules.specs.Promise.{maxBytes, Arrays, Outcome, tooShort, zeroed, ho
 use Rattle.rules.specs.declared.Parsed.{Parsed}
 use Rattle.rules.specs.declared.Parsed.the-variants as P
 use Rattle.parser_base.specs.Represents.{isGoing}
+use Rattle.parser_base.specs.declared.Used.{Used}
 use Rattle.parser_base.specs.declared.Status.{Status}
 use Rattle.parser_base.proofs.Steps.{true≢false}
 use Rattle.parser_base.proofs.Cells.{zeros-length}
-use Rattle.parser.specs.Whole.{arrays, refusal, Blank, Holds, RootsEnd}
-use Rattle.parser.specs.Collect.{inOrder, CollectEnds}
-use Rattle.parser.specs.declared.RootsRead.{RootsRead}
-use Rattle.parser.specs.declared.RootsCollected.{RootsCollected}
+use Rattle.parser.specs.Whole.{RootsRead, Left, LeftBehind, arrays, refusal, Blank, Holds, RootsEnd}
+use Rattle.parser.specs.Collect.{RootsCollected, inOrder, CollectEnds}
 use Rattle.parser.proofs.Clear.{cleared-all}
 
 -- ---- refusals
@@ -74,8 +73,8 @@ module _ (how : List ℕ → Reading) (script : List ℕ) (l : Arrays) where
 
 -- ---- trees and errors
 
-abbrev pub treeOf : RootsRead → ℕ → Parsed
-treeOf r n = P.Tree (record { nodes = r .parser .used .nodes; types = r .parser .used .types; cells = r .parser .used .cells; roots = r .members; values = r .parser .used .values; diagnostics = n })
+abbrev pub treeOf : Used → ℕ → ℕ → Parsed
+treeOf u roots n = P.Tree (record { nodes = u .nodes; types = u .types; cells = u .cells; roots = roots; values = u .values; diagnostics = n })
 
 held-as : (a b f : List ℕ) → length b ≡ length a → b ≡ padded (length b) f → padded (length a) f ≡ b
 held-as a b f n e = ap (λ (k : ℕ). padded k f) (sym n) ∙ sym e
@@ -86,7 +85,7 @@ module _ (how : List ℕ → Reading) (script ns ts ls rs ds ns′ ts′ ls′ r
 
   pub tree-promised : {xs : List ℕ} {m : State} (r : RootsRead) (es : List Diagnostic) (n : ℕ) → how script ≡ read (record { arena = m .arena; roots = xs }) es → Holds ns′ ts′ ls′ rs′ r xs m
       → length ns′ ≡ length ns → length ts′ ≡ length ts → length ls′ ≡ length ls → length rs′ ≡ length rs → n ≡ length es → ds′ ≡ padded (length ds) (flatten (map diagnosticCells es))
-      → promised how script (arrays ns ts ls rs ds) ≡ record { answer = treeOf r n; arrays = arrays ns′ ts′ ls′ rs′ ds′ }
+      → promised how script (arrays ns ts ls rs ds) ≡ record { answer = treeOf (r .parser .used) (r .members) n; arrays = arrays ns′ ts′ ls′ rs′ ds′ }
   unfolding outcome holding flatten
   tree-promised {xs} {m} r es n e h a b c d k z = by-reading e (λ i. record {
     answer = P.Tree (record { nodes = sym (h .nodeCount) i; types = sym (h .typeCount) i; cells = sym (h .cellCount) i; roots = sym (h .rootCount) i; values = sym (h .valueCount) i; diagnostics = sym k i });
@@ -111,25 +110,31 @@ parse-ending script = refl
 module _ (script ns ts ls rs ds ns′ ts′ ls′ rs′ : List ℕ) (r : RootsRead) (taken : Accepted (parse stageOne) script (arrays ns ts ls rs ds))
     (ends : RootsEnd ns′ ts′ ls′ rs′ r (parseRoots stageOne script (begin script)))
     (n : length ns′ ≡ length ns) (t : length ts′ ≡ length ts) (c : length ls′ ≡ length ls) (o : length rs′ ≡ length rs) where
-  pub strict-tree : (ds′ : List ℕ) → ds′ ≡ zeros (length ds) → isGoing (r .parser .status) ≡ true
-      → promised (parse stageOne) script (arrays ns ts ls rs ds) ≡ record { answer = treeOf r 0; arrays = arrays ns′ ts′ ls′ rs′ ds′ }
+  pub strict-tree : (ds′ : List ℕ) {u : Used} → ds′ ≡ zeros (length ds) → isGoing (r .parser .status) ≡ true → u ≡ r .parser .used
+      → promised (parse stageOne) script (arrays ns ts ls rs ds) ≡ record { answer = treeOf u (r .members) 0; arrays = arrays ns′ ts′ ls′ rs′ ds′ }
   unfolding ending flatten
-  strict-tree ds′ blank g = go (parseRoots stageOne script (begin script)) (parse-ending script) ends
+  strict-tree ds′ blank g same = subst (λ (u : Used). promised (parse stageOne) script (arrays ns ts ls rs ds) ≡ record { answer = treeOf u (r .members) 0; arrays = arrays ns′ ts′ ls′ rs′ ds′ }) (sym same) (go (parseRoots stageOne script (begin script)) (parse-ending script) ends)
     where
-      go : (res : Result (List ℕ)) → parse stageOne script ≡ ending res → RootsEnd ns′ ts′ ls′ rs′ r res → promised (parse stageOne) script (arrays ns ts ls rs ds) ≡ record { answer = treeOf r 0; arrays = arrays ns′ ts′ ls′ rs′ ds′ }
+      go : (res : Result (List ℕ)) → parse stageOne script ≡ ending res → RootsEnd ns′ ts′ ls′ rs′ r res → promised (parse stageOne) script (arrays ns ts ls rs ds) ≡ record { answer = treeOf (r .parser .used) (r .members) 0; arrays = arrays ns′ ts′ ls′ rs′ ds′ }
       go (ok xs m) e h = tree-promised (parse stageOne) script ns ts ls rs ds ns′ ts′ ls′ rs′ ds′ taken r [] 0 e h n t c o refl (blank ∙ ap zeros {x = length ds} {y = length ds - 0} (omega arith))
-      go (err x m) e h = absurd (true≢false g (ap isGoing h))
+      go (err x m) e h = absurd (true≢false g (ap isGoing (h .0)))
 
-  pub strict-error : (ns″ ts″ ls″ rs″ ds′ : List ℕ) → ns″ ≡ zeros (length ns′) → ts″ ≡ zeros (length ts′) → ls″ ≡ zeros (length ls′) → rs″ ≡ zeros (length rs′) → ds′ ≡ zeros (length ds) → isGoing (r .parser .status) ≡ false
-      → promised (parse stageOne) script (arrays ns ts ls rs ds) ≡ record { answer = P.Error (r .parser .status .error); arrays = arrays ns″ ts″ ls″ rs″ ds′ }
+  pub strict-error : (ns″ ts″ ls″ rs″ ds′ : List ℕ) {d₀ : Diagnostic} → (LeftBehind ns′ ts′ ls′ (r .parser .used) → (ns″ ≡ zeros (length ns′)) × (ts″ ≡ zeros (length ts′)) × (ls″ ≡ zeros (length ls′))) → rs″ ≡ zeros (length rs′) → ds′ ≡ zeros (length ds) → isGoing (r .parser .status) ≡ false → d₀ ≡ r .parser .status .error
+      → promised (parse stageOne) script (arrays ns ts ls rs ds) ≡ record { answer = P.Error d₀; arrays = arrays ns″ ts″ ls″ rs″ ds′ }
   unfolding ending
-  strict-error ns″ ts″ ls″ rs″ ds′ a b l d z g = go (parseRoots stageOne script (begin script)) (parse-ending script) ends
+  strict-error ns″ ts″ ls″ rs″ ds′ a d z g same = subst (λ (x : Diagnostic). promised (parse stageOne) script (arrays ns ts ls rs ds) ≡ record { answer = P.Error x; arrays = arrays ns″ ts″ ls″ rs″ ds′ }) (sym same)
+      (go (parseRoots stageOne script (begin script)) (parse-ending script) ends)
     where
       go : (res : Result (List ℕ)) → parse stageOne script ≡ ending res → RootsEnd ns′ ts′ ls′ rs′ r res → promised (parse stageOne) script (arrays ns ts ls rs ds) ≡ record { answer = P.Error (r .parser .status .error); arrays = arrays ns″ ts″ ls″ rs″ ds′ }
       go (ok xs m) w h = absurd (true≢false (ap isGoing (h .going)) g)
       go (err x m) w h =
-          let same : x ≡ r .parser .status .error = sym (ap (λ (s : Status). s .error) h) in
-          error-promised (parse stageOne) script ns ts ls rs ds ns″ ts″ ls″ rs″ ds′ taken (r .parser .status .error) (w ∙ ap ended same) (a ∙ ap zeros n) (b ∙ ap zeros t) (l ∙ ap zeros c) (d ∙ ap zeros o) z
+          let same : x ≡ r .parser .status .error = sym (ap (λ (s : Status). s .error) (h .0)) in
+          error-promised (parse stageOne) script ns ts ls rs ds ns″ ts″ ls″ rs″ ds′ taken (r .parser .status .error) (w ∙ ap ended same) (a (h .1) .0 ∙ ap zeros n) (a (h .1) .1 ∙ ap zeros t) (a (h .1) .2 ∙ ap zeros c) (d ∙ ap zeros o) z
+
+-- what is cleared by the counts that were read
+pub left-cleared : {ns ts ls ns′ ts′ ls′ : List ℕ} {u v : Used} → u ≡ v → (Left ns (16 * u .nodes) 0 → ns′ ≡ zeros (length ns)) → (Left ts (8 * u .types) (3 * u .docs) → ts′ ≡ zeros (length ts)) → (Left ls (u .cells) (u .scratch) → ls′ ≡ zeros (length ls))
+    → LeftBehind ns ts ls v → (ns′ ≡ zeros (length ns)) × (ts′ ≡ zeros (length ts)) × (ls′ ≡ zeros (length ls))
+left-cleared {ns} {ts} {ls} e f g k h₀ = let h = subst (LeftBehind ns ts ls) (sym e) h₀ in (f (h .0), g (h .1), k (h .2))
 
 -- ---- collecting
 
@@ -146,18 +151,20 @@ module _ (script ns ts ls rs ds ns′ ts′ ls′ rs′ ds′ : List ℕ) (r : R
   abbrev roots : RootsRead
   roots = record { parser = r .parser; members = r .members }
 
-  pub collect-tree : isGoing (r .parser .status) ≡ true → promised (parseCollect stageOne) script (arrays ns ts ls rs ds) ≡ record { answer = treeOf roots (r .diagnostics); arrays = arrays ns′ ts′ ls′ rs′ ds′ }
+  pub collect-tree : {u : Used} → isGoing (r .parser .status) ≡ true → u ≡ r .parser .used → promised (parseCollect stageOne) script (arrays ns ts ls rs ds) ≡ record { answer = treeOf u (r .members) (r .diagnostics); arrays = arrays ns′ ts′ ls′ rs′ ds′ }
   unfolding collectEnding
-  collect-tree g = go (parseRootsCollect stageOne script (begin script)) (collect-ending script) ends
+  collect-tree g same = subst (λ (u : Used). promised (parseCollect stageOne) script (arrays ns ts ls rs ds) ≡ record { answer = treeOf u (r .members) (r .diagnostics); arrays = arrays ns′ ts′ ls′ rs′ ds′ }) (sym same)
+      (go (parseRootsCollect stageOne script (begin script)) (collect-ending script) ends)
     where
-      go : (res : Result Gathered) → parseCollect stageOne script ≡ collectEnding script res → CollectEnds script ns′ ts′ ls′ rs′ ds′ r res → promised (parseCollect stageOne) script (arrays ns ts ls rs ds) ≡ record { answer = treeOf roots (r .diagnostics); arrays = arrays ns′ ts′ ls′ rs′ ds′ }
+      go : (res : Result Gathered) → parseCollect stageOne script ≡ collectEnding script res → CollectEnds script ns′ ts′ ls′ rs′ ds′ r res → promised (parseCollect stageOne) script (arrays ns ts ls rs ds) ≡ record { answer = treeOf (r .parser .used) (r .members) (r .diagnostics); arrays = arrays ns′ ts′ ls′ rs′ ds′ }
       go (ok w m) e h = tree-promised (parseCollect stageOne) script ns ts ls rs ds ns′ ts′ ls′ rs′ ds′ taken roots (inOrder script w) (r .diagnostics) e (h .0) n t c o (h .2) (h .1 ∙ ap (λ (j : ℕ). padded j (flatten (map diagnosticCells (inOrder script w)))) k)
       go (err x m) e h = absurd (true≢false g (ap isGoing h))
 
-  pub collect-error : (ns″ ts″ ls″ rs″ ds″ : List ℕ) → ns″ ≡ zeros (length ns′) → ts″ ≡ zeros (length ts′) → ls″ ≡ zeros (length ls′) → rs″ ≡ zeros (length rs′) → ds″ ≡ take 0 ds′ ++ zeros (length ds′ - 0) → isGoing (r .parser .status) ≡ false
-      → promised (parseCollect stageOne) script (arrays ns ts ls rs ds) ≡ record { answer = P.Error (r .parser .status .error); arrays = arrays ns″ ts″ ls″ rs″ ds″ }
+  pub collect-error : (ns″ ts″ ls″ rs″ ds″ : List ℕ) {d₀ : Diagnostic} → ns″ ≡ zeros (length ns′) → ts″ ≡ zeros (length ts′) → ls″ ≡ zeros (length ls′) → rs″ ≡ zeros (length rs′) → ds″ ≡ take 0 ds′ ++ zeros (length ds′ - 0) → isGoing (r .parser .status) ≡ false → d₀ ≡ r .parser .status .error
+      → promised (parseCollect stageOne) script (arrays ns ts ls rs ds) ≡ record { answer = P.Error d₀; arrays = arrays ns″ ts″ ls″ rs″ ds″ }
   unfolding collectEnding
-  collect-error ns″ ts″ ls″ rs″ ds″ a b l d z g = go (parseRootsCollect stageOne script (begin script)) (collect-ending script) ends
+  collect-error ns″ ts″ ls″ rs″ ds″ a b l d z g same = subst (λ (x : Diagnostic). promised (parseCollect stageOne) script (arrays ns ts ls rs ds) ≡ record { answer = P.Error x; arrays = arrays ns″ ts″ ls″ rs″ ds″ }) (sym same)
+      (go (parseRootsCollect stageOne script (begin script)) (collect-ending script) ends)
     where
       go : (res : Result Gathered) → parseCollect stageOne script ≡ collectEnding script res → CollectEnds script ns′ ts′ ls′ rs′ ds′ r res → promised (parseCollect stageOne) script (arrays ns ts ls rs ds) ≡ record { answer = P.Error (r .parser .status .error); arrays = arrays ns″ ts″ ls″ rs″ ds″ }
       go (ok w m) v h = absurd (true≢false (ap isGoing (h .0 .going)) g)

@@ -13,24 +13,24 @@ use Rattle.lex.specs.declared.tok.Next.{Next}
 use Rattle.lex.specs.declared.tok.Token.{Token}
 use Rattle.lex.proofs.Steps.{tokens-le}
 use Rattle.lex.proofs.Passed.{stands-start, stands-next}
+use Rattle.lex.specs.declared.diagnostic.Diagnostic.{Diagnostic}
 use Rattle.rules.specs.Tree.{State, Result, ok, err}
 use Rattle.rules.specs.Combinators.{Rule, _>>=_, pure, current, ifKind, withDocs, loop, ControlFlow, continue, break}
 use Rattle.rules.specs.Rules.{maxLevels, stageOne}
 use Rattle.rules.specs.Parse.{begin, parseRoots}
 use Rattle.rules.specs.Layout.{zeros, nodeCells, typeCells}
 use Rattle.rules.specs.declared.NodeId.{NodeId}
-use Rattle.parser_base.specs.Represents.{Code, code, going, isGoing, ahead, docCells, Related, Represents, FailedAt}
-use Rattle.parser_base.specs.Refines.{Ends, kept, Refines, deeper, wanted}
+use Rattle.parser_base.specs.Represents.{withUsed, Going, Failed, Code, code, going, isGoing, ahead, docCells, Related, Represents, FailedAt}
+use Rattle.parser_base.specs.Refines.{Ends, kept, Refines, deeper, memberFollows}
 use Rattle.parser_base.specs.declared.Parser.{Parser}
 use Rattle.parser_base.specs.declared.Used.{Used}
 use Rattle.parser_base.proofs.Steps.{either, true≢false, left-some, current-represents, represents-less, represents-going, failed-fails}
-use Rattle.parser_base.proofs.Leaves.{from-next, next-near}
-use Rattle.parser_base.proofs.Cells.{withUsed, types-length, nodes-length}
+use Rattle.parser_base.proofs.Leaves.{lent, moved-low, from-next, next-near}
+use Rattle.parser_base.proofs.Cells.{types-length, nodes-length}
 use Rattle.parser_base.proofs.Docs.{docs-length}
 use Rattle.parser_base.proofs.Rounds.{Again, Turned, LoopInvariant, round-start-at, round-out, ifKind-is-yes, ifKind-is-no}
-use Rattle.parser_base.proofs.Loops.{wanted-eof, unwanted}
-use Rattle.parser.specs.Whole.{Blank, fresh, rootStep, RootsAre, dropDocs, Holds, RootsEnd}
-use Rattle.parser.specs.declared.RootsRead.{RootsRead}
+use Rattle.parser_base.proofs.Loops.{member-eof, no-member}
+use Rattle.parser.specs.Whole.{RootsRead, LeftBehind, Blank, fresh, rootStep, RootsAre, dropDocs, Holds, RootsEnd}
 use Rattle.parser.proofs.Clear.{end-cleared}
 
 -- ---- docs that are dropped
@@ -38,11 +38,11 @@ use Rattle.parser.proofs.Clear.{end-cleared}
 abbrev pub undocumented : Used → Used
 undocumented u = record { nodes = u .nodes; values = u .values; types = u .types; docs = 0; cells = u .cells; scratch = u .scratch }
 
-pub dropping : (script nodes types types′ lists : List ℕ) (p : Parser) → isGoing (p .status) ≡ true
+docs-dropped : (script nodes types types′ lists : List ℕ) (p : Parser) → isGoing (p .status) ≡ true
     → types′ ≡ take (length types - 3 * p .used .docs) types ++ zeros (length types - (length types - 3 * p .used .docs))
     → Refines script 0 0 dropDocs (λ n. n ≡ 0) kept 0 0 0 (code nodes types lists p) (code nodes types′ lists (withUsed p (undocumented (p .used))))
 unfolding dropDocs withDocs flatten
-dropping script nodes types types′ lists p g e = record {
+docs-dropped script nodes types types′ lists p g e = record {
   sticky = λ z. absurd (true≢false g z);
   monotone = omega arith;
   progress = λ _. omega arith;
@@ -72,6 +72,13 @@ dropping script nodes types types′ lists p g e = record {
       );
 }
 
+pub dropping : (script nodes types types′ lists : List ℕ) {p q : Parser} {u : Used} → isGoing (p .status) ≡ true → u ≡ p .used → q ≡ withUsed p (undocumented u)
+    → types′ ≡ take (length types - 3 * u .docs) types ++ zeros (length types - (length types - 3 * u .docs))
+    → Refines script 0 0 dropDocs (λ n. n ≡ 0) kept 0 0 0 (code nodes types lists p) (code nodes types′ lists q)
+dropping script nodes types types′ lists {p} g e w = lent p undocumented
+    (λ (u : Used) (q : Parser). types′ ≡ take (length types - 3 * u .docs) types ++ zeros (length types - (length types - 3 * u .docs)) → Refines script 0 0 dropDocs (λ n. n ≡ 0) kept 0 0 0 (code nodes types lists p) (code nodes types′ lists q))
+    e w (docs-dropped script nodes types types′ lists p g)
+
 -- ---- one more root
 
 pub some-ahead : {script : List ℕ} {s : Code} {r l : ℕ} {stack : List ℕ} {m : State} → Related script s r l stack m → 1 ≤ length (ahead script s)
@@ -93,7 +100,7 @@ root-pushed script {roots} {roots′} {n} {n′} {id} s s′ xs a e q small long
     (new ∙ sym (append-assoc xs (a .0 ∷ []) (zeros (length roots - n - 1))) ∙ ap (λ (i : ℕ). (xs ++ (a .0 ∷ [])) ++ zeros i) j, omega (arith, q .1, z .1), omega (arith, q .2))
 
 module _ {script roots roots′ : List ℕ} {n n′ : ℕ} {id : NodeId} {s s′ : Code} where
-  pub root-again : wanted (s .parser) kEof ≡ true → length script ≤ length roots → Refines script 0 0 (deeper script maxLevels .prefix) (λ a. a ≡ id) kept 1 0 8 s s′
+  pub root-again : memberFollows (s .parser) kEof ≡ true → length script ≤ length roots → Refines script 0 0 (deeper script maxLevels .prefix) (λ a. a ≡ id) kept 1 0 8 s s′
       → (going s′ ≡ true → n < length roots → n < 65536 → (roots′ ≡ set roots n (id .0)) × (n′ ≡ n + 1))
       → Again script (rootStep script) kept (RootsAre script roots n s) (RootsAre script roots′ n′ s′) s s′
   unfolding _>>=_ pure
@@ -102,7 +109,7 @@ module _ {script roots roots′ : List ℕ} {n n′ : ℕ} {id : NodeId} {s s′
     progress = p .progress;
     flowValue = λ R L stack xs m q h.
         let cur : current (m .left) ≡ s .parser .cur = current-represents (h .related) in
-        subst (Turned script (rootStep script) kept (RootsAre script roots′ n′ s′) s′ R L stack) (sym (ifKind-is-no kEof _ _ m (rw cur (wanted-eof (s .parser) kEof w))))
+        subst (Turned script (rootStep script) kept (RootsAre script roots′ n′ s′) s′ R L stack) (sym (ifKind-is-no kEof _ _ m (rw cur (member-eof (s .parser) kEof w))))
         (go R L stack xs q (h .related .lent .small) (deeper script maxLevels .prefix m) (p .simulates R L stack m (represents-less _ _ (omega arith) (omega arith) h)));
   }
     where
@@ -116,12 +123,12 @@ module _ {script roots roots′ : List ℕ} {n n′ : ℕ} {id : NodeId} {s s′
 -- ---- the end
 
 -- a loop over roots that is left by a parser that goes on has come to Eof
-pub at-eof : {script nodes types lists stack : List ℕ} {r l : ℕ} {q : Parser} {m : State} → wanted q kEof ≡ false → Represents script (code nodes types lists q) r l stack m → eqb (current (m .left) .kind) kEof ≡ true
+pub at-eof : {script nodes types lists stack : List ℕ} {r l : ℕ} {q : Parser} {m : State} → memberFollows q kEof ≡ false → Represents script (code nodes types lists q) r l stack m → eqb (current (m .left) .kind) kEof ≡ true
 at-eof {q = q} w g =
     let cur : current _ ≡ q .cur = current-represents (g .related) in
     either (eqb (q .cur .kind) kEof)
     (λ z. rw cur z)
-    (λ z. absurd (true≢false (unwanted q kEof (represents-going g) w z) z))
+    (λ z. absurd (true≢false (no-member q kEof (represents-going g) w z) z))
 
 -- the arrays hold the tree once the docs that wait are dropped
 pub tree-held : {script nodes types types′ lists roots xs : List ℕ} {q : Parser} {r : RootsRead} {m : State}
@@ -151,6 +158,17 @@ tree-held {script} {nodes} {types′ = types′} {lists} {roots} {xs} {r = r} {m
       rootCount = sym (k .1);
     }
 
+-- a failed reading leaves records and cells in front, what waits at the far end, and zeros between
+left-behind : {script : List ℕ} {s : Code} {e : Diagnostic} {r l : ℕ} {stack : List ℕ} {m : State} → FailedAt script s e r l stack m → LeftBehind (s .nodes) (s .types) (s .lists) (s .parser .used)
+left-behind {s = s} {stack = stack} {m} h =
+    let ns = h .related .nodes in
+    let ts = h .related .types in
+    let ls = h .related .lists in (
+      record { before = flatten (map nodeCells (m .arena .nodes)); behind = []; between = length (s .nodes) - 16 * s .parser .used .nodes; laid = ns .laid; inFront = omega (arith, ns .counted, nodes-length (m .arena .nodes)); atEnd = refl },
+      record { before = flatten (map typeCells (m .arena .types)); behind = reverse (docCells (m .docs)); between = length (s .types) - (8 * s .parser .used .types + 3 * s .parser .used .docs); laid = ts .laid; inFront = omega (arith, ts .counted, types-length (m .arena .types)); atEnd = omega (arith, ts .docCounted, docs-length (m .docs), length-reverse (docCells (m .docs))) },
+      record { before = m .arena .cells; behind = reverse (stack ++ h .over); between = length (s .lists) - (s .parser .used .cells + s .parser .used .scratch); laid = ls .laid; inFront = sym (ls .counted); atEnd = omega (arith, ls .stacked, length-reverse (stack ++ h .over)) },
+    )
+
 -- ---- a strict reading of the roots
 
 blank-as : {a : List ℕ} (n : ℕ) → a ≡ zeros (length a) → n ≡ 0 → a ≡ zeros (length a - n) ++ []
@@ -162,7 +180,8 @@ module _ {script nodes types lists roots : List ℕ} (p : Parser) (h : Blank scr
   begun =
       let few : length (tokensFrom script 0) ≤ length script + 1 = omega (arith, tokens-le script 0 0) in
       let inRange = next-near script 0 refl (omega arith) in
-      subst (λ (q : Parser). Represents script (code nodes types lists q) 0 0 [] (begin script)) (sym e) (record {
+      let blank : Parser = record { cur = nextAt script 0 .token; pos = 0; used = record { nodes = 0; values = 0; types = 0; docs = 0; cells = 0; scratch = 0 }; status = Going } in
+      subst (λ (q : Parser). Represents script (code nodes types lists q) 0 0 [] (begin script)) (sym e) (moved-low blank (nextAt script 0) (record {
         status = refl;
         related = record {
           left = from-next script 0 refl;
@@ -174,14 +193,14 @@ module _ {script nodes types lists roots : List ℕ} (p : Parser) (h : Blank scr
           credit = record { records = omega arith; numbers = omega arith; room = omega arith };
           lent = h .lent;
         };
-      })
+      }))
 
   pub roots-start : LoopInvariant script (rootStep script) kept [] (RootsAre script roots 0 (code nodes types lists p)) (code nodes types lists p) (code nodes types lists p)
   roots-start = round-start-at (λ R L stack m k. (h .blankRoots ∙ ap zeros {x = length roots} {y = length roots - 0} (omega arith), refl, omega (arith, k .related .credit .records, ap length (k .related .left))))
 
   module _ {nodes′ types′ types″ lists′ roots′ : List ℕ} {q : Parser} {r : RootsRead} where
     pub roots-end : LoopInvariant script (rootStep script) kept [] (RootsAre script roots′ (r .members) (code nodes′ types′ lists′ q)) (code nodes types lists p) (code nodes′ types′ lists′ q)
-        → wanted q kEof ≡ false
+        → memberFollows q kEof ≡ false
         → Refines script 0 0 dropDocs (λ n. n ≡ 0) kept 0 0 0 (code nodes′ types′ lists′ q) (code nodes′ types″ lists′ (r .parser))
         → RootsEnd nodes′ types″ lists′ roots′ r (parseRoots stageOne script (begin script))
     unfolding parseRoots pure
@@ -192,4 +211,6 @@ module _ {script nodes types lists roots : List ℕ} (p : Parser) (h : Blank scr
 
         go : (res : Result (List ℕ)) → Ends script (RootsAre script roots′ (r .members) (code nodes′ types′ lists′ q)) kept (code nodes′ types′ lists′ q) 0 0 0 0 [] res → RootsEnd nodes′ types″ lists′ roots′ r res
         go (ok xs m) k = tree-held (k .1) (k .0) d
-        go (err e m) k = ap (λ (t : Code). t .parser .status) (d .sticky (failed-fails k)) ∙ k .status
+        go (err e m) k =
+            let same : code nodes′ types″ lists′ (r .parser) ≡ code nodes′ types′ lists′ q = d .sticky (failed-fails k) in
+            subst (λ (t : Code). (t .parser .status ≡ Failed e) × LeftBehind (t .nodes) (t .types) (t .lists) (t .parser .used)) (sym same) (k .status, left-behind k)

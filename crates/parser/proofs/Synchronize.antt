@@ -16,25 +16,25 @@ use Rattle.rules.specs.Combinators.{Rule, _>>_, pure, advance, choose, withDocs
 use Rattle.rules.specs.Parse.{synchronizeByKind, synchronizeStep, synchronizeRoot}
 use Rattle.rules.specs.Layout.{zeros}
 use Rattle.rules.proofs.Results as Results
-use Rattle.parser_base.specs.Represents.{Going, Code, code, isGoing, Represents, FailedAt}
+use Rattle.parser_base.specs.Represents.{Going, withUsed, withStatus, Code, code, isGoing, Represents, FailedAt}
 use Rattle.parser_base.specs.Refines.{Ends, kept, Refines}
 use Rattle.parser_base.specs.declared.Parser.{Parser}
 use Rattle.parser_base.specs.declared.Status.{Status}
 use Rattle.parser_base.specs.declared.Used.{Used}
 use Rattle.parser_base.proofs.Steps.{either, true≢false, at-kind, then, done, enough, represents-less}
-use Rattle.parser_base.proofs.Leaves.{idle}
+use Rattle.parser_base.proofs.Leaves.{idle, lent}
 use Rattle.parser_leaves.proofs.Tables.{past, past-all}
 use Rattle.parser.specs.Whole.{Resumes, rootBoundary, skips, synchronizing}
 use Rattle.parser.proofs.Clear.{end-cleared}
 
 -- ---- what was under construction is cleared
 
-abbrev pub resumed : Parser → Status → Parser
-resumed p s = record { cur = p .cur; pos = p .pos; used = record { nodes = p .used .nodes; values = p .used .values; types = p .used .types; docs = p .used .docs; cells = p .used .cells; scratch = 0 }; status = s }
+abbrev pub emptied : Used → Used
+emptied u = record { nodes = u .nodes; values = u .values; types = u .types; docs = u .docs; cells = u .cells; scratch = 0 }
 
-pub resuming : {script nodes types lists lists′ : List ℕ} {p : Parser} {e : Diagnostic} {R L : ℕ} {stack : List ℕ} {m : State} {s : Status} → s ≡ Going → lists′ ≡ take (length lists - p .used .scratch) lists ++ zeros (length lists - (length lists - p .used .scratch))
-    → FailedAt script (code nodes types lists p) e R L stack m → Represents script (code nodes types lists′ (resumed p s)) R L [] m
-resuming {lists = lists} {p = p} {stack = stack} {m} g w h =
+stack-cleared : {script nodes types lists lists′ : List ℕ} {p : Parser} {e : Diagnostic} {R L : ℕ} {stack : List ℕ} {m : State} → lists′ ≡ take (length lists - p .used .scratch) lists ++ zeros (length lists - (length lists - p .used .scratch))
+    → FailedAt script (code nodes types lists p) e R L stack m → Represents script (code nodes types lists′ (withStatus (withUsed p (emptied (p .used))) Going)) R L [] m
+stack-cleared {lists = lists} {p = p} {stack = stack} {m} w h =
     let u : Used = p .used in
     let r = h .related in
     let old = r .lists in
@@ -43,7 +43,7 @@ resuming {lists = lists} {p = p} {stack = stack} {m} g w h =
     let cells : length (m .arena .cells) ≡ u .cells + 0 = omega (arith, old .counted) in
     let new = end-cleared (m .arena .cells) back (length lists - (u .cells + u .scratch)) (u .scratch) (u .cells + 0) (old .laid) top cells w in
     record {
-      status = g;
+      status = refl;
       related = record {
         left = r .left;
         inRange = r .inRange;
@@ -55,6 +55,14 @@ resuming {lists = lists} {p = p} {stack = stack} {m} g w h =
         lent = record { small = r .lent .small; nodes = r .lent .nodes; types = r .lent .types; lists = omega (arith, new .same, r .lent .lists) };
       };
     }
+
+-- a failed parser whose stack is emptied, and whose status is set anew
+pub resuming : {script nodes types lists lists′ : List ℕ} {p q₁ q : Parser} {u : Used} {e : Diagnostic} {R L : ℕ} {stack : List ℕ} {m : State} → u ≡ p .used → q₁ ≡ withUsed p (emptied u) → q ≡ withStatus q₁ Going
+    → lists′ ≡ take (length lists - u .scratch) lists ++ zeros (length lists - (length lists - u .scratch)) → FailedAt script (code nodes types lists p) e R L stack m → Represents script (code nodes types lists′ q) R L [] m
+resuming {script} {nodes} {types} {lists} {lists′} {p} {R = R} {L} {m = m} f g k w h =
+    subst (λ (r : Parser). Represents script (code nodes types lists′ r) R L [] m) (sym k)
+    (lent p emptied (λ (u : Used) (r : Parser). lists′ ≡ take (length lists - u .scratch) lists ++ zeros (length lists - (length lists - u .scratch)) → Represents script (code nodes types lists′ (withStatus r Going)) R L [] m)
+    f g (λ w. stack-cleared w h) w)
 
 -- what is under construction lies in the array
 pub stack-fits : {script : List ℕ} {s : Code} {e : Diagnostic} {R L : ℕ} {stack : List ℕ} {m : State} → FailedAt script s e R L stack m → s .parser .used .scratch ≤ length (s .lists)
@@ -139,15 +147,15 @@ module _ (p : Parser) where
 -- a step of the rule, by where the code stands
 module _ {script : List ℕ} {s s′ : Code} where
   pub continues : skips (s .parser) ≡ true → Refines script 0 0 advance (λ t. t ≡ s .parser .cur) kept 1 1 8 s s′ → Refines script 0 0 (synchronizeStep 0) (λ t. t ≡ continue 0) kept 1 0 0 s s′
-  continues e p = at-kind (synchronizeByKind 0) (s .parser .cur .kind) refl (rw (by-tests 0 (s .parser .cur .kind), skips-both (s .parser) e .1) (enough (then p done) tt))
+  continues e p = at-kind (synchronizeByKind 0) (s .parser .cur .kind) (rw (by-tests 0 (s .parser .cur .kind), skips-both (s .parser) e .1) (enough (then p done) tt)) refl
 
-  pub breaks-past : s .parser .cur .kind ≡ kCurlyRight → Refines script 0 0 advance (λ t. t ≡ s .parser .cur) kept 1 1 8 s s′ → Refines script 0 0 (synchronizeStep 0) (λ t. t ≡ break 0) kept 0 0 0 s s′
+  pub breaks-past : Refines script 0 0 advance (λ t. t ≡ s .parser .cur) kept 1 1 8 s s′ → s .parser .cur .kind ≡ kCurlyRight → Refines script 0 0 (synchronizeStep 0) (λ t. t ≡ break 0) kept 0 0 0 s s′
   unfolding choose
-  breaks-past e p = at-kind (synchronizeByKind 0) kCurlyRight e (enough (then p done) tt)
+  breaks-past p e = at-kind (synchronizeByKind 0) kCurlyRight (enough (then p done) tt) e
 
 pub breaks-before : {script : List ℕ} (s : Code) → skips (s .parser) ≡ false → (s .parser .cur .kind ≡ kCurlyRight → ⊥) → Refines script 0 0 (synchronizeStep 0) (λ t. t ≡ break 0) kept 0 0 0 s s
 breaks-before s e f = either (isGoing (s .parser .status))
-    (λ g. at-kind (synchronizeByKind 0) (s .parser .cur .kind) refl (rw (by-tests 0 (s .parser .cur .kind), skips-not (s .parser) e g, ne-eqb (s .parser .cur .kind) kCurlyRight f) done))
+    (λ g. at-kind (synchronizeByKind 0) (s .parser .cur .kind) (rw (by-tests 0 (s .parser .cur .kind), skips-not (s .parser) e g, ne-eqb (s .parser .cur .kind) kCurlyRight f) done) refl)
     (λ g. idle g)
 
 -- ---- the two together

@@ -14,10 +14,20 @@ use Rattle.rules.specs.Layout.{padded, diagnosticCells}
 use Rattle.diagnostics.specs.Records.{diagnostics, holding}
 use Rattle.diagnostics.proofs.Order.{Ordered}
 use Rattle.parser_base.specs.Represents.{Failed, Code, code, ahead, Represents, FailedAt}
-use Rattle.parser_base.specs.Refines.{deeper, wanted}
-use Rattle.parser.specs.Whole.{Blank, RootsAre, Holds}
-use Rattle.parser.specs.declared.RootsRead.{RootsRead}
-use Rattle.parser.specs.declared.RootsCollected.{RootsCollected}
+use Rattle.parser_base.specs.Refines.{deeper, memberFollows}
+use Rattle.parser_base.specs.declared.Parser.{Parser}
+use Rattle.parser.specs.Whole.{Blank, RootsRead, RootsAre, Holds}
+use Rattle.parser.specs.declared.Gathering.{Gathering}
+
+-- the parser behind the roots, how many roots and diagnostics there are, and up to where the lexer's faults are among these
+pub record RootsCollected : Type 0 where
+  pub parser : Parser
+  pub members : ℕ
+  pub diagnostics : ℕ
+  pub listed : ℕ
+
+abbrev pub collected : Parser → Gathering → RootsCollected
+collected p c = record { parser = p; members = c .members; diagnostics = c .diagnostics; listed = c .listed }
 
 -- one more root, or one more error
 abbrev pub collectStep : List ℕ → Gathered → Rule (ControlFlow Gathered)

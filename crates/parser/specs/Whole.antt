@@ -4,7 +4,7 @@ use mathlib.Core.Bool.{Bool, true, false, not, _&&_}
 use mathlib.Core.List.{List, [], _∷_, _++_, map, flatten}
 use Prim.Native.Nat.{ℕ, _+_, _*_, _-_, _≤_}
 use lib.Dec.{eqb, ltb}
-use lib.ListN.{length}
+use lib.ListN.{length, take, drop}
 use Rattle.lex.specs.Bytes.{or}
 use Rattle.lex.specs.Kind.{kEof, kImport, kExtern, kLet, kFn, kMatch, kCurlyRight}
 use Rattle.lex.specs.declared.diagnostic.Diagnostic.{Diagnostic}
@@ -15,10 +15,10 @@ use Rattle.rules.specs.Rules.{maxLevels}
 use Rattle.rules.specs.Parse.{synchronizeStep}
 use Rattle.rules.specs.Layout.{nodeWidth, typeWidth, zeros, padded, nodeCells, typeCells}
 use Rattle.rules.specs.Promise.{maxBytes, Arrays}
-use Rattle.parser_base.specs.Represents.{Going, Failed, Code, ahead, isGoing, EnoughLent, Represents, FailedAt}
+use Rattle.parser_base.specs.Represents.{lowToken, Going, Failed, Code, ahead, isGoing, EnoughLent, Represents, FailedAt}
 use Rattle.parser_base.specs.Refines.{deeper}
 use Rattle.parser_base.specs.declared.Parser.{Parser}
-use Rattle.parser.specs.declared.RootsRead.{RootsRead}
+use Rattle.parser_base.specs.declared.Used.{Used}
 
 abbrev pub arrays : List ℕ → List ℕ → List ℕ → List ℕ → List ℕ → Arrays
 arrays nodes types lists roots diagnostics = record { nodes = nodes; types = types; lists = lists; roots = roots; diagnostics = diagnostics }
@@ -40,9 +40,27 @@ pub record Blank (script ns ts ls rs : List ℕ) : Type 0 where
   pub blankLists : ls ≡ zeros (length ls)
   pub blankRoots : rs ≡ zeros (length rs)
 
+-- cells that are cleared from one place to another
+abbrev pub cleared : List ℕ → ℕ → ℕ → List ℕ
+cleared a from to = take from a ++ (zeros (to - from) ++ drop to a)
+
+-- an array that is zero but for so many cells in front and so many at the far end
+pub record Left (array : List ℕ) (front back : ℕ) : Type 0 where
+  pub before : List ℕ
+  pub behind : List ℕ
+  pub between : ℕ
+  pub laid : array ≡ before ++ (zeros between ++ behind)
+  pub inFront : length before ≡ front
+  pub atEnd : length behind ≡ back
+
 -- a parser at the first token
 abbrev pub fresh : Next → Parser
-fresh x = record { cur = x .token; pos = x .next; used = record { nodes = 0; values = 0; types = 0; docs = 0; cells = 0; scratch = 0 }; status = Going }
+fresh x = record { cur = lowToken (x .token); pos = x .next; used = record { nodes = 0; values = 0; types = 0; docs = 0; cells = 0; scratch = 0 }; status = Going }
+
+-- the parser behind the roots, and how many there are
+pub record RootsRead : Type 0 where
+  pub parser : Parser
+  pub members : ℕ
 
 -- one more root
 abbrev pub rootStep : List ℕ → List ℕ → Rule (ControlFlow (List ℕ))
@@ -69,10 +87,14 @@ pub record Holds (nodes types lists roots : List ℕ) (r : RootsRead) (xs : List
   pub valueCount : r .parser .used .values ≡ m .arena .values
   pub rootCount : r .members ≡ length xs
 
+-- the arrays of a tree where a reading has failed
+abbrev pub LeftBehind : List ℕ → List ℕ → List ℕ → Used → Type 0
+LeftBehind nodes types lists u = Left nodes (16 * u .nodes) 0 × Left types (8 * u .types) (3 * u .docs) × Left lists (u .cells) (u .scratch)
+
 -- by how the rule ends
 abbrev pub RootsEnd : List ℕ → List ℕ → List ℕ → List ℕ → RootsRead → Result (List ℕ) → Type 0
 RootsEnd nodes types lists roots r (ok xs m) = Holds nodes types lists roots r xs m
-RootsEnd nodes types lists roots r (err e m) = r .parser .status ≡ Failed e
+RootsEnd nodes types lists roots r (err e m) = (r .parser .status ≡ Failed e) × LeftBehind nodes types lists (r .parser .used)
 
 -- ---- after an error
 

@@ -9,9 +9,13 @@ use lex::Type;
 use lex::next_token;
 use parser_base::Parser;
 use parser_base::Used;
+use parser_base::error;
+use parser_base::get_used;
 use parser_base::going;
-use parser_base::not_failed;
-use parser_base::wants;
+use parser_base::member_follows;
+use parser_base::position;
+use parser_base::set_next;
+use parser_base::set_used;
 use parser_items::prefix;
 use rules::Counts;
 use rules::NodeId;
@@ -29,23 +33,56 @@ ghost use Rattle.rules.specs.Layout.{zeros};
 ghost use Rattle.rules.specs.Rules.{stageOne};
 ghost use Rattle.rules.specs.Parse.{Gathered, begin, parseRoots, parse, recover as recoverRule, parseRootsCollect, parseCollect};
 ghost use Rattle.rules.specs.Promise.{promised};
-ghost use Rattle.parser_base.specs.Represents.{code, isGoing, Represents, FailedAt};
-ghost use Rattle.parser_base.specs.Refines.{Refines, kept, wanted};
-ghost use Rattle.parser.specs.Whole.{arrays, refusal, Blank, RootsEnd, dropDocs, fresh};
-ghost use Rattle.parser.specs.Collect.{Gathers, Room, TurnEnds, collectStep, CollectEnds};
+ghost use Rattle.parser_base.specs.Represents.{parserOf, code, isGoing, Represents, FailedAt};
+ghost use Rattle.parser_base.specs.Refines.{Refines, kept, memberFollows};
+ghost use Rattle.parser.specs.Whole.{arrays, refusal, cleared, Left, Blank, RootsEnd, dropDocs, fresh};
+ghost use Rattle.parser.specs.Collect.{collected, Gathers, Room, TurnEnds, collectStep, CollectEnds};
 
 // ---- arrays
+
+// The cells from one place to another are cleared.
+fn clear_range(a: &mut [u32], from: usize, to: usize)
+    requires { ⌜ (from ≤ to) × (to ≤ length (now a)) ⌝ }
+    ensures { λ r. ⌜ now (a .exit) ≡ cleared (now (a .entry)) from to ⌝ }
+{
+    let mut i = from;
+    while i < to {
+        a[i] = 0;
+        i += 1;
+    }
+}
 
 // From a place on an array is cleared.
 fn clear_from(a: &mut [u32], from: usize)
     requires { ⌜ from ≤ length (now a) ⌝ }
     ensures { λ r. ⌜ now (a .exit) ≡ take from (now (a .entry)) ++ zeros (length (now (a .entry)) - from) ⌝ }
 {
-    let mut i = from;
-    while i < a.len() {
-        a[i] = 0;
-        i += 1;
+    let to = a.len();
+    clear_range(a, from, to);
+}
+
+// An array that is zero but for so many cells in front and so many at the far end is cleared.
+fn clear_ends(a: &mut [u32], front: usize, back: usize)
+    ensures { λ r. ⌜ (Left (now (a .entry)) front back → now (a .exit) ≡ zeros (length (now (a .entry)))) ⌝ }
+{
+    if a.len() < front {
+        return;
     }
+    if a.len() < back {
+        return;
+    }
+    clear_range(a, 0, front);
+    clear_from(a, a.len() - back);
+}
+
+// What a failed reading has left in the four arrays is cleared.
+fn clear_left(nodes: &mut [u32], types: &mut [u32], lists: &mut [u32], roots: &mut [u32], u: Used)
+    ensures { λ r. ⌜ (Left (now (nodes .entry)) (16 * u .nodes) 0 → now (nodes .exit) ≡ zeros (length (now (nodes .entry)))) × (Left (now (types .entry)) (8 * u .types) (3 * u .docs) → now (types .exit) ≡ zeros (length (now (types .entry)))) × (Left (now (lists .entry)) (u .cells) (u .scratch) → now (lists .exit) ≡ zeros (length (now (lists .entry)))) × (now (roots .exit) ≡ zeros (length (now (roots .entry)))) ⌝ }
+{
+    clear_ends(nodes, 16 * u.nodes as usize, 0);
+    clear_ends(types, 8 * u.types as usize, 3 * u.docs as usize);
+    clear_ends(lists, u.cells as usize, u.scratch as usize);
+    clear_from(roots, 0);
 }
 
 // The four arrays of a tree are cleared.
@@ -92,15 +129,9 @@ fn refusal(
 
 // ---- roots
 
-// What is read of the roots, and how many.
-pub struct RootsRead {
-    pub parser: Parser,
-    pub members: u32,
-}
-
 // A root's number goes behind those that are there, where the reading has not failed.
-fn push_root(roots: &mut [u32], p: Parser, n: u32, id: NodeId) -> u32
-    ensures { λ r. ⌜ (isGoing (p .status) ≡ true → n < length (now (roots .entry)) → n < 65536 → (now (roots .exit) ≡ set (now (roots .entry)) n (id .0)) × (r ≡ n + 1)) ⌝ }
+fn push_root(roots: &mut [u32], p: &[u32; 17], n: u32, id: NodeId) -> u32
+    ensures { λ r. ⌜ (isGoing (parserOf (now (p .entry)) .status) ≡ true → n < length (now (roots .entry)) → n < 65536 → (now (roots .exit) ≡ set (now (roots .entry)) n (id .0)) × (r ≡ n + 1)) ⌝ }
 {
     if !going(p) {
         return n;
@@ -117,61 +148,41 @@ fn push_root(roots: &mut [u32], p: Parser, n: u32, id: NodeId) -> u32
 }
 
 // Docs that wait are dropped.
-fn drop_docs(types: &mut [u32], p: Parser) -> Parser
-    ensures { λ r. ⌜ ((script nodes lists : List ℕ) → Refines script 0 0 dropDocs (λ n. n ≡ 0) kept 0 0 0 (code nodes (now (types .entry)) lists p) (code nodes (now (types .exit)) lists r)) × (r .cur ≡ p .cur) × (r .pos ≡ p .pos) ⌝ }
+fn drop_docs(types: &mut [u32], p: &mut [u32; 17])
+    ensures { λ r. ⌜ ((script nodes lists : List ℕ) → Refines script 0 0 dropDocs (λ n. n ≡ 0) kept 0 0 0 (code nodes (now (types .entry)) lists (parserOf (now (p .entry)))) (code nodes (now (types .exit)) lists (parserOf (now (p .exit))))) × (parserOf (now (p .exit)) .cur ≡ parserOf (now (p .entry)) .cur) × (parserOf (now (p .exit)) .pos ≡ parserOf (now (p .entry)) .pos) ⌝ }
 {
     if !going(p) {
-        return p;
+        return;
     }
-    let u = p.used;
+    let u = get_used(p);
     let docs = u.docs;
     if 65536 < docs {
-        return p;
+        return;
     }
     let n = 3 * docs as usize;
     if types.len() < n {
-        return p;
+        return;
     }
+    set_used(
+        p,
+        Used {
+            nodes: u.nodes,
+            values: u.values,
+            types: u.types,
+            docs: 0,
+            cells: u.cells,
+            scratch: u.scratch,
+        },
+    );
     clear_from(types, types.len() - n);
-    let used = Used {
-        nodes: u.nodes,
-        values: u.values,
-        types: u.types,
-        docs: 0,
-        cells: u.cells,
-        scratch: u.scratch,
-    };
-    let cur = p.cur;
-    let status = p.status;
-    Parser {
-        cur,
-        pos: p.pos,
-        used,
-        status,
-    }
 }
 
 // A parser at the script's first token.
-fn first(script: &[u8]) -> Parser
-    ensures { λ r. ⌜ r ≡ fresh (nextAt (now (script .entry)) 0) ⌝ }
+fn first(script: &[u8], p: &mut [u32; 17])
+    ensures { λ r. ⌜ parserOf (now (p .exit)) ≡ fresh (nextAt (now (script .entry)) 0) ⌝ }
 {
-    let next = next_token(script, 0);
-    let cur = next.token;
-    let used = Used {
-        nodes: 0,
-        values: 0,
-        types: 0,
-        docs: 0,
-        cells: 0,
-        scratch: 0,
-    };
-    let status = not_failed();
-    Parser {
-        cur,
-        pos: next.next,
-        used,
-        status,
-    }
+    *p = [0; 17];
+    set_next(p, next_token(script, 0));
 }
 
 fn parse_roots(
@@ -180,26 +191,25 @@ fn parse_roots(
     types: &mut [u32],
     lists: &mut [u32],
     roots: &mut [u32],
-) -> RootsRead
+    p: &mut [u32; 17],
+) -> u32
     requires { ⌜ Blank (now script) (now nodes) (now types) (now lists) (now roots) ⌝ }
-    ensures { λ r. ⌜ RootsEnd (now (nodes .exit)) (now (types .exit)) (now (lists .exit)) (now (roots .exit)) r (parseRoots stageOne (now (script .entry)) (begin (now (script .entry)))) ⌝ }
+    ensures { λ r. ⌜ RootsEnd (now (nodes .exit)) (now (types .exit)) (now (lists .exit)) (now (roots .exit)) (record { parser = parserOf (now (p .exit)); members = r }) (parseRoots stageOne (now (script .entry)) (begin (now (script .entry)))) ⌝ }
 {
-    let mut q = first(script);
+    first(script, p);
     let mut members: u32 = 0;
-    while wants(q, Type::EOF) {
-        let n = prefix(script, nodes, types, lists, q, Parser::MAX_LEVELS);
-        q = n.parser;
-        members = push_root(roots, q, members, n.id);
+    while member_follows(p, Type::EOF) {
+        let n = prefix(script, nodes, types, lists, p, Parser::MAX_LEVELS);
+        members = push_root(roots, p, members, n);
     }
-    let parser = drop_docs(types, q);
-    RootsRead { parser, members }
+    drop_docs(types, p);
+    members
 }
 
 // ---- roots and errors
 
-// What is read of the roots, how many, how many diagnostics there are, and up to where the lexer's faults are among them.
-pub struct RootsCollected {
-    pub parser: Parser,
+// How many roots and diagnostics there are, and up to where the lexer's faults are among these.
+pub struct Gathering {
     pub members: u32,
     pub diagnostics: u32,
     pub listed: usize,
@@ -211,27 +221,27 @@ fn recover(
     types: &mut [u32],
     lists: &mut [u32],
     diagnostics: &mut [u32],
-    c: RootsCollected,
-) -> RootsCollected
-    ensures { λ r. ⌜ ((nodes roots : List ℕ) (g : Gathered) (e : Diagnostic) (m : State) → Room (now (script .entry)) roots (now (diagnostics .entry)) g → FailedAt (now (script .entry)) (code nodes (now (types .entry)) (now (lists .entry)) (c .parser)) e 0 0 [] m → Gathers (now (script .entry)) nodes (now (types .entry)) (now (lists .entry)) roots (now (diagnostics .entry)) c g → TurnEnds (now (script .entry)) nodes (now (types .exit)) (now (lists .exit)) roots (now (diagnostics .exit)) r (recoverRule stageOne (now (script .entry)) g e m)) ⌝ }
+    p: &mut [u32; 17],
+    c: Gathering,
+) -> Gathering
+    ensures { λ r. ⌜ ((nodes roots : List ℕ) (g : Gathered) (e : Diagnostic) (m : State) → Room (now (script .entry)) roots (now (diagnostics .entry)) g → FailedAt (now (script .entry)) (code nodes (now (types .entry)) (now (lists .entry)) (parserOf (now (p .entry)))) e 0 0 [] m → Gathers (now (script .entry)) nodes (now (types .entry)) (now (lists .entry)) roots (now (diagnostics .entry)) (collected (parserOf (now (p .entry))) c) g → TurnEnds (now (script .entry)) nodes (now (types .exit)) (now (lists .exit)) roots (now (diagnostics .exit)) (collected (parserOf (now (p .exit))) r) (recoverRule stageOne (now (script .entry)) g e m)) ⌝ }
 {
-    let p = c.parser;
     if going(p) {
         return c;
     }
-    let d = p.status.error;
+    let d = error(p);
     if d.number == 10 {
         return c;
     }
-    let faults = push_faults(script, diagnostics, c.diagnostics, c.listed, p.pos);
+    let listed = position(p);
+    let faults = push_faults(script, diagnostics, c.diagnostics, c.listed, listed);
     let n = push_diagnostic(diagnostics, faults, d);
-    let q = resume(types, lists, p);
-    let parser = synchronize_root(script, q);
-    RootsCollected {
-        parser,
+    resume(types, lists, p);
+    synchronize_root(script, p);
+    Gathering {
         members: c.members,
         diagnostics: n,
-        listed: p.pos,
+        listed,
     }
 }
 
@@ -243,35 +253,22 @@ fn collect_root(
     lists: &mut [u32],
     roots: &mut [u32],
     diagnostics: &mut [u32],
-    c: RootsCollected,
-) -> RootsCollected
-    requires { ⌜ wanted (c .parser) kEof ≡ true ⌝ }
-    ensures { λ r. ⌜ ((g : Gathered) (m : State) → Room (now (script .entry)) (now (roots .entry)) (now (diagnostics .entry)) g → Represents (now (script .entry)) (code (now (nodes .entry)) (now (types .entry)) (now (lists .entry)) (c .parser)) 0 0 [] m → Gathers (now (script .entry)) (now (nodes .entry)) (now (types .entry)) (now (lists .entry)) (now (roots .entry)) (now (diagnostics .entry)) c g → TurnEnds (now (script .entry)) (now (nodes .exit)) (now (types .exit)) (now (lists .exit)) (now (roots .exit)) (now (diagnostics .exit)) r (collectStep (now (script .entry)) g m)) ⌝ }
+    p: &mut [u32; 17],
+    c: Gathering,
+) -> Gathering
+    requires { ⌜ memberFollows (parserOf (now p)) kEof ≡ true ⌝ }
+    ensures { λ r. ⌜ ((g : Gathered) (m : State) → Room (now (script .entry)) (now (roots .entry)) (now (diagnostics .entry)) g → Represents (now (script .entry)) (code (now (nodes .entry)) (now (types .entry)) (now (lists .entry)) (parserOf (now (p .entry)))) 0 0 [] m → Gathers (now (script .entry)) (now (nodes .entry)) (now (types .entry)) (now (lists .entry)) (now (roots .entry)) (now (diagnostics .entry)) (collected (parserOf (now (p .entry))) c) g → TurnEnds (now (script .entry)) (now (nodes .exit)) (now (types .exit)) (now (lists .exit)) (now (roots .exit)) (now (diagnostics .exit)) (collected (parserOf (now (p .exit))) r) (collectStep (now (script .entry)) g m)) ⌝ }
 {
-    let p = c.parser;
     let n = prefix(script, nodes, types, lists, p, Parser::MAX_LEVELS);
-    let parser = n.parser;
-    if going(parser) {
-        let members = push_root(roots, parser, c.members, n.id);
-        return RootsCollected {
-            parser,
+    if going(p) {
+        let members = push_root(roots, p, c.members, n);
+        return Gathering {
             members,
             diagnostics: c.diagnostics,
             listed: c.listed,
         };
     }
-    recover(
-        script,
-        types,
-        lists,
-        diagnostics,
-        RootsCollected {
-            parser,
-            members: c.members,
-            diagnostics: c.diagnostics,
-            listed: c.listed,
-        },
-    )
+    recover(script, types, lists, diagnostics, p, c)
 }
 
 fn parse_roots_collect(
@@ -281,31 +278,30 @@ fn parse_roots_collect(
     lists: &mut [u32],
     roots: &mut [u32],
     diagnostics: &mut [u32],
-) -> RootsCollected
+    p: &mut [u32; 17],
+) -> Gathering
     requires { ⌜ Blank (now script) (now nodes) (now types) (now lists) (now roots) × (now diagnostics ≡ zeros (length (now diagnostics))) × (5 * length (now script) ≤ length (now diagnostics)) ⌝ }
-    ensures { λ r. ⌜ CollectEnds (now (script .entry)) (now (nodes .exit)) (now (types .exit)) (now (lists .exit)) (now (roots .exit)) (now (diagnostics .exit)) r (parseRootsCollect stageOne (now (script .entry)) (begin (now (script .entry)))) ⌝ }
+    ensures { λ r. ⌜ CollectEnds (now (script .entry)) (now (nodes .exit)) (now (types .exit)) (now (lists .exit)) (now (roots .exit)) (now (diagnostics .exit)) (collected (parserOf (now (p .exit))) r) (parseRootsCollect stageOne (now (script .entry)) (begin (now (script .entry)))) ⌝ }
 {
-    let parser = first(script);
-    let mut c = RootsCollected {
-        parser,
+    first(script, p);
+    let mut c = Gathering {
         members: 0,
         diagnostics: 0,
         listed: 0,
     };
-    while wants(c.parser, Type::EOF) {
-        c = collect_root(script, nodes, types, lists, roots, diagnostics, c);
+    while member_follows(p, Type::EOF) {
+        c = collect_root(script, nodes, types, lists, roots, diagnostics, p, c);
     }
-    let q = c.parser;
-    if !going(q) {
+    if !going(p) {
         return c;
     }
-    let n = push_faults(script, diagnostics, c.diagnostics, c.listed, q.pos);
-    let parser = drop_docs(types, q);
-    RootsCollected {
-        parser,
+    let listed = position(p);
+    let n = push_faults(script, diagnostics, c.diagnostics, c.listed, listed);
+    drop_docs(types, p);
+    Gathering {
         members: c.members,
         diagnostics: n,
-        listed: q.pos,
+        listed,
     }
 }
 
@@ -335,11 +331,10 @@ pub fn parse(
     }
     clear_tree(nodes, types, lists, roots);
     clear_from(diagnostics, 0);
-    let r = parse_roots(script, nodes, types, lists, roots);
-    let members = r.members;
-    let p = r.parser;
-    let u = p.used;
-    if going(p) {
+    let mut p = [0; 17];
+    let members = parse_roots(script, nodes, types, lists, roots, &mut p);
+    if going(&p) {
+        let u = get_used(&p);
         return Parsed::Tree(Counts {
             nodes: u.nodes,
             types: u.types,
@@ -349,9 +344,8 @@ pub fn parse(
             diagnostics: 0,
         });
     }
-    clear_tree(nodes, types, lists, roots);
-    let d = p.status.error;
-    Parsed::Error(d)
+    clear_left(nodes, types, lists, roots, get_used(&p));
+    Parsed::Error(error(&p))
 }
 
 // The same, each error gathered with the faults of the lexer in the order in which they are met; 10 ends it.
@@ -378,10 +372,10 @@ pub fn parse_collect(
     }
     clear_tree(nodes, types, lists, roots);
     clear_from(diagnostics, 0);
-    let c = parse_roots_collect(script, nodes, types, lists, roots, diagnostics);
-    let p = c.parser;
-    let u = p.used;
-    if going(p) {
+    let mut p = [0; 17];
+    let c = parse_roots_collect(script, nodes, types, lists, roots, diagnostics, &mut p);
+    if going(&p) {
+        let u = get_used(&p);
         return Parsed::Tree(Counts {
             nodes: u.nodes,
             types: u.types,
@@ -393,6 +387,5 @@ pub fn parse_collect(
     }
     clear_tree(nodes, types, lists, roots);
     clear_from(diagnostics, 0); // what was gathered before 10 goes too
-    let d = p.status.error;
-    Parsed::Error(d)
+    Parsed::Error(error(&p))
 }

@@ -1,48 +1,55 @@
 // How collecting mode goes on after an error.
 use crate::clear_from;
 use crate::drop_docs;
+use lex::Diagnostic;
 use lex::Type;
-use parser_base::Parser;
 use parser_base::Used;
 use parser_base::advance;
+use parser_base::get_used;
 use parser_base::going;
-use parser_base::not_failed;
+use parser_base::kind;
+use parser_base::set_status;
+use parser_base::set_used;
 ghost use mathlib.Core.Path.{_≡_};
 ghost use mathlib.Core.List.{List};
 ghost use Prim.Native.Nat.{ℕ};
-ghost use Rattle.parser_base.specs.Represents.{code};
+ghost use Rattle.parser_base.specs.Represents.{parserOf, code};
 ghost use Rattle.parser_base.specs.Refines.{Refines, kept};
 ghost use Rattle.parser.specs.Whole.{Resumes, rootBoundary, skips, synchronizing};
 
 // What was under construction when a reading failed is cleared, its docs are dropped, and the reading goes on.
-pub(crate) fn resume(types: &mut [u32], lists: &mut [u32], p: Parser) -> Parser
-    ensures { λ r. ⌜ ((script nodes : List ℕ) → Resumes script (code nodes (now (types .entry)) (now (lists .entry)) p) (code nodes (now (types .exit)) (now (lists .exit)) r)) ⌝ }
+pub(crate) fn resume(types: &mut [u32], lists: &mut [u32], p: &mut [u32; 17])
+    ensures { λ r. ⌜ ((script nodes : List ℕ) → Resumes script (code nodes (now (types .entry)) (now (lists .entry)) (parserOf (now (p .entry)))) (code nodes (now (types .exit)) (now (lists .exit)) (parserOf (now (p .exit))))) ⌝ }
 {
-    let u = p.used;
+    let u = get_used(p);
     let scratch = u.scratch as usize;
     if lists.len() < scratch {
-        return p;
+        return;
     }
     clear_from(lists, lists.len() - scratch);
-    let used = Used {
-        nodes: u.nodes,
-        values: u.values,
-        types: u.types,
-        docs: u.docs,
-        cells: u.cells,
-        scratch: 0,
-    };
-    let cur = p.cur;
-    let status = not_failed();
-    drop_docs(
-        types,
-        Parser {
-            cur,
-            pos: p.pos,
-            used,
-            status,
+    set_used(
+        p,
+        Used {
+            nodes: u.nodes,
+            values: u.values,
+            types: u.types,
+            docs: u.docs,
+            cells: u.cells,
+            scratch: 0,
         },
-    )
+    );
+    set_status(
+        p,
+        0,
+        Diagnostic {
+            number: 0,
+            start: 0,
+            len: 0,
+            wanted: 0,
+            seen: 0,
+        },
+    );
+    drop_docs(types, p);
 }
 
 // A token that may begin a root, or ends a block or the script.
@@ -61,26 +68,23 @@ fn is_root_boundary(kind: u32) -> bool
     }
 }
 
-fn skips(p: Parser) -> bool
-    ensures { λ r. ⌜ r ≡ skips p ⌝ }
+fn skips(p: &[u32; 17]) -> bool
+    ensures { λ r. ⌜ r ≡ skips (parserOf (now (p .entry))) ⌝ }
 {
     if !going(p) {
         return false;
     }
-    !is_root_boundary(p.cur.kind)
+    !is_root_boundary(kind(p))
 }
 
 // To the next token that may begin a root, past it where it is `}`.
-pub(crate) fn synchronize_root(script: &[u8], p: Parser) -> Parser
-    ensures { λ r. ⌜ ((nodes types lists : List ℕ) → Refines (now (script .entry)) 0 0 synchronizing (λ n. n ≡ 0) kept 0 0 0 (code nodes types lists p) (code nodes types lists r)) ⌝ }
+pub(crate) fn synchronize_root(script: &[u8], p: &mut [u32; 17])
+    ensures { λ r. ⌜ ((nodes types lists : List ℕ) → Refines (now (script .entry)) 0 0 synchronizing (λ n. n ≡ 0) kept 0 0 0 (code nodes types lists (parserOf (now (p .entry)))) (code nodes types lists (parserOf (now (p .exit))))) ⌝ }
 {
-    let mut q = p;
-    while skips(q) {
-        q = advance(script, q);
+    while skips(p) {
+        advance(script, p);
     }
-    if q.cur.kind == Type::CURLY_RIGHT {
-        advance(script, q)
-    } else {
-        q
+    if kind(p) == Type::CURLY_RIGHT {
+        advance(script, p);
     }
 }

@@ -16,11 +16,11 @@ use Rattle.rules.specs.declared.Node.the-variants as N
 use Rattle.rules.specs.declared.TypeExpr.{TypeExpr}
 use Rattle.rules.specs.declared.TypeExpr.the-variants as TE
 use Rattle.rules.specs.Layout.{zeros, nodeCells, typeCells}
-use Rattle.parser_base.specs.Represents.{code, isGoing, docCells, ListsLaid}
+use Rattle.parser_base.specs.Represents.{code, withUsed, isGoing, docCells, ListsLaid}
 use Rattle.parser_base.specs.Refines.{kept, Refines, Pushes, Lists, hasRoom}
 use Rattle.parser_base.specs.declared.Parser.{Parser}
 use Rattle.parser_base.specs.declared.Used.{Used}
-use Rattle.parser_base.proofs.Leaves.{idle, full}
+use Rattle.parser_base.proofs.Leaves.{idle, full, lent}
 use Rattle.parser_base.proofs.Steps.{either, true≢false, left-some}
 
 -- ---- lists
@@ -53,18 +53,25 @@ laid-over xs vs back z n e h =
     (drop-append-add xs (zeros z ++ back) (length vs) ∙ ap (drop (length vs)) split ∙ drop-at (zeros (length vs)) _ (length vs) (zeros-length (length vs))) in
     rw (a, b, c)
 
--- one more record of `w` cells, `cells` being those of each
-module _ {A : Type 0} (cells : A → List ℕ) (xs : List A) (x : A) (array array′ back vs : List ℕ) (n z : ℕ) where
+-- and the zeros that belong to them stay
+laid-padded : (xs vs back : List ℕ) (z n k : ℕ) → length xs ≡ n → length vs + k ≤ z → paste (xs ++ (zeros z ++ back)) n vs (length vs) ≡ (xs ++ (vs ++ zeros k)) ++ (zeros (z - (length vs + k)) ++ back)
+laid-padded xs vs back z n k e h =
+    let less : z - length vs - k ≡ z - (length vs + k) = omega arith in
+    laid-over xs vs back z n e (omega arith) ∙ rw (zeros-split (z - length vs) k (omega arith), less) (simp append-assoc)
+
+-- one more record of `w` cells, `cells` being those of each: the first of them are written, and `k` zeros behind them are there
+module _ {A : Type 0} (cells : A → List ℕ) (xs : List A) (x : A) (array array′ back vs : List ℕ) (n z k : ℕ) where
   pub record Grown (w : ℕ) : Type 0 where
     pub same : length array′ ≡ length array
     pub new : array′ ≡ flatten (map cells (xs ++ (x ∷ []))) ++ (zeros (z - w) ++ back)
 
-  pub growing : array ≡ flatten (map cells xs) ++ (zeros z ++ back) → length (flatten (map cells xs)) ≡ n → length (cells x) ≤ z → vs ≡ cells x → array′ ≡ paste array n vs (length vs) → Grown (length (cells x))
-  growing a f k v e =
+  pub growing : array ≡ flatten (map cells xs) ++ (zeros z ++ back) → length (flatten (map cells xs)) ≡ n → length (cells x) ≤ z → vs ++ zeros k ≡ cells x → array′ ≡ paste array n vs (length vs) → Grown (length (cells x))
+  growing a f fits v e =
       let front : List ℕ = flatten (map cells xs) in
+      let wide : length vs + k ≡ length (cells x) = omega (arith, length-append vs (zeros k), zeros-length k, ap length v) in
       let more : flatten (map cells (xs ++ (x ∷ []))) ≡ front ++ cells x = ap flatten (map-snoc cells xs x) ∙ flatten-snoc (map cells xs) (cells x) in
       let new : array′ ≡ (front ++ cells x) ++ (zeros (z - length (cells x)) ++ back) =
-      e ∙ ap (λ (l : List ℕ). paste array n l (length l)) v ∙ ap (λ (l : List ℕ). paste l n (cells x) (length (cells x))) a ∙ laid-over front (cells x) back z n f k in
+      e ∙ ap (λ (l : List ℕ). paste l n vs (length vs)) a ∙ laid-padded front vs back z n k f (omega arith) ∙ rw (v, wide) refl in
       record {
         same = omega (
           arith,
@@ -98,16 +105,13 @@ unfolding flatten
 types-length [] = refl
 types-length (t ∷ ts) = omega (arith, length-append (typeCells t) (flatten (map typeCells ts)), cells-length t, types-length ts)
 
-abbrev pub withUsed : Parser → Used → Parser
-withUsed p u = record { cur = p .cur; pos = p .pos; used = u; status = p .status }
-
 abbrev pub typeMade : Used → Used
 typeMade u = record { nodes = u .nodes; values = u .values; types = u .types + 1; docs = u .docs; cells = u .cells; scratch = u .scratch }
 
-pub making : (script nodes types types′ lists cells : List ℕ) (p : Parser) (t : TypeExpr) → isGoing (p .status) ≡ true → cells ≡ typeCells t → types′ ≡ paste types (8 * p .used .types) cells (length cells)
+type-made : (script nodes types types′ lists cells : List ℕ) (p : Parser) (t : TypeExpr) → isGoing (p .status) ≡ true → cells ≡ typeCells t → types′ ≡ paste types (8 * p .used .types) cells (length cells)
     → Refines script 1 0 (pushType t) (λ i. i ≡ record { 0 = p .used .types }) kept 0 0 0 (code nodes types lists p) (code nodes types′ lists (withUsed p (typeMade (p .used))))
 unfolding pushType withArena
-making script nodes types types′ lists cells p t g w e = record {
+type-made script nodes types types′ lists cells p t g w e = record {
   sticky = λ f. absurd (true≢false g f);
   monotone = omega arith;
   progress = λ _. omega arith;
@@ -120,7 +124,7 @@ making script nodes types types′ lists cells p t g w e = record {
       let eight : length (typeCells t) ≡ 8 = cells-length t in
       let n : length (flatten (map typeCells (m .arena .types))) ≡ 8 * u .types = omega (arith, types-length (m .arena .types), laid .counted) in
       let room : length (typeCells t) ≤ z = omega (arith, credit .records, h .related .lent .types) in
-      let more = growing typeCells (m .arena .types) t types types′ (reverse (docCells (m .docs))) cells (8 * u .types) z (laid .laid) n room w e in
+      let more = growing typeCells (m .arena .types) t types types′ (reverse (docCells (m .docs))) cells (8 * u .types) z 0 (laid .laid) n room (append-nil cells ∙ w) e in
       let k : z - length (typeCells t) ≡ length types′ - (8 * (u .types + 1) + 3 * u .docs) = omega (arith, more .same) in (
         (λ i. record { 0 = sym (laid .counted) i }),
         record {
@@ -143,6 +147,12 @@ making script nodes types types′ lists cells p t g w e = record {
         },
       );
 }
+
+pub making : (script nodes types types′ lists cells : List ℕ) {p q : Parser} {u : Used} (t : TypeExpr) → isGoing (p .status) ≡ true → cells ≡ typeCells t → u ≡ p .used → q ≡ withUsed p (typeMade u) → types′ ≡ paste types (8 * u .types) cells (length cells)
+    → Refines script 1 0 (pushType t) (λ i. i ≡ record { 0 = u .types }) kept 0 0 0 (code nodes types lists p) (code nodes types′ lists q)
+making script nodes types types′ lists cells {p} t g w e f = lent p typeMade
+    (λ (u : Used) (q : Parser). types′ ≡ paste types (8 * u .types) cells (length cells) → Refines script 1 0 (pushType t) (λ i. i ≡ record { 0 = u .types }) kept 0 0 0 (code nodes types lists p) (code nodes types′ lists q))
+    e f (type-made script nodes types types′ lists cells p t g w)
 
 -- ---- nodes
 
@@ -171,10 +181,10 @@ nodes-length (n ∷ ns) = omega (arith, length-append (nodeCells n) (flatten (ma
 abbrev pub nodeMade : Used → ℕ → Used
 nodeMade u more = record { nodes = u .nodes + 1; values = u .values + (1 + more); types = u .types; docs = u .docs; cells = u .cells; scratch = u .scratch }
 
-pub node-making : (script nodes nodes′ types lists cells : List ℕ) (p : Parser) (f : ℕ → Node) (more rooms : ℕ) → 1 + more ≤ 40000 * rooms → isGoing (p .status) ≡ true → cells ≡ nodeCells (f (p .used .values)) → nodes′ ≡ paste nodes (16 * p .used .nodes) cells (length cells)
+node-made : (script nodes nodes′ types lists cells : List ℕ) (p : Parser) (f : ℕ → Node) (more rooms k₀ : ℕ) → 1 + more ≤ 40000 * rooms → isGoing (p .status) ≡ true → cells ++ zeros k₀ ≡ nodeCells (f (p .used .values)) → nodes′ ≡ paste nodes (16 * p .used .nodes) cells (length cells)
     → Refines script rooms 0 (pushNodeAnd more f) (λ i. i ≡ record { 0 = p .used .nodes }) kept 0 0 0 (code nodes types lists p) (code nodes′ types lists (withUsed p (nodeMade (p .used) more)))
 unfolding pushNodeAnd withArena
-node-making script nodes nodes′ types lists cells p f more rooms few g w e = record {
+node-made script nodes nodes′ types lists cells p f more rooms k₀ few g w e = record {
   sticky = λ f. absurd (true≢false g f);
   monotone = omega arith;
   progress = λ _. omega arith;
@@ -189,7 +199,7 @@ node-making script nodes nodes′ types lists cells p f more rooms few g w e = r
       let wide : length (nodeCells x) ≡ 16 = node-length x in
       let n : length (flatten (map nodeCells (m .arena .nodes))) ≡ 16 * u .nodes = omega (arith, nodes-length (m .arena .nodes), laid .counted) in
       let room : length (nodeCells x) ≤ z = omega (arith, credit .records, h .related .lent .nodes) in
-      let more′ = growing nodeCells (m .arena .nodes) x nodes nodes′ [] cells (16 * u .nodes) z (laid .laid) n room (w ∙ ap (λ (k : ℕ). nodeCells (f k)) v) e in
+      let more′ = growing nodeCells (m .arena .nodes) x nodes nodes′ [] cells (16 * u .nodes) z k₀ (laid .laid) n room (w ∙ ap (λ (k : ℕ). nodeCells (f k)) v) e in
       let k : z - length (nodeCells x) ≡ length nodes′ - 16 * (u .nodes + 1) = omega (arith, more′ .same) in (
         (λ i. record { 0 = sym (laid .counted) i }),
         record {
@@ -211,6 +221,14 @@ node-making script nodes nodes′ types lists cells p f more rooms few g w e = r
         },
       );
 }
+
+-- the first cells of the record are written, and `k` zeros behind them are there
+pub node-making : (script nodes nodes′ types lists cells : List ℕ) {p q : Parser} {u : Used} (f : ℕ → Node) (more rooms k : ℕ) → 1 + more ≤ 40000 * rooms → isGoing (p .status) ≡ true → cells ++ zeros k ≡ nodeCells (f (p .used .values)) → u ≡ p .used
+    → q ≡ withUsed p (nodeMade u more) → nodes′ ≡ paste nodes (16 * u .nodes) cells (length cells)
+    → Refines script rooms 0 (pushNodeAnd more f) (λ i. i ≡ record { 0 = u .nodes }) kept 0 0 0 (code nodes types lists p) (code nodes′ types lists q)
+node-making script nodes nodes′ types lists cells {p} f more rooms k few g w e h = lent p (λ (u : Used). nodeMade u more)
+    (λ (u : Used) (q : Parser). nodes′ ≡ paste nodes (16 * u .nodes) cells (length cells) → Refines script rooms 0 (pushNodeAnd more f) (λ i. i ≡ record { 0 = u .nodes }) kept 0 0 0 (code nodes types lists p) (code nodes′ types lists q))
+    e h (node-made script nodes nodes′ types lists cells p f more rooms k few g w)
 
 -- ---- room for a node
 
@@ -263,10 +281,10 @@ lists-length : {lists : List ℕ} {c k : ℕ} {cells stack : List ℕ} → Lists
 lists-length {lists} {c} {k} {cells} {stack} h =
     omega (arith, h .counted, h .stacked, ap length (h .laid) ∙ length-append cells _, length-append (zeros (length lists - (c + k))) (reverse stack), length-reverse stack)
 
-pub pushing : (script nodes types lists lists′ : List ℕ) (p : Parser) (v : ℕ) → isGoing (p .status) ≡ true → lists′ ≡ set lists (length lists - 1 - p .used .scratch) v
+cell-pushed : (script nodes types lists lists′ : List ℕ) (p : Parser) (v : ℕ) → isGoing (p .status) ≡ true → lists′ ≡ set lists (length lists - 1 - p .used .scratch) v
     → Pushes script 2 (v ∷ []) (code nodes types lists p) (code nodes types lists′ (withUsed p (pushed (p .used))))
 unfolding pure
-pushing script nodes types lists lists′ p v g e = record {
+cell-pushed script nodes types lists lists′ p v g e = record {
   sticky = λ f. absurd (true≢false g f);
   monotone = omega arith;
   progress = λ _. omega arith;
@@ -303,17 +321,23 @@ pushing script nodes types lists lists′ p v g e = record {
       );
 }
 
+pub pushing : (script nodes types lists lists′ : List ℕ) {p q : Parser} {u : Used} (v : ℕ) → isGoing (p .status) ≡ true → u ≡ p .used → q ≡ withUsed p (pushed u) → lists′ ≡ set lists (length lists - 1 - u .scratch) v
+    → Pushes script 2 (v ∷ []) (code nodes types lists p) (code nodes types lists′ q)
+pushing script nodes types lists lists′ {p} v g e f = lent p pushed
+    (λ (u : Used) (q : Parser). lists′ ≡ set lists (length lists - 1 - u .scratch) v → Pushes script 2 (v ∷ []) (code nodes types lists p) (code nodes types lists′ q))
+    e f (cell-pushed script nodes types lists lists′ p v g)
+
 -- ---- a finished list
 
 abbrev pub finished : Used → ℕ → Used
 finished u mark = record { nodes = u .nodes; values = u .values; types = u .types; docs = u .docs; cells = u .cells + (u .scratch - mark); scratch = mark }
 
-pub finishing : (script nodes types lists lists′ : List ℕ) (p : Parser) (mark members : ℕ) → isGoing (p .status) ≡ true
+list-made : (script nodes types lists lists′ : List ℕ) (p : Parser) (mark members : ℕ) → isGoing (p .status) ≡ true
     → ((top base : List ℕ) (z : ℕ) → drop (p .used .cells) lists ≡ zeros z ++ (reverse top ++ base) → length top ≡ p .used .scratch - mark → length base + (p .used .scratch - mark) ≡ p .used .scratch → p .used .scratch - mark ≤ z
     → lists′ ≡ take (p .used .cells) lists ++ (top ++ (zeros z ++ base)))
     → Lists script allocSlice (record { start = p .used .cells; len = members }) 0 0 0 mark members (code nodes types lists p) (code nodes types lists′ (withUsed p (finished (p .used) mark)))
 unfolding allocSlice withArena
-finishing script nodes types lists lists′ p mark members g e = record {
+list-made script nodes types lists lists′ p mark members g e = record {
   sticky = λ f. absurd (true≢false g f);
   monotone = omega arith;
   progress = λ _. omega arith;
@@ -355,6 +379,16 @@ finishing script nodes types lists lists′ p mark members g e = record {
         },
       );
 }
+
+-- what `move_list` does to the table, `n` cells of `scratch` being the list
+abbrev pub MovesList : List ℕ → List ℕ → ℕ → ℕ → ℕ → Type 0
+MovesList lists lists′ cells n scratch = (top base : List ℕ) (z : ℕ) → drop cells lists ≡ zeros z ++ (reverse top ++ base) → length top ≡ n → length base + n ≡ scratch → n ≤ z → lists′ ≡ take cells lists ++ (top ++ (zeros z ++ base))
+
+pub allocating : (script nodes types lists lists′ : List ℕ) {p q : Parser} {u : Used} (mark members : ℕ) → isGoing (p .status) ≡ true → u ≡ p .used → q ≡ withUsed p (finished u mark) → MovesList lists lists′ (u .cells) (u .scratch - mark) (u .scratch)
+    → Lists script allocSlice (record { start = u .cells; len = members }) 0 0 0 mark members (code nodes types lists p) (code nodes types lists′ q)
+allocating script nodes types lists lists′ {p} mark members g e f = lent p (λ (u : Used). finished u mark)
+    (λ (u : Used) (q : Parser). MovesList lists lists′ (u .cells) (u .scratch - mark) (u .scratch) → Lists script allocSlice (record { start = u .cells; len = members }) 0 0 0 mark members (code nodes types lists p) (code nodes types lists′ q))
+    e f (list-made script nodes types lists lists′ p mark members g)
 
 -- ---- the move of a finished list
 

@@ -14,13 +14,13 @@ use Rattle.rules.specs.Tree.{State, Result, ok, err}
 use Rattle.rules.specs.Combinators.{Rule, _>>_, current, pure, ifKind, atToken, keepDoc, withDocs, withArena, tokenCells, takeDocs, allocSlice, ControlFlow, continue}
 use Rattle.rules.specs.Rules.{lastOf, requireNoDocs}
 use Rattle.rules.specs.Layout.{zeros, typeCells}
-use Rattle.parser_base.specs.Represents.{Code, code, isGoing, lowToken, docCells, AllLow, Represents}
+use Rattle.parser_base.specs.Represents.{Code, code, withUsed, isGoing, lowToken, docCells, AllLow, Represents}
 use Rattle.parser_base.specs.Refines.{Ends, kept, Refines, noDocsWait, failed, tokenAt}
 use Rattle.parser_base.specs.declared.Parser.{Parser}
 use Rattle.parser_base.specs.declared.Used.{Used}
 use Rattle.parser_base.proofs.Steps.{as-rule, either, true≢false, left-some, current-represents, represents-less}
-use Rattle.parser_base.proofs.Leaves.{failing-at}
-use Rattle.parser_base.proofs.Cells.{withUsed, zeros-length, zeros-split, laid-over, flatten-snoc, map-snoc, types-length}
+use Rattle.parser_base.proofs.Leaves.{lent, failing-at}
+use Rattle.parser_base.proofs.Cells.{zeros-length, zeros-split, laid-over, flatten-snoc, map-snoc, types-length}
 use Rattle.parser_base.proofs.Rounds.{ifKind-is-yes, ifKind-is-no}
 
 pub docs-length : (ds : List Token) → length (docCells ds) ≡ 3 * length ds
@@ -67,12 +67,12 @@ laid-last xs vs back z n h e =
     ∙ ap (λ (l : List ℕ). ((xs ++ zeros k) ++ vs) ++ l) none
     ∙ simp append-assoc
 
-pub keeping : (script nodes types types′ lists : List ℕ) (p : Parser) (t : Token) (n : ℕ) (vs : List ℕ) → isGoing (p .status) ≡ true
+doc-kept : (script nodes types types′ lists : List ℕ) (p : Parser) (t : Token) (n : ℕ) (vs : List ℕ) → isGoing (p .status) ≡ true
     → vs ≡ lowToken t .len ∷ lowToken t .start ∷ lowToken t .kind ∷ []
     → types′ ≡ paste types (length types - (3 * p .used .docs + 3)) vs (length vs)
     → Refines script 1 3 (keepDoc n (lowToken t)) (λ c. c ≡ continue n) kept 0 0 0 (code nodes types lists p) (code nodes types′ lists (withUsed p (docKept (p .used))))
 unfolding withDocs
-keeping script nodes types types′ lists p t n ws g ew e = record {
+doc-kept script nodes types types′ lists p t n ws g ew e = record {
   sticky = λ f. absurd (true≢false g f);
   monotone = omega arith;
   progress = λ _. omega arith;
@@ -115,10 +115,17 @@ keeping script nodes types types′ lists p t n ws g ew e = record {
       );
 }
 
+pub keeping : (script nodes types types′ lists : List ℕ) {p q : Parser} {u : Used} (t : Token) (n : ℕ) (vs : List ℕ) → isGoing (p .status) ≡ true → vs ≡ lowToken t .len ∷ lowToken t .start ∷ lowToken t .kind ∷ [] → u ≡ p .used
+    → q ≡ withUsed p (docKept u) → types′ ≡ paste types (length types - (3 * u .docs + 3)) vs (length vs)
+    → Refines script 1 3 (keepDoc n (lowToken t)) (λ c. c ≡ continue n) kept 0 0 0 (code nodes types lists p) (code nodes types′ lists q)
+keeping script nodes types types′ lists {p} t n vs g w e f = lent p docKept
+    (λ (u : Used) (q : Parser). types′ ≡ paste types (length types - (3 * u .docs + 3)) vs (length vs) → Refines script 1 3 (keepDoc n (lowToken t)) (λ c. c ≡ continue n) kept 0 0 0 (code nodes types lists p) (code nodes types′ lists q))
+    e f (doc-kept script nodes types types′ lists p t n vs g w)
+
 -- ---- the move of all
 
 -- after some turns: `before` is moved, `after` is not
-pub record Carried (top front cells back : List ℕ) (z i : ℕ) (src dst : List ℕ) : Type 0 where
+pub record DocsMoving (top front cells back : List ℕ) (z i : ℕ) (src dst : List ℕ) : Type 0 where
   pub before : List ℕ
   pub after : List ℕ
   pub all : top ≡ before ++ after
@@ -126,8 +133,8 @@ pub record Carried (top front cells back : List ℕ) (z i : ℕ) (src dst : List
   pub source : src ≡ front ++ (reverse after ++ zeros i)
   pub target : dst ≡ (cells ++ before) ++ (zeros (z - i) ++ back)
 
-pub carried-start : (top front cells back src dst : List ℕ) (z : ℕ) → src ≡ front ++ reverse top → dst ≡ cells ++ (zeros z ++ back) → Carried top front cells back z 0 src dst
-carried-start top front cells back src dst z e f = record {
+pub docs-moving-start : (top front cells back src dst : List ℕ) (z : ℕ) → src ≡ front ++ reverse top → dst ≡ cells ++ (zeros z ++ back) → DocsMoving top front cells back z 0 src dst
+docs-moving-start top front cells back src dst z e f = record {
   before = [];
   after = top;
   all = refl;
@@ -136,9 +143,9 @@ carried-start top front cells back src dst z e f = record {
   target = f ∙ ap (λ (l : List ℕ). l ++ (zeros z ++ back)) (sym (append-nil cells)) ∙ ap (λ (k : ℕ). (cells ++ []) ++ (zeros k ++ back)) {x = z} {y = z - 0} (omega arith);
 }
 
-pub carried-end : {top front cells back src dst : List ℕ} {z i n : ℕ} → Carried top front cells back z i src dst → i ≤ n → n ≤ i → length top ≡ n
+pub docs-moving-end : {top front cells back src dst : List ℕ} {z i n : ℕ} → DocsMoving top front cells back z i src dst → i ≤ n → n ≤ i → length top ≡ n
     → (src ≡ front ++ zeros n) × (dst ≡ (cells ++ top) ++ (zeros (z - n) ++ back))
-carried-end {top} {front} {cells} {back} {src} {dst} {z} {i} {n} h f g e =
+docs-moving-end {top} {front} {cells} {back} {src} {dst} {z} {i} {n} h f g e =
     let same : i ≡ n = omega arith in
     subst (λ (k : ℕ). (src ≡ front ++ zeros k) × (dst ≡ (cells ++ top) ++ (zeros (z - k) ++ back))) same (go (h .before) (h .after) (h .all) (h .count) (h .source) (h .target))
   where
@@ -146,12 +153,12 @@ carried-end {top} {front} {cells} {back} {src} {dst} {z} {i} {n} h f g e =
     go b [] t c p q = (p, q ∙ ap (λ (l : List ℕ). (cells ++ l) ++ (zeros (z - i) ++ back)) (sym (t ∙ append-nil b)))
     go b (x ∷ a) t c p q = absurd (omega (arith, ap length t ∙ length-append b (x ∷ a)))
 
-pub carried-turn : {top front cells back src dst : List ℕ} {z n at i from to : ℕ} → Carried top front cells back z i src dst → length top ≡ n → length cells ≡ at → n ≤ z → i < n
-    → from ≡ length src - 1 - i → to ≡ at + i → Carried top front cells back z (i + 1) (set src from 0) (set dst to (getD src from 0))
-carried-turn {top} {front} {cells} {back} {src} {dst} {z} {n} {at} {i} {from} {to} h e k y u f w = go (h .before) (h .after) (h .all) (h .count) (h .source) (h .target)
+pub docs-moving-turn : {top front cells back src dst : List ℕ} {z n at i from to : ℕ} → DocsMoving top front cells back z i src dst → length top ≡ n → length cells ≡ at → n ≤ z → i < n
+    → from ≡ length src - 1 - i → to ≡ at + i → DocsMoving top front cells back z (i + 1) (set src from 0) (set dst to (getD src from 0))
+docs-moving-turn {top} {front} {cells} {back} {src} {dst} {z} {n} {at} {i} {from} {to} h e k y u f w = go (h .before) (h .after) (h .all) (h .count) (h .source) (h .target)
   where
     go : (b a : List ℕ) → top ≡ b ++ a → length b ≡ i → src ≡ front ++ (reverse a ++ zeros i) → dst ≡ (cells ++ b) ++ (zeros (z - i) ++ back)
-        → Carried top front cells back z (i + 1) (set src from 0) (set dst to (getD src from 0))
+        → DocsMoving top front cells back z (i + 1) (set src from 0) (set dst to (getD src from 0))
     go b [] t c p q = absurd (omega (arith, ap length t ∙ length-append b []))
     go b (x ∷ a) t c p q =
         let pre : List ℕ = front ++ reverse a in
@@ -174,12 +181,12 @@ carried-turn {top} {front} {cells} {back} {src} {dst} {z} {n} {at} {i} {from} {t
 abbrev pub docsTaken : Used → Used
 docsTaken u = record { nodes = u .nodes; values = u .values; types = u .types; docs = 0; cells = u .cells + 3 * u .docs; scratch = u .scratch }
 
-pub attaching : (script nodes types types′ lists lists′ : List ℕ) (p : Parser) → isGoing (p .status) ≡ true
+docs-taken : (script nodes types types′ lists lists′ : List ℕ) (p : Parser) → isGoing (p .status) ≡ true
     → ((top front cells back : List ℕ) (z : ℕ) → types ≡ front ++ reverse top → length top ≡ 3 * p .used .docs → lists ≡ cells ++ (zeros z ++ back) → length cells ≡ p .used .cells → 3 * p .used .docs ≤ z
     → (types′ ≡ front ++ zeros (3 * p .used .docs)) × (lists′ ≡ (cells ++ top) ++ (zeros (z - 3 * p .used .docs) ++ back)))
     → Refines script 0 0 takeDocs (λ t. t ≡ record { start = p .used .cells; len = p .used .docs }) kept 0 0 0 (code nodes types lists p) (code nodes types′ lists′ (withUsed p (docsTaken (p .used))))
 unfolding takeDocs withDocs allocSlice withArena flatten
-attaching script nodes types types′ lists lists′ p g f = record {
+docs-taken script nodes types types′ lists lists′ p g f = record {
   sticky = λ z. absurd (true≢false g z);
   monotone = omega arith;
   progress = λ _. omega arith;
@@ -229,6 +236,17 @@ attaching script nodes types types′ lists lists′ p g f = record {
         },
       );
 }
+
+-- what `move_docs` does to the two tables
+abbrev pub MovesDocs : List ℕ → List ℕ → List ℕ → List ℕ → ℕ → ℕ → Type 0
+MovesDocs types types′ lists lists′ at n = (top front cells back : List ℕ) (z : ℕ) → types ≡ front ++ reverse top → length top ≡ n → lists ≡ cells ++ (zeros z ++ back) → length cells ≡ at → n ≤ z
+    → (types′ ≡ front ++ zeros n) × (lists′ ≡ (cells ++ top) ++ (zeros (z - n) ++ back))
+
+pub attaching : (script nodes types types′ lists lists′ : List ℕ) {p q : Parser} {u : Used} → isGoing (p .status) ≡ true → u ≡ p .used → q ≡ withUsed p (docsTaken u) → MovesDocs types types′ lists lists′ (u .cells) (3 * u .docs)
+    → Refines script 0 0 takeDocs (λ t. t ≡ record { start = u .cells; len = u .docs }) kept 0 0 0 (code nodes types lists p) (code nodes types′ lists′ q)
+attaching script nodes types types′ lists lists′ {p} g e f = lent p docsTaken
+    (λ (u : Used) (q : Parser). MovesDocs types types′ lists lists′ (u .cells) (3 * u .docs) → Refines script 0 0 takeDocs (λ t. t ≡ record { start = u .cells; len = u .docs }) kept 0 0 0 (code nodes types lists p) (code nodes types′ lists′ q))
+    e f (docs-taken script nodes types types′ lists lists′ p g)
 
 -- ---- docs that nothing takes
 

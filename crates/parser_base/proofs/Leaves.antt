@@ -18,9 +18,10 @@ use Rattle.lex.proofs.Steps.{Forward, cut-ind, next-first}
 use Rattle.lex.proofs.Passed.{stands-next}
 use Rattle.rules.specs.Tree.{State}
 use Rattle.rules.specs.Combinators.{Rule, current, rest, advance, atToken}
-use Rattle.parser_base.specs.Represents.{Failed, lowToken, InRange, Code, code, going, isGoing, from, Related, Represents, FailedAt}
+use Rattle.parser_base.specs.Represents.{Failed, withNext, withUsed, lowToken, InRange, Code, code, going, isGoing, from, Related, Represents, FailedAt}
 use Rattle.parser_base.specs.Refines.{kept, Refines, Refuses, Takes, Lists, failAt, failed}
 use Rattle.parser_base.specs.declared.Parser.{Parser}
+use Rattle.parser_base.specs.declared.Used.{Used}
 use Rattle.parser_base.proofs.Steps.{either, true≢false, represents-going, represents-less, current-represents, low-near}
 
 -- ---- nothing is done
@@ -61,6 +62,12 @@ lists-full f = record {
   simulates = λ R L stack xs m a b few h. absurd (f R L stack xs m a b few (h .related));
 }
 
+-- ---- counts
+
+-- what holds of a parser's counts and of the parser with others also holds of what was read of them and of the parser that was written
+pub lent : (p : Parser) (f : Used → Used) (P : Used → Parser → Type 0) {u : Used} {q : Parser} → u ≡ p .used → q ≡ withUsed p (f u) → P (p .used) (withUsed p (f (p .used))) → P u q
+lent p f P {u} e w h = subst (λ (r : Parser). P u r) (sym w) (subst (λ (v : Used). P v (withUsed p (f v))) (sym e) h)
+
 -- ---- tokens
 
 -- what the lexer answers is the first of the tokens from there on
@@ -96,21 +103,35 @@ rest-from script c t pos = go (eqb (t .kind) kEof)
     go true = refl
     go false = refl
 
+-- the numbers of a token do not tell how many follow it
+low-ahead : (script : List ℕ) (t : Token) (pos : ℕ) → length (from script (lowToken t) pos) ≡ length (from script t pos)
+unfolding from
+low-ahead script t pos = go (eqb (t .kind) kEof)
+  where
+    go : (b : Bool) → length {A = Token} (elim b as (λ _. List Token) [ true ↦ lowToken t ∷ [] | false ↦ lowToken t ∷ tokensFrom script pos ]) ≡ length {A = Token} (elim b as (λ _. List Token) [ true ↦ t ∷ [] | false ↦ t ∷ tokensFrom script pos ])
+    go true = refl
+    go false = refl
+
 abbrev pub moved : Parser → Next → Parser
 moved p x = record { cur = x .token; pos = x .next; used = p .used; status = p .status }
 
-pub taking : (script : List ℕ) (p : Parser) (x : Next) → isGoing (p .status) ≡ true → (p .cur .kind ≡ kEof → ⊥) → x ≡ nextAt script (p .pos) → Takes script advance p (moved p x)
+-- a token of the script has no other bits
+pub moved-low : {script nodes types lists : List ℕ} (p : Parser) (x : Next) {R L : ℕ} {stack : List ℕ} {m : State} → Represents script (code nodes types lists (moved p x)) R L stack m → Represents script (code nodes types lists (withNext p x)) R L stack m
+moved-low {script} {nodes} {types} {lists} p x {R} {L} {stack} {m} h =
+    subst (λ (t : Token). Represents script (code nodes types lists (record { cur = t; pos = x .next; used = p .used; status = p .status })) R L stack m) (sym (low-near script (x .token) (h .related .inRange) (h .related .lent .small))) h
+
+pub taking : (script : List ℕ) (p : Parser) (x : Next) → isGoing (p .status) ≡ true → (p .cur .kind ≡ kEof → ⊥) → x ≡ nextAt script (p .pos) → Takes script advance p (withNext p x)
 unfolding advance
 taking script p x g k e nodes types lists = record {
   sticky = λ f. absurd (true≢false g f);
-  monotone = omega (arith, ap length more);
-  progress = λ _. omega (arith, ap length more);
+  monotone = omega (arith, ap length more, low-ahead script (x .token) (x .next));
+  progress = λ _. omega (arith, ap length more, low-ahead script (x .token) (x .next));
   simulates = λ R L stack m h.
       let l : m .left ≡ p .cur ∷ from script (x .token) (x .next) = h .related .left ∙ more in
       let l′ : rest (m .left) ≡ from script (x .token) (x .next) = ap rest l ∙ rest-from script (p .cur) (x .token) (x .next) in
       let inRange = next-near script (p .pos) e (h .related .lexed .stands .inside) in (
         current-represents (h .related),
-        record {
+        moved-low p x (record {
           status = h .status;
           related = record {
             left = l′;
@@ -126,7 +147,7 @@ taking script p x g k e nodes types lists = record {
             };
             lent = h .related .lent;
           };
-        },
+        }),
       );
 }
   where
@@ -151,15 +172,15 @@ failing-at e e′ w h = record {
   related = rw append-nil (record { left = h .related .left; inRange = h .related .inRange; lexed = h .related .lexed; nodes = h .related .nodes; types = h .related .types; lists = h .related .lists; credit = h .related .credit; lent = h .related .lent });
 }
 
-module _ (script nodes types lists : List ℕ) (p q : Parser) (number wanted : ℕ) where
-  pub failing : (isGoing (p .status) ≡ true → q ≡ failed p (atToken number wanted (lowToken (p .cur)))) → (isGoing (p .status) ≡ false → q ≡ p)
+module _ (script nodes types lists : List ℕ) (p q : Parser) (number wanted : ℕ) (t : Token) (named : t ≡ p .cur) where
+  pub failing : (isGoing (p .status) ≡ true → q ≡ failed p (atToken number wanted (lowToken t))) → (isGoing (p .status) ≡ false → q ≡ p)
       → Refuses script number wanted (code nodes types lists p) (code nodes types lists q)
   failing f g = either (isGoing (p .status))
       (λ e. subst (λ (r : Parser). Refuses script number wanted (code nodes types lists p) (code nodes types lists r)) (sym (f e)) (record {
         sticky = λ z. absurd (true≢false e z);
         monotone = omega arith;
         fails = refl;
-        simulates = λ R L stack m h. failing-at _ _ (ap (atToken number wanted) (low-near script (p .cur) (h .related .inRange) (h .related .lent .small) ∙ sym (current-represents (h .related)))) h;
+        simulates = λ R L stack m h. failing-at _ _ (ap (λ (t : Token). atToken number wanted (lowToken t)) named ∙ ap (atToken number wanted) (low-near script (p .cur) (h .related .inRange) (h .related .lent .small) ∙ sym (current-represents (h .related)))) h;
       }))
       (λ e. subst (λ (r : Parser). Refuses script number wanted (code nodes types lists p) (code nodes types lists r)) (sym (g e))
       (record { sticky = λ z. refl; monotone = omega arith; fails = e; simulates = λ R L stack m h. absurd (true≢false (represents-going h) e) }))

@@ -13,7 +13,7 @@ use Rattle.rules.specs.Tree.{State, Result, ok, err}
 use Rattle.rules.specs.Combinators.{Rule, _>>=_, pure, current, ifKind, ControlFlow, continue, break, iterate, loop, members, listUntil}
 use Rattle.rules.specs.declared.Run.{Run}
 use Rattle.parser_base.specs.Represents.{Code, code, going, isGoing, ahead, Represents, FailedAt}
-use Rattle.parser_base.specs.Refines.{Ends, kept, grown, allGrown, Collected, Refines, ReadsMember, Lists, wanted, wantedBy, closed}
+use Rattle.parser_base.specs.Refines.{Ends, kept, grown, allGrown, Collected, Refines, ReadsMember, Lists, memberFollows, followsBy, closed}
 use Rattle.parser_base.specs.declared.Parser.{Parser}
 use Rattle.parser_base.proofs.Steps.{lists-after, either, true≢false, represents-going, represents-less, failed-fails, current-represents, left-some}
 use Rattle.parser_base.proofs.Cells.{flatten-snoc}
@@ -80,37 +80,37 @@ midway-start = record {
 }
 
 -- what the loop's test says
-wanted-when : (g e f : Bool) → wantedBy g e f ≡ true → (g ≡ true) × (e ≡ false) × (f ≡ false)
-wanted-when true true f p = absurd (true≢false p refl)
-wanted-when true false f p = (refl, refl, not-true f p)
-wanted-when false e f p = absurd (true≢false p refl)
+member-when : (g e f : Bool) → followsBy g e f ≡ true → (g ≡ true) × (e ≡ false) × (f ≡ false)
+member-when true true f p = absurd (true≢false p refl)
+member-when true false f p = (refl, refl, not-true f p)
+member-when false e f p = absurd (true≢false p refl)
 
-unwanted-when : (e f : Bool) → wantedBy true e f ≡ false → e ≡ false → f ≡ true
-unwanted-when true f p q = absurd (true≢false refl q)
-unwanted-when false f p q = not-false f p
+no-member-when : (e f : Bool) → followsBy true e f ≡ false → e ≡ false → f ≡ true
+no-member-when true f p q = absurd (true≢false refl q)
+no-member-when false f p q = not-false f p
 
 module _ (p : Parser) (stop : ℕ) where
-  pub wanted-going : wanted p stop ≡ true → isGoing (p .status) ≡ true
-  wanted-going e = wanted-when (isGoing (p .status)) (eqb (p .cur .kind) kEof) (eqb (p .cur .kind) stop) e .0
+  pub member-going : memberFollows p stop ≡ true → isGoing (p .status) ≡ true
+  member-going e = member-when (isGoing (p .status)) (eqb (p .cur .kind) kEof) (eqb (p .cur .kind) stop) e .0
 
-  pub wanted-eof : wanted p stop ≡ true → eqb (p .cur .kind) kEof ≡ false
-  wanted-eof e = wanted-when (isGoing (p .status)) (eqb (p .cur .kind) kEof) (eqb (p .cur .kind) stop) e .1
+  pub member-eof : memberFollows p stop ≡ true → eqb (p .cur .kind) kEof ≡ false
+  member-eof e = member-when (isGoing (p .status)) (eqb (p .cur .kind) kEof) (eqb (p .cur .kind) stop) e .1
 
-  pub wanted-stop : wanted p stop ≡ true → eqb (p .cur .kind) stop ≡ false
-  wanted-stop e = wanted-when (isGoing (p .status)) (eqb (p .cur .kind) kEof) (eqb (p .cur .kind) stop) e .2
+  pub member-stop : memberFollows p stop ≡ true → eqb (p .cur .kind) stop ≡ false
+  member-stop e = member-when (isGoing (p .status)) (eqb (p .cur .kind) kEof) (eqb (p .cur .kind) stop) e .2
 
-  pub unwanted : isGoing (p .status) ≡ true → wanted p stop ≡ false → eqb (p .cur .kind) kEof ≡ false → eqb (p .cur .kind) stop ≡ true
-  unwanted g e f = unwanted-when (eqb (p .cur .kind) kEof) (eqb (p .cur .kind) stop) (subst (λ (b : Bool). wantedBy b (eqb (p .cur .kind) kEof) (eqb (p .cur .kind) stop) ≡ false) g e) f
+  pub no-member : isGoing (p .status) ≡ true → memberFollows p stop ≡ false → eqb (p .cur .kind) kEof ≡ false → eqb (p .cur .kind) stop ≡ true
+  no-member g e f = no-member-when (eqb (p .cur .kind) kEof) (eqb (p .cur .kind) stop) (subst (λ (b : Bool). followsBy b (eqb (p .cur .kind) kEof) (eqb (p .cur .kind) stop) ≡ false) g e) f
 
 -- a turn lowers the measure
-pub falls : {script : List ℕ} (stop : ℕ) {item : Rule (List ℕ)} {s s′ : Code} → wanted (s .parser) stop ≡ true → ReadsMember script item s s′ → weight script s′ < weight script s
-falls stop {s = s} w p = lighter (wanted-going (s .parser) stop w) p
+pub falls : {script : List ℕ} (stop : ℕ) {item : Rule (List ℕ)} {s s′ : Code} → memberFollows (s .parser) stop ≡ true → ReadsMember script item s s′ → weight script s′ < weight script s
+falls stop {s = s} w p = lighter (member-going (s .parser) stop w) p
 
 module _ {script : List ℕ} {stop : ℕ} {item : Rule (List ℕ)} {s₀ s s′ : Code} {n n′ : ℕ} where
-  pub midway-turn : MembersInvariant script stop item s₀ s n → wanted (s .parser) stop ≡ true → ReadsMember script item s s′ → n′ ≡ (n + 1) % 2 ^ 32 → MembersInvariant script stop item s₀ s′ n′
+  pub midway-turn : MembersInvariant script stop item s₀ s n → memberFollows (s .parser) stop ≡ true → ReadsMember script item s s′ → n′ ≡ (n + 1) % 2 ^ 32 → MembersInvariant script stop item s₀ s′ n′
   unfolding more
   midway-turn i w p k = record {
-    sticky = λ e. absurd (true≢false (wanted-going (s .parser) stop w) (ap going (i .sticky e) ∙ e));
+    sticky = λ e. absurd (true≢false (member-going (s .parser) stop w) (ap going (i .sticky e) ∙ e));
     monotone = omega (arith, i .monotone, p .monotone);
     way = λ R L stack m h. go R L stack (members stop item m) (i .way R L stack m h);
   }
@@ -140,15 +140,15 @@ module _ {script : List ℕ} {stop : ℕ} {item : Rule (List ℕ)} {s₀ s s′ 
       one R L stack (suc f) xs m res e u c q h =
           let cur : current (m .left) ≡ s .parser .cur = current-represents (h .related) in
           next R L stack f xs m res h u c q (item m)
-          (e ∙ turn-more stop item f xs m (rw cur (wanted-eof (s .parser) stop w)) (rw cur (wanted-stop (s .parser) stop w)))
+          (e ∙ turn-more stop item f xs m (rw cur (member-eof (s .parser) stop w)) (rw cur (member-stop (s .parser) stop w)))
           (p .simulates R L (stack ++ flatten xs) m (represents-less _ _ (omega arith) (omega arith) h))
 
       go : (R L : ℕ) (stack : List ℕ) (res : Result (List (List ℕ))) → Way script stop item s n R L stack res → Way script stop item s′ n′ R L stack res
       go R L stack res (simulates v) = one R L stack (v .fuel) (v .xs) (v .m) res (v .comes) (v .fuelled) (v .count) (v .few) (v .represents)
-      go R L stack res (lost v) = absurd (true≢false (wanted-going (s .parser) stop w) (failed-fails (v .failedAt)))
+      go R L stack res (lost v) = absurd (true≢false (member-going (s .parser) stop w) (failed-fails (v .failedAt)))
 
 module _ {script : List ℕ} {stop : ℕ} {item : Rule (List ℕ)} {s₀ s : Code} {n : ℕ} where
-  pub members-end : MembersInvariant script stop item s₀ s n → wanted (s .parser) stop ≡ false → Refines script 0 0 (members stop item) (Collected script n s) allGrown 0 0 0 s₀ s
+  pub members-end : MembersInvariant script stop item s₀ s n → memberFollows (s .parser) stop ≡ false → Refines script 0 0 (members stop item) (Collected script n s) allGrown 0 0 0 s₀ s
   unfolding pure
   members-end i w = record {
     sticky = i .sticky;
@@ -164,7 +164,7 @@ module _ {script : List ℕ} {stop : ℕ} {item : Rule (List ℕ)} {s₀ s : Cod
           let cur : current (m .left) ≡ s .parser .cur = current-represents (h .related) in
           let stops : body stop item xs m ≡ ok (break xs) m = either (eqb (s .parser .cur .kind) kEof)
           (λ g. ifKind-is-yes kEof _ _ m (rw cur g))
-          (λ g. ifKind-is-no kEof _ _ m (rw cur g) ∙ ifKind-is-yes stop _ _ m (rw cur (unwanted (s .parser) stop (represents-going h) w g))) in
+          (λ g. ifKind-is-no kEof _ _ m (rw cur g) ∙ ifKind-is-yes stop _ _ m (rw cur (no-member (s .parser) stop (represents-going h) w g))) in
           subst (Ends script (Collected script n s) allGrown s R L 0 0 stack) (sym (e ∙ turn-out stop item f xs m stops))
           ((sym c, omega (arith, q, ap length (h .related .left))), represents-less _ _ (omega arith) (omega arith) h)
 
@@ -173,6 +173,6 @@ module _ {script : List ℕ} {stop : ℕ} {item : Rule (List ℕ)} {s₀ s : Cod
       go R L stack res (lost v) = subst (Ends script (Collected script n s) allGrown s R L 0 0 stack) (sym (v .comes)) (v .failedAt)
 
 module _ {script : List ℕ} {stop : ℕ} {item : Rule (List ℕ)} {run : Run} {s₀ s s′ : Code} {mark n : ℕ} where
-  pub midway-end : MembersInvariant script stop item s₀ s n → wanted (s .parser) stop ≡ false → mark ≡ s₀ .parser .used .scratch → Lists script (closed stop) run 1 1 8 mark n s s′ → Refines script 0 0 (listUntil stop item) (λ a. a ≡ run) kept 1 1 8 s₀ s′
+  pub midway-end : MembersInvariant script stop item s₀ s n → memberFollows (s .parser) stop ≡ false → mark ≡ s₀ .parser .used .scratch → Lists script (closed stop) run 1 1 8 mark n s s′ → Refines script 0 0 (listUntil stop item) (λ a. a ≡ run) kept 1 1 8 s₀ s′
   unfolding listUntil closed
   midway-end i w k p = lists-after (closed stop) (members-end i w) p k

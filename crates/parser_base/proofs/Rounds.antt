@@ -8,10 +8,11 @@ use lib.Dec.{eqb}
 use borrow.Author.Tests.{eqb-true}
 use lib.ListN.{length, replicate}
 use Rattle.lex.specs.declared.diagnostic.Diagnostic.{Diagnostic}
+use Rattle.lex.specs.Kind.{kDoc}
 use Rattle.rules.specs.Tree.{State, Result, ok, err}
 use Rattle.rules.specs.Combinators.{Rule, current, byKind, ifKind, ControlFlow, continue, break, iterate, loop, struck}
 use Rattle.parser_base.specs.Represents.{Code, going, isGoing, ahead, Represents, FailedAt}
-use Rattle.parser_base.specs.Refines.{Ends, kept, Refines, stands}
+use Rattle.parser_base.specs.Refines.{Ends, kept, Refines, docFollows}
 use Rattle.parser_base.specs.declared.Parser.{Parser}
 use Rattle.parser_base.proofs.Steps.{represents-noted, either, true≢false, represents-going, represents-less, failed-fails, left-some}
 
@@ -217,19 +218,19 @@ lighter {script = script} {s = s} {s′} g p = either (going s′) (λ g′. rw 
 
 -- ---- the test of such a loop
 
-module _ (p : Parser) (kind : ℕ) where
-  pub stands-going : stands p kind ≡ true → isGoing (p .status) ≡ true
-  unfolding stands
-  stands-going e = go (isGoing (p .status)) e
+module _ (p : Parser) where
+  pub doc-going : docFollows p ≡ true → isGoing (p .status) ≡ true
+  unfolding docFollows
+  doc-going e = go (isGoing (p .status)) e
     where
-      go : (b : Bool) → (b && eqb (p .cur .kind) kind) ≡ true → b ≡ true
+      go : (b : Bool) → (b && eqb (p .cur .kind) kDoc) ≡ true → b ≡ true
       go true h = refl
       go false h = h
 
-  pub stands-kind : stands p kind ≡ true → p .cur .kind ≡ kind
-  unfolding stands
-  stands-kind e = eqb-true _ _ (subst (λ (b : Bool). (b && eqb (p .cur .kind) kind) ≡ true) (stands-going e) e)
+  pub doc-kind : docFollows p ≡ true → p .cur .kind ≡ kDoc
+  unfolding docFollows
+  doc-kind e = eqb-true _ _ (subst (λ (b : Bool). (b && eqb (p .cur .kind) kDoc) ≡ true) (doc-going e) e)
 
-  pub stands-not : isGoing (p .status) ≡ true → stands p kind ≡ false → eqb (p .cur .kind) kind ≡ false
-  unfolding stands
-  stands-not g e = subst (λ (b : Bool). (b && eqb (p .cur .kind) kind) ≡ false) g e
+  pub no-doc : isGoing (p .status) ≡ true → docFollows p ≡ false → eqb (p .cur .kind) kDoc ≡ false
+  unfolding docFollows
+  no-doc g e = subst (λ (b : Bool). (b && eqb (p .cur .kind) kDoc) ≡ false) g e

@@ -102,9 +102,10 @@ low-near script t h k =
 
 -- a token is read that the code keeps: its low bits are all of it
 module _ {B : Type 0} {script : List ℕ} {x : Rule Token} {Q : B → Type 0} {grow : B → List ℕ → List ℕ} {r l d r₁ l₁ r₂ l₂ d₂ r₃ l₃ : ℕ} {s s₁ s₂ : Code} (f : Token → Rule B) where
-  pub read : Refines script r l x (λ t. t ≡ s .parser .cur) kept d r₁ l₁ s s₁ → Refines script r₂ l₂ (f (lowToken (s .parser .cur))) Q grow d₂ r₃ l₃ s₁ s₂
+  pub read : {t : Token} → Refines script r l x (λ t. t ≡ s .parser .cur) kept d r₁ l₁ s s₁ → t ≡ s .parser .cur → Refines script r₂ l₂ (f (lowToken t)) Q grow d₂ r₃ l₃ s₁ s₂
       → Refines script (r + (r₂ - r₁)) (l + (l₂ - l₁)) (x >>= f) Q grow (d + d₂) (r₃ + (r₁ - r₂)) (l₃ + (l₁ - l₂)) s s₂
-  read p q =
+  read p e q₀ =
+      let q = subst (λ (t : Token). Refines script r₂ l₂ (f (lowToken t)) Q grow d₂ r₃ l₃ s₁ s₂) e q₀ in
       let any = seq (λ _. f (lowToken (s .parser .cur))) p q in
       record {
         sticky = any .sticky;
@@ -186,9 +187,9 @@ pub current-represents : {script : List ℕ} {s : Code} {r l : ℕ} {stack : Lis
 current-represents {script} {s} h = ap current (h .left) ∙ current-from script (s .parser .cur) (s .parser .pos)
 
 module _ {A : Type 0} {script : List ℕ} {Q : A → Type 0} {grow : A → List ℕ → List ℕ} {r l d r′ l′ : ℕ} {s s′ : Code} (f : ℕ → Rule A) where
-  pub at-kind : (n : ℕ) → s .parser .cur .kind ≡ n → Refines script r l (f n) Q grow d r′ l′ s s′ → Refines script r l (byKind f) Q grow d r′ l′ s s′
+  pub at-kind : (n : ℕ) → Refines script r l (f n) Q grow d r′ l′ s s′ → s .parser .cur .kind ≡ n → Refines script r l (byKind f) Q grow d r′ l′ s s′
   unfolding byKind
-  at-kind n e p = record {
+  at-kind n p e = record {
     sticky = p .sticky;
     monotone = p .monotone;
     progress = p .progress;
@@ -196,13 +197,13 @@ module _ {A : Type 0} {script : List ℕ} {Q : A → Type 0} {grow : A → List 
   }
 
 module _ {A : Type 0} {script : List ℕ} {k : ℕ} {Q : A → Type 0} {grow : A → List ℕ → List ℕ} {r l d r′ l′ : ℕ} {s s′ : Code} (x y : Rule A) where
-  pub ifKind-yes : s .parser .cur .kind ≡ k → Refines script r l x Q grow d r′ l′ s s′ → Refines script r l (ifKind k x y) Q grow d r′ l′ s s′
+  pub ifKind-yes : Refines script r l x Q grow d r′ l′ s s′ → s .parser .cur .kind ≡ k → Refines script r l (ifKind k x y) Q grow d r′ l′ s s′
   unfolding ifKind
-  ifKind-yes e p = at-kind _ (s .parser .cur .kind) refl (rw (eq-eqb (s .parser .cur .kind) k e) p)
+  ifKind-yes p e = at-kind _ (s .parser .cur .kind) (rw (eq-eqb (s .parser .cur .kind) k e) p) refl
 
-  pub ifKind-no : (s .parser .cur .kind ≡ k → ⊥) → Refines script r l y Q grow d r′ l′ s s′ → Refines script r l (ifKind k x y) Q grow d r′ l′ s s′
+  pub ifKind-no : Refines script r l y Q grow d r′ l′ s s′ → (s .parser .cur .kind ≡ k → ⊥) → Refines script r l (ifKind k x y) Q grow d r′ l′ s s′
   unfolding ifKind
-  ifKind-no e p = at-kind _ (s .parser .cur .kind) refl (rw (ne-eqb (s .parser .cur .kind) k e) p)
+  ifKind-no p e = at-kind _ (s .parser .cur .kind) (rw (ne-eqb (s .parser .cur .kind) k e) p) refl
 
 -- ---- cells, and lists
 
@@ -274,7 +275,7 @@ looks = record { sticky = λ e. refl; monotone = omega arith; progress = λ e. o
 module _ {A : Type 0} {script : List ℕ} {Q : A → Type 0} {grow : A → List ℕ → List ℕ} {r l d r′ l′ : ℕ} {s s′ : Code} (k : ℕ) (x y : Rule A) where
   -- the code is the same by either rule
   pub ifKind-both : Refines script r l x Q grow d r′ l′ s s′ → Refines script r l y Q grow d r′ l′ s s′ → Refines script r l (ifKind k x y) Q grow d r′ l′ s s′
-  ifKind-both p q = either (eqb (s .parser .cur .kind) k) (λ e. ifKind-yes x y (eqb-true _ _ e) p) (λ e. ifKind-no x y (eqb-false _ _ e) q)
+  ifKind-both p q = either (eqb (s .parser .cur .kind) k) (λ e. ifKind-yes x y p (eqb-true _ _ e)) (λ e. ifKind-no x y q (eqb-false _ _ e))
 
 -- ---- lists of members
 

@@ -5,7 +5,7 @@ use mathlib.Core.List.{List, _++_, flatten}
 use Prim.Native.Nat.{ℕ, _+_, _*_, _≤_}
 use lib.Dec.{eqb, leb, ltb}
 use lib.ListN.{length, getD}
-use Rattle.lex.specs.Kind.{kEof}
+use Rattle.lex.specs.Kind.{kEof, kDoc}
 use Rattle.lex.specs.declared.diagnostic.Diagnostic.{Diagnostic}
 use Rattle.lex.specs.declared.tok.Token.{Token}
 use Rattle.rules.specs.Tree.{State, Result, ok, err}
@@ -14,11 +14,8 @@ use Rattle.rules.specs.Rules.{readers, stageOne, requireNoDocs}
 use Rattle.rules.specs.declared.Run.{Run}
 use Rattle.rules.specs.declared.NodeId.{NodeId}
 use Rattle.rules.specs.declared.TypeExprId.{TypeExprId}
-use Rattle.parser_base.specs.Represents.{Failed, Code, code, going, ahead, Represents, FailedAt, isGoing}
+use Rattle.parser_base.specs.Represents.{Failed, withStatus, Code, code, going, ahead, Represents, FailedAt, isGoing}
 use Rattle.parser_base.specs.declared.Parser.{Parser}
-use Rattle.parser_base.specs.declared.TypeRead.{TypeRead}
-use Rattle.parser_base.specs.declared.NodeRead.{NodeRead}
-use Rattle.parser_base.specs.declared.ListRead.{ListRead}
 
 -- the readers with so many levels left
 abbrev pub deeper : List ℕ → ℕ → Readers
@@ -56,24 +53,24 @@ abbrev pub Takes : List ℕ → Rule Token → Parser → Parser → Type 0
 Takes script x p q = (nodes types lists : List ℕ) → Refines script 0 0 x (λ t. t ≡ p .cur) kept 1 1 8 (code nodes types lists p) (code nodes types lists q)
 
 -- a type is read
-abbrev pub ReadsType : List ℕ → Rule TypeExprId → Code → List ℕ → List ℕ → List ℕ → TypeRead → Type 0
-ReadsType script x s nodes types lists q = Refines script 0 0 x (λ t. t ≡ q .id) kept 1 0 8 s (code nodes types lists (q .parser))
+abbrev pub ReadsType : List ℕ → Rule TypeExprId → Code → Code → TypeExprId → Type 0
+ReadsType script x s s′ r = Refines script 0 0 x (λ t. t ≡ r) kept 1 0 8 s s′
 
 -- a node is made
-abbrev pub ReadsNode : List ℕ → Rule NodeId → Code → List ℕ → List ℕ → List ℕ → NodeRead → Type 0
-ReadsNode script x s nodes types lists q = Refines script 0 0 x (λ n. n ≡ q .id) kept 1 0 8 s (code nodes types lists (q .parser))
+abbrev pub ReadsNode : List ℕ → Rule NodeId → Code → Code → NodeId → Type 0
+ReadsNode script x s s′ r = Refines script 0 0 x (λ n. n ≡ r) kept 1 0 8 s s′
 
 -- a step of a loop over a node goes on
-abbrev pub ReadsStep : List ℕ → Rule (ControlFlow NodeId) → Code → List ℕ → List ℕ → List ℕ → NodeRead → Type 0
-ReadsStep script x s nodes types lists q = Refines script 0 0 x (λ t. t ≡ continue (q .id)) kept 1 0 0 s (code nodes types lists (q .parser))
+abbrev pub ReadsStep : List ℕ → Rule (ControlFlow NodeId) → Code → Code → NodeId → Type 0
+ReadsStep script x s s′ r = Refines script 0 0 x (λ t. t ≡ continue r) kept 1 0 0 s s′
 
 -- a loop over a node, which may take nothing
-abbrev pub LoopsNode : List ℕ → Rule NodeId → Code → List ℕ → List ℕ → List ℕ → NodeRead → Type 0
-LoopsNode script x s nodes types lists q = Refines script 0 0 x (λ n. n ≡ q .id) kept 0 0 0 s (code nodes types lists (q .parser))
+abbrev pub LoopsNode : List ℕ → Rule NodeId → Code → Code → NodeId → Type 0
+LoopsNode script x s s′ r = Refines script 0 0 x (λ n. n ≡ r) kept 0 0 0 s s′
 
 -- a list is read and finished
-abbrev pub ReadsList : List ℕ → Rule Run → Code → List ℕ → List ℕ → List ℕ → ListRead → Type 0
-ReadsList script x s nodes types lists q = Refines script 0 0 x (λ t. t ≡ q .run) kept 1 1 8 s (code nodes types lists (q .parser))
+abbrev pub ReadsList : List ℕ → Rule Run → Code → Code → Run → Type 0
+ReadsList script x s s′ r = Refines script 0 0 x (λ t. t ≡ r) kept 1 1 8 s s′
 
 -- a member of a list is read, and its cells are pushed
 abbrev pub ReadsMember : List ℕ → Rule (List ℕ) → Code → Code → Type 0
@@ -100,7 +97,7 @@ noDocsWait = requireNoDocs (pure 0)
 
 -- a parser that has failed
 abbrev pub failed : Parser → Diagnostic → Parser
-failed p e = record { cur = p .cur; pos = p .pos; used = p .used; status = Failed e }
+failed p e = withStatus p (Failed e)
 
 -- the token of a doc that waits, whose cells lie the last first
 abbrev pub tokenAt : List ℕ → ℕ → Token
@@ -111,16 +108,17 @@ unfoldable pub hasRoom : ℕ → Parser → Bool
 hasRoom len p = isGoing (p .status) && (ltb (p .used .nodes) 65536 && (leb (16 * p .used .nodes + 16) len && ltb (p .used .values) 4000000000))
 
 -- a loop over members goes on
-abbrev pub wantedBy : Bool → Bool → Bool → Bool
-wantedBy false ends stops = false
-wantedBy true true stops = false
-wantedBy true false stops = not stops
+abbrev pub followsBy : Bool → Bool → Bool → Bool
+followsBy false ends stops = false
+followsBy true true stops = false
+followsBy true false stops = not stops
 
-abbrev pub wanted : Parser → ℕ → Bool
-wanted p stop = wantedBy (isGoing (p .status)) (eqb (p .cur .kind) kEof) (eqb (p .cur .kind) stop)
+abbrev pub memberFollows : Parser → ℕ → Bool
+memberFollows p stop = followsBy (isGoing (p .status)) (eqb (p .cur .kind) kEof) (eqb (p .cur .kind) stop)
 
-unfoldable pub stands : Parser → ℕ → Bool
-stands p kind = isGoing (p .status) && eqb (p .cur .kind) kind
+-- a doc is read next
+unfoldable pub docFollows : Parser → Bool
+docFollows p = isGoing (p .status) && eqb (p .cur .kind) kDoc
 
 -- the end of a list
 unfoldable pub closed : ℕ → List (List ℕ) → Rule Run

@@ -4,11 +4,12 @@ use mathlib.Core.Bool.{Bool, true, false}
 use mathlib.Core.List.{List, [], _∷_, _++_, map, flatten, reverse}
 use Prim.Native.Nat.{ℕ, suc, _+_, _*_, _-_, _%_, _≤_}
 use lib.Dec.{eqb}
-use lib.ListN.{length}
+use lib.ListN.{length, getD}
 use Rattle.lex.specs.Kind.{kEof}
 use Rattle.lex.specs.Lex.{cut, tokensOf, tokensFrom}
 use Rattle.lex.specs.Passed.{StandsAfter}
 use Rattle.lex.specs.declared.diagnostic.Diagnostic.{Diagnostic}
+use Rattle.lex.specs.declared.tok.Next.{Next}
 use Rattle.lex.specs.declared.tok.Token.{Token}
 use Rattle.rules.specs.Tree.{State}
 use Rattle.rules.specs.Combinators.{tokenCells}
@@ -68,6 +69,24 @@ Going = record { failed = 0; error = record { number = 0; start = 0; len = 0; wa
 
 abbrev pub Failed : Diagnostic → Status
 Failed e = record { failed = 1; error = e }
+
+-- what the seventeen cells of a parser say
+unfoldable pub parserOf : List ℕ → Parser
+parserOf c = record {
+  cur = record { kind = getD c 0 0; start = getD c 1 0; len = getD c 2 0 };
+  pos = getD c 3 0 + 4294967296 * getD c 4 0;
+  used = record { nodes = getD c 5 0; values = getD c 6 0; types = getD c 7 0; docs = getD c 8 0; cells = getD c 9 0; scratch = getD c 10 0 };
+  status = record { failed = getD c 11 0; error = record { number = getD c 12 0; start = getD c 13 0; len = getD c 14 0; wanted = getD c 15 0; seen = getD c 16 0 } };
+}
+
+abbrev pub withNext : Parser → Next → Parser
+withNext p n = record { cur = lowToken (n .token); pos = n .next; used = p .used; status = p .status }
+
+abbrev pub withUsed : Parser → Used → Parser
+withUsed p u = record { cur = p .cur; pos = p .pos; used = u; status = p .status }
+
+abbrev pub withStatus : Parser → Status → Parser
+withStatus p s = record { cur = p .cur; pos = p .pos; used = p .used; status = s }
 
 -- all that the code changes
 pub record Code : Type 0 where

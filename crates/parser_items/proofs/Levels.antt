@@ -60,20 +60,21 @@ unfolding parsePrefix
 prefix-expr {script} {Q} {s} {s′} d e p =
     let plain = begins-expr (s .parser) e in
     let item : Refines script 0 0 (byKind (itemByKind d)) Q kept 1 0 8 s s′ =
-    at-kind _ _ refl
+    at-kind _ _
     (entry-past _ _ _ (plain .1 kImport (omega arith) (omega arith))
     (entry-past _ _ _ (plain .1 kLet (omega arith) (omega arith))
     (entry-past _ _ _ (plain .1 kFn (omega arith) (omega arith))
     (entry-past _ _ _ (plain .1 kExtern (omega arith) (omega arith))
-    (entry-other _ _ (require-then _ (enough (then (docs-none script _ _ _ (s .parser) (plain .0)) (ifKind-no _ _ (plain .1 kMatch (omega arith) (omega arith)) p)) tt))))))) in
+    (entry-other _ _ (require-then _ (enough (then (docs-none script _ _ _ (s .parser) (plain .0)) (ifKind-no _ _ p (plain .1 kMatch (omega arith) (omega arith)))) tt)))))))
+    refl in
     enough (then (no-doc (plain .1 kDoc (omega arith) (omega arith))) item) tt
 
 -- ---- tables
 
 module _ (d : Readers) {script : List ℕ} {Q : NodeId → Type 0} {r l k r′ l′ n : ℕ} {s s′ : Code} where
-  pub operand-by : n ≡ operandClass (s .parser .cur .kind) → Refines script r l (operandOf d n) Q kept k r′ l′ s s′ → Refines script r l (operand d) Q kept k r′ l′ s s′
+  pub operand-by : Refines script r l (operandOf d n) Q kept k r′ l′ s s′ → n ≡ operandClass (s .parser .cur .kind) → Refines script r l (operand d) Q kept k r′ l′ s s′
   unfolding operand
-  operand-by e p = at-kind _ (s .parser .cur .kind) refl (rw (operand-class d (s .parser .cur .kind)) (subst (λ (c : ℕ). Refines script r l (operandOf d c) Q kept k r′ l′ s s′) e p))
+  operand-by p e = at-kind _ (s .parser .cur .kind) (rw (operand-class d (s .parser .cur .kind)) (subst (λ (c : ℕ). Refines script r l (operandOf d c) Q kept k r′ l′ s s′) e p)) refl
 
 -- what begins an operand is no Eof
 pub operand-kind : (k : ℕ) {n : ℕ} → n ≡ operandClass k → (n ≡ 0 → ⊥) → 1 < k

@@ -16,11 +16,11 @@ use Rattle.rules.specs.Rules.{Cases, noteAfterDefault, defaultCase, conditionCa
 use Rattle.rules.specs.declared.Run.{Run}
 use Rattle.rules.specs.declared.NodeId.{NodeId}
 use Rattle.parser_base.specs.Represents.{Code, going, ahead, lowToken, Represents, FailedAt}
-use Rattle.parser_base.specs.Refines.{Ends, kept, grown, Collected, Refines, ReadsMember, Lists, failAt, wanted, closed}
+use Rattle.parser_base.specs.Refines.{Ends, kept, grown, Collected, Refines, ReadsMember, Lists, failAt, memberFollows, closed}
 use Rattle.parser_base.proofs.Steps.{either, true≢false, represents-less, represents-going, failed-less, failed-fails, represents-noted, noted, current-represents, low-near, seq, read, looks, done, enough, ifKind-yes}
 use Rattle.parser_base.proofs.Cells.{flatten-snoc}
 use Rattle.parser_base.proofs.Rounds.{Again, Turned, LoopInvariant, round-out, ifKind-is-yes, ifKind-is-no}
-use Rattle.parser_base.proofs.Loops.{wanted-going, wanted-eof, wanted-stop, unwanted}
+use Rattle.parser_base.proofs.Loops.{member-going, member-eof, member-stop, no-member}
 use Rattle.parser_leaves.specs.Matches.{defaultOf, casesGrown, CasesAre, caseCells, matchNode, matchEnd, matchRest}
 use Rattle.parser_leaves.specs.declared.Default.{Default}
 
@@ -80,7 +80,7 @@ module _ (deeper : Readers) where
       go t (err e s) = refl
 
   module _ {script : List ℕ} {n n′ : ℕ} {s s′ : Code} (d d′ : Default) where
-    case-again : wanted (s .parser) kCurlyRight ≡ true → length (ahead script s′) ≤ length (ahead script s) → (going s′ ≡ true → length (ahead script s′) + 1 ≤ length (ahead script s))
+    case-again : memberFollows (s .parser) kCurlyRight ≡ true → length (ahead script s′) ≤ length (ahead script s) → (going s′ ≡ true → length (ahead script s′) + 1 ≤ length (ahead script s))
         → ((R L : ℕ) (stack : List ℕ) (c : Cases) (m : State) → CasesAre script d n s c → Represents script s R L (stack ++ flatten (c .cases)) m → Turned script (nextCase deeper) casesGrown (CasesAre script d′ n′ s′) s′ R L stack (block c m))
         → Again script (nextCase deeper) casesGrown (CasesAre script d n s) (CasesAre script d′ n′ s′) s s′
     unfolding nextCase
@@ -90,18 +90,18 @@ module _ (deeper : Readers) where
       flowValue = λ R L stack c m q h.
           let cur : current (m .left) ≡ s .parser .cur = current-represents (h .related) in
           subst (Turned script (nextCase deeper) casesGrown (CasesAre script d′ n′ s′) s′ R L stack)
-          (sym (ifKind-is-no kEof _ _ m (rw cur (wanted-eof (s .parser) kCurlyRight w)) ∙ ifKind-is-no kCurlyRight _ _ m (rw cur (wanted-stop (s .parser) kCurlyRight w))))
+          (sym (ifKind-is-no kEof _ _ m (rw cur (member-eof (s .parser) kCurlyRight w)) ∙ ifKind-is-no kCurlyRight _ _ m (rw cur (member-stop (s .parser) kCurlyRight w))))
           (note-then c (block c) m (Turned script (nextCase deeper) casesGrown (CasesAre script d′ n′ s′) s′ R L stack) (λ u. f R L stack c (noted m u) q (represents-noted u h)));
     }
 
   -- the default, which replaces an earlier one
   module _ {script : List ℕ} {n : ℕ} {run : Run} {s s′ : Code} (d : Default) where
-    pub default-again : wanted (s .parser) kCurlyRight ≡ true → s .parser .cur .kind ≡ kCurlyLeft → Refines script 0 0 (parseBody deeper) (λ a. a ≡ run) kept 1 1 8 s s′
+    default-own : memberFollows (s .parser) kCurlyRight ≡ true → s .parser .cur .kind ≡ kCurlyLeft → Refines script 0 0 (parseBody deeper) (λ a. a ≡ run) kept 1 1 8 s s′
         → Again script (nextCase deeper) casesGrown (CasesAre script d n s) (CasesAre script (record { has = 1; token = s .parser .cur; run = run }) n s′) s s′
     unfolding defaultCase
-    default-again w k p = case-again d (record { has = 1; token = s .parser .cur; run = run }) w (p .monotone) (p .progress) (λ R L stack c m q h.
+    default-own w k p = case-again d (record { has = 1; token = s .parser .cur; run = run }) w (p .monotone) (p .progress) (λ R L stack c m q h.
         let x : Refines script 0 0 (block c) (λ e. e ≡ continue (record { cases = c .cases; default = some (lowToken (s .parser .cur), run) })) kept 1 0 0 s s′ =
-        enough (seq (λ e. pure (continue e)) (ifKind-yes (defaultCase deeper c) (conditionCase deeper c) k (read _ looks (seq _ p done))) done) tt in
+        enough (seq (λ e. pure (continue e)) (ifKind-yes (defaultCase deeper c) (conditionCase deeper c) (read _ looks refl (seq _ p done)) k) done) tt in
         go R L stack c q (block c m) (x .simulates R L (stack ++ flatten (c .cases)) m (represents-less _ _ (omega arith) (omega arith) h)))
       where
         go : (R L : ℕ) (stack : List ℕ) (c : Cases) → CasesAre script d n s c → (r : Result (ControlFlow Cases)) → Ends script (λ e. e ≡ continue (record { cases = c .cases; default = some (lowToken (s .parser .cur), run) })) kept s′ R L 0 0 (stack ++ flatten (c .cases)) r
@@ -114,9 +114,13 @@ module _ (deeper : Readers) where
         go R L stack c q (ok (break b) m) h = let e : break b ≡ continue (record { cases = c .cases; default = some (lowToken (s .parser .cur), run) }) = h .0 in let z : _≡_ {A = ℕ} 0 1 = cc in omega arith
         go R L stack c q (err e m) h = record { status = h .status; over = flatten (c .cases) ++ h .over; related = rw (← append-assoc stack (flatten (c .cases)) (h .over)) (h .related) }
 
+    pub default-again : {t : Token} → memberFollows (s .parser) kCurlyRight ≡ true → t ≡ s .parser .cur → s .parser .cur .kind ≡ kCurlyLeft → Refines script 0 0 (parseBody deeper) (λ a. a ≡ run) kept 1 1 8 s s′
+        → Again script (nextCase deeper) casesGrown (CasesAre script d n s) (CasesAre script (record { has = 1; token = t; run = run }) n s′) s s′
+    default-again w e k p = subst (λ (t : Token). Again script (nextCase deeper) casesGrown (CasesAre script d n s) (CasesAre script (record { has = 1; token = t; run = run }) n s′) s s′) (sym e) (default-own w k p)
+
   -- a case
   module _ {script : List ℕ} {n n′ : ℕ} {s s′ : Code} (d : Default) where
-    pub condition-again : wanted (s .parser) kCurlyRight ≡ true → (s .parser .cur .kind ≡ kCurlyLeft → ⊥) → ReadsMember script (caseCells deeper) s s′ → n′ ≡ (n + 1) % 2 ^ 32
+    pub condition-again : memberFollows (s .parser) kCurlyRight ≡ true → (s .parser .cur .kind ≡ kCurlyLeft → ⊥) → ReadsMember script (caseCells deeper) s s′ → n′ ≡ (n + 1) % 2 ^ 32
         → Again script (nextCase deeper) casesGrown (CasesAre script d n s) (CasesAre script d n′ s′) s s′
     condition-again w k p count = case-again d d w (p .monotone) (p .progress) (λ R L stack c m q h.
         let cur : current (m .left) ≡ s .parser .cur = current-represents (h .related) in
@@ -134,7 +138,7 @@ module _ (deeper : Readers) where
   -- ---- the end
 
   module _ {script : List ℕ} {n mark d₂ r₂ l₂ : ℕ} {id : NodeId} {s₀ s s₂ : Code} (t : Token) (d : Default) where
-    pub match-end : LoopInvariant script (nextCase deeper) casesGrown (record { cases = []; default = none }) (CasesAre script d n s) s₀ s → wanted (s .parser) kCurlyRight ≡ false → mark ≡ s₀ .parser .used .scratch
+    pub match-end : LoopInvariant script (nextCase deeper) casesGrown (record { cases = []; default = none }) (CasesAre script d n s) s₀ s → memberFollows (s .parser) kCurlyRight ≡ false → mark ≡ s₀ .parser .used .scratch
         → Lists script (matchEnd t (defaultOf d)) id d₂ r₂ l₂ mark n s s₂ → Refines script 0 0 (matchRest deeper t) (λ a. a ≡ id) kept d₂ r₂ l₂ s₀ s₂
     unfolding matchRest _>>=_ nextCase pure flatten
     match-end i w k q = record {
@@ -149,7 +153,7 @@ module _ (deeper : Readers) where
             let cur : current (m .left) ≡ s .parser .cur = current-represents (h .related) in
             either (eqb (s .parser .cur .kind) kEof)
             (λ g. ifKind-is-yes kEof _ _ m (rw cur g))
-            (λ g. ifKind-is-no kEof _ _ m (rw cur g) ∙ ifKind-is-yes kCurlyRight _ _ m (rw cur (unwanted (s .parser) kCurlyRight (represents-going h) w g)))
+            (λ g. ifKind-is-no kEof _ _ m (rw cur g) ∙ ifKind-is-yes kCurlyRight _ _ m (rw cur (no-member (s .parser) kCurlyRight (represents-going h) w g)))
 
         p : Refines script 0 0 (loop (nextCase deeper) (record { cases = []; default = none })) (CasesAre script d n s) casesGrown 0 0 0 s₀ s
         p = round-out i (λ stack. append-nil stack) out

@@ -16,7 +16,7 @@ use Rattle.parser_base.specs.Represents.{Code, isGoing}
 use Rattle.parser_base.specs.Refines.{Refines}
 use Rattle.parser_base.specs.declared.Parser.{Parser}
 use Rattle.parser_base.proofs.Steps.{either, true≢false}
-use Rattle.parser_leaves.specs.Tests.{operandClasses, operandClass, operandOf, operatorNumbers, operatorNumber, powersAt, leftPowers, rightPowers, beginsExpr, signGoes, goesBy}
+use Rattle.parser_leaves.specs.Tests.{operandClasses, operandClass, operandOf, operatorNumbers, operatorNumber, powersAt, leftPowers, rightPowers, beginsExpr, signFollows, infixBy}
 
 -- ---- one entry after the other
 
@@ -96,13 +96,13 @@ module _ (k n : ℕ) (e : n ≡ operatorNumber k) where
   pub no-powers : 9 ≤ n → stageOne k ≡ none
   no-powers h = by-number (le-ltb n 9 h)
 
-pub powers-none : (breaks : Bool) (least k : ℕ) {n : ℕ} → n ≡ operatorNumber k → 9 ≤ n → false ≡ signGoes breaks least (stageOne k)
-unfolding signGoes
-powers-none breaks least k e h = rw (no-powers k _ e h, signGoes) refl
+pub powers-none : (breaks : Bool) (least k : ℕ) {n : ℕ} → n ≡ operatorNumber k → 9 ≤ n → false ≡ signFollows breaks least (stageOne k)
+unfolding signFollows
+powers-none breaks least k e h = rw (no-powers k _ e h, signFollows) refl
 
-pub goes-when : {going cast sign r : Bool} → going ≡ true → cast ≡ false → r ≡ sign → r ≡ goesBy going cast sign
-unfolding goesBy
-goes-when {sign = sign} g c e = rw (g, c, goesBy) e
+pub infix-when : {going cast sign r : Bool} → going ≡ true → cast ≡ false → r ≡ sign → r ≡ infixBy going cast sign
+unfolding infixBy
+infix-when {sign = sign} g c e = rw (g, c, infixBy) e
 
 pub least-test : {left r : ℕ} (least : ℕ) → r ≡ left → leb least r ≡ not (ltb left least)
 least-test {left} {r} least e = rw e (either (ltb left least)

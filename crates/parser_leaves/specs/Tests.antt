@@ -55,26 +55,26 @@ abbrev pub callAt : List ℕ → NodeId → Bool
 callAt nodes n = elim (eqb (getD nodes (16 * n .0) 0) 2) [ true ↦ true | false ↦ eqb (getD nodes (16 * n .0) 0) 9 ]
 
 -- a postfix goes on
-unfoldable pub postsBy : Bool → Bool → Bool → Bool → Bool
-postsBy false dot brace calls = false
-postsBy true true brace calls = true
-postsBy true false false calls = false
-postsBy true false true calls = calls
+unfoldable pub postfixBy : Bool → Bool → Bool → Bool → Bool
+postfixBy false dot brace calls = false
+postfixBy true true brace calls = true
+postfixBy true false false calls = false
+postfixBy true false true calls = calls
 
-abbrev pub posts : List ℕ → Parser → NodeId → Bool
-posts nodes p n = postsBy (isGoing (p .status)) (eqb (p .cur .kind) kDot) (eqb (p .cur .kind) kBraceLeft) (callAt nodes n)
+abbrev pub postfixFollows : List ℕ → Parser → NodeId → Bool
+postfixFollows nodes p n = postfixBy (isGoing (p .status)) (eqb (p .cur .kind) kDot) (eqb (p .cur .kind) kBraceLeft) (callAt nodes n)
 
 -- an infix sign goes on that has the powers `o`
-unfoldable pub signGoes : Bool → ℕ → Option Powers → Bool
-signGoes breaks least none = false
-signGoes true least (some p) = false
-signGoes false least (some p) = not (ltb (p .left) least)
+unfoldable pub signFollows : Bool → ℕ → Option Powers → Bool
+signFollows breaks least none = false
+signFollows true least (some p) = false
+signFollows false least (some p) = not (ltb (p .left) least)
 
-unfoldable pub goesBy : Bool → Bool → Bool → Bool
-goesBy false cast sign = false
-goesBy true true sign = true
-goesBy true false sign = sign
+unfoldable pub infixBy : Bool → Bool → Bool → Bool
+infixBy false cast sign = false
+infixBy true true sign = true
+infixBy true false sign = sign
 
 -- an infix goes on
-abbrev pub goes : List ℕ → Parser → ℕ → Bool
-goes script p least = goesBy (isGoing (p .status)) (eqb (p .cur .kind) kAs) (signGoes (breaksOff script (p .cur)) least (stageOne (p .cur .kind)))
+abbrev pub infixFollows : List ℕ → Parser → ℕ → Bool
+infixFollows script p least = infixBy (isGoing (p .status)) (eqb (p .cur .kind) kAs) (signFollows (breaksOff script (p .cur)) least (stageOne (p .cur .kind)))

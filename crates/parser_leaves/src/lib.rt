@@ -2,12 +2,13 @@
 use lex::Token;
 use lex::Type;
 use lex::is_prefix_sign;
-use parser_base::NodeRead;
-use parser_base::Parser;
 use parser_base::advance;
+use parser_base::current;
 use parser_base::expect_ident;
 use parser_base::fail_at;
+use parser_base::get_used;
 use parser_base::going;
+use parser_base::kind;
 use parser_base::push_cell;
 use parser_base::push_field;
 use parser_base::push_node;
@@ -17,6 +18,7 @@ use parser_base::push_token_node;
 use parser_types::parse_type;
 use rules::Node;
 use rules::NodeId;
+use rules::NodeKind;
 use rules::Run;
 ghost use mathlib.Core.Path.{_≡_};
 ghost use mathlib.Core.List.{List, [], _∷_, _++_};
@@ -24,9 +26,9 @@ ghost use Prim.Native.Nat.{ℕ, _<_};
 ghost use lib.ListN.{getD};
 ghost use Rattle.rules.specs.Combinators.{tokenCells, runCells};
 ghost use Rattle.rules.specs.Rules.{atom, ident, fieldAccess, cast, breaksOff};
-ghost use Rattle.parser_base.specs.Represents.{code, lowToken};
+ghost use Rattle.parser_base.specs.Represents.{parserOf, code, lowToken};
 ghost use Rattle.parser_base.specs.Refines.{Refines, kept, ReadsNode, ReadsStep, Pushes, deeper};
-ghost use Rattle.parser_leaves.specs.Tests.{operandClass, operatorNumber, leftPowers, rightPowers, beginsExpr, callAt, posts, goes};
+ghost use Rattle.parser_leaves.specs.Tests.{operandClass, operatorNumber, leftPowers, rightPowers, beginsExpr, callAt, postfixFollows, infixFollows};
 ghost use Rattle.parser_leaves.specs.Matches.{defaultOf, matchNode};
 
 // ---- tables
@@ -128,16 +130,17 @@ pub fn right_power(n: u32) -> u32
 // ---- whether an item is an expression, and a loop over an expression goes on
 
 // No doc waits or is read, and none of the words that begin another item: the kinds from Doc to Match.
-pub fn begins_expr(p: Parser) -> bool
-    ensures { λ r. ⌜ r ≡ beginsExpr p ⌝ }
+pub fn begins_expr(p: &[u32; 17]) -> bool
+    ensures { λ r. ⌜ r ≡ beginsExpr (parserOf (now (p .entry))) ⌝ }
 {
-    if p.used.docs != 0 {
+    if get_used(p).docs != 0 {
         return false;
     }
-    if p.cur.kind < Type::DOC {
+    let k = kind(p);
+    if k < Type::DOC {
         return true;
     }
-    Type::MATCH < p.cur.kind
+    Type::MATCH < k
 }
 
 // An Ident or a Field can be called.
@@ -148,22 +151,24 @@ fn is_callable_target(nodes: &[u32], n: NodeId) -> bool
     if nodes.len() <= at {
         return false;
     }
-    if nodes[at] == 2 {
+    if nodes[at] == NodeKind::IDENT {
         return true;
     }
-    nodes[at] == 9
+    nodes[at] == NodeKind::FIELD
 }
 
-pub fn posts(nodes: &[u32], p: Parser, n: NodeId) -> bool
-    ensures { λ r. ⌜ r ≡ posts (now (nodes .entry)) p n ⌝ }
+// A `.`, or a `(` behind a node that can be called.
+pub fn postfix_follows(nodes: &[u32], p: &[u32; 17], n: NodeId) -> bool
+    ensures { λ r. ⌜ r ≡ postfixFollows (now (nodes .entry)) (parserOf (now (p .entry))) n ⌝ }
 {
     if !going(p) {
         return false;
     }
-    if p.cur.kind == Type::DOT {
+    let k = kind(p);
+    if k == Type::DOT {
         return true;
     }
-    if p.cur.kind == Type::BRACE_LEFT {
+    if k == Type::BRACE_LEFT {
         return is_callable_target(nodes, n);
     }
     false
@@ -182,13 +187,14 @@ fn breaks_off(script: &[u8], t: Token) -> bool
     false
 }
 
-pub fn goes(script: &[u8], p: Parser, least: u32) -> bool
-    ensures { λ r. ⌜ r ≡ goes (now (script .entry)) p least ⌝ }
+// `as`, or an infix sign whose left power is no less.
+pub fn infix_follows(script: &[u8], p: &[u32; 17], least: u32) -> bool
+    ensures { λ r. ⌜ r ≡ infixFollows (now (script .entry)) (parserOf (now (p .entry))) least ⌝ }
 {
     if !going(p) {
         return false;
     }
-    let t = p.cur;
+    let t = current(p);
     if t.kind == Type::AS {
         return true;
     }
@@ -204,32 +210,32 @@ pub fn goes(script: &[u8], p: Parser, least: u32) -> bool
 
 // ---- nodes with none below them
 
-pub fn atom(script: &[u8], nodes: &mut [u32], p: Parser) -> NodeRead
-    requires { ⌜ 1 < p .cur .kind ⌝ }
-    ensures { λ r. ⌜ ((types lists : List ℕ) → ReadsNode (now (script .entry)) atom (code (now (nodes .entry)) types lists p) (now (nodes .exit)) types lists r) ⌝ }
+pub fn atom(script: &[u8], nodes: &mut [u32], p: &mut [u32; 17]) -> NodeId
+    requires { ⌜ 1 < parserOf (now p) .cur .kind ⌝ }
+    ensures { λ r. ⌜ ((types lists : List ℕ) → ReadsNode (now (script .entry)) atom (code (now (nodes .entry)) types lists (parserOf (now (p .entry)))) (code (now (nodes .exit)) types lists (parserOf (now (p .exit)))) r) ⌝ }
 {
-    let raw = p.cur;
-    let p1 = advance(script, p);
-    push_token_node(nodes, p1, 1, raw, 0, 0)
+    let raw = current(p);
+    advance(script, p);
+    push_token_node(nodes, p, NodeKind::ATOM, raw, 0, 0)
 }
 
-pub fn ident(script: &[u8], nodes: &mut [u32], p: Parser) -> NodeRead
-    requires { ⌜ 1 < p .cur .kind ⌝ }
-    ensures { λ r. ⌜ ((types lists : List ℕ) → ReadsNode (now (script .entry)) ident (code (now (nodes .entry)) types lists p) (now (nodes .exit)) types lists r) ⌝ }
+pub fn ident(script: &[u8], nodes: &mut [u32], p: &mut [u32; 17]) -> NodeId
+    requires { ⌜ 1 < parserOf (now p) .cur .kind ⌝ }
+    ensures { λ r. ⌜ ((types lists : List ℕ) → ReadsNode (now (script .entry)) ident (code (now (nodes .entry)) types lists (parserOf (now (p .entry)))) (code (now (nodes .exit)) types lists (parserOf (now (p .exit)))) r) ⌝ }
 {
-    let name = p.cur;
-    let p1 = advance(script, p);
-    push_token_node(nodes, p1, 2, name, 0, 0)
+    let name = current(p);
+    advance(script, p);
+    push_token_node(nodes, p, NodeKind::IDENT, name, 0, 0)
 }
 
-pub fn field_access(script: &[u8], nodes: &mut [u32], p: Parser, lhs: NodeId) -> NodeRead
-    requires { ⌜ 1 < p .cur .kind ⌝ }
-    ensures { λ r. ⌜ ((types lists : List ℕ) → ReadsStep (now (script .entry)) (fieldAccess lhs) (code (now (nodes .entry)) types lists p) (now (nodes .exit)) types lists r) ⌝ }
+pub fn field_access(script: &[u8], nodes: &mut [u32], p: &mut [u32; 17], lhs: NodeId) -> NodeId
+    requires { ⌜ 1 < parserOf (now p) .cur .kind ⌝ }
+    ensures { λ r. ⌜ ((types lists : List ℕ) → ReadsStep (now (script .entry)) (fieldAccess lhs) (code (now (nodes .entry)) types lists (parserOf (now (p .entry)))) (code (now (nodes .exit)) types lists (parserOf (now (p .exit)))) r) ⌝ }
 {
-    let p1 = advance(script, p);
-    let name = p1.cur;
-    let p2 = expect_ident(script, p1);
-    push_field(nodes, p2, lhs, name)
+    advance(script, p);
+    let name = current(p);
+    expect_ident(script, p);
+    push_field(nodes, p, lhs, name)
 }
 
 pub fn cast(
@@ -237,19 +243,17 @@ pub fn cast(
     nodes: &mut [u32],
     types: &mut [u32],
     lists: &mut [u32],
-    p: Parser,
+    p: &mut [u32; 17],
     lhs: NodeId,
     levels: usize,
-) -> NodeRead
-    requires { ⌜ 1 < p .cur .kind ⌝ }
-    ensures { λ r. ⌜ ReadsStep (now (script .entry)) (cast (deeper (now (script .entry)) levels) lhs) (code (now (nodes .entry)) (now (types .entry)) (now (lists .entry)) p) (now (nodes .exit)) (now (types .exit)) (now (lists .exit)) r ⌝ }
+) -> NodeId
+    requires { ⌜ 1 < parserOf (now p) .cur .kind ⌝ }
+    ensures { λ r. ⌜ ReadsStep (now (script .entry)) (cast (deeper (now (script .entry)) levels) lhs) (code (now (nodes .entry)) (now (types .entry)) (now (lists .entry)) (parserOf (now (p .entry)))) (code (now (nodes .exit)) (now (types .exit)) (now (lists .exit)) (parserOf (now (p .exit)))) r ⌝ }
 {
-    let src = p.cur;
-    let p1 = advance(script, p);
-    let t = parse_type(script, types, lists, p1, levels);
-    let p2 = t.parser;
-    let rhs = t.id;
-    push_token_node(nodes, p2, 10, src, lhs.0, rhs.0)
+    let src = current(p);
+    advance(script, p);
+    let rhs = parse_type(script, types, lists, p, levels);
+    push_token_node(nodes, p, NodeKind::CAST, src, lhs.0, rhs.0)
 }
 
 // ---- the cases of a match
@@ -261,32 +265,30 @@ pub struct Default {
     pub run: Run,
 }
 
-pub struct CaseRead {
-    pub parser: Parser,
+// The default of a match so far, and how many cases there are.
+pub struct CasesRead {
     pub default: Default,
     pub members: u32,
 }
 
-pub fn push_case(lists: &mut [u32], p: Parser, t: Token, n: NodeId, body: Run) -> Parser
-    ensures { λ r. ⌜ ((script nodes types : List ℕ) → Pushes script 12 (tokenCells (lowToken t) ++ (n .0 ∷ runCells body)) (code nodes types (now (lists .entry)) p) (code nodes types (now (lists .exit)) r)) ⌝ }
+pub fn push_case(lists: &mut [u32], p: &mut [u32; 17], t: Token, n: NodeId, body: Run)
+    ensures { λ r. ⌜ ((script nodes types : List ℕ) → Pushes script 12 (tokenCells (lowToken t) ++ (n .0 ∷ runCells body)) (code nodes types (now (lists .entry)) (parserOf (now (p .entry)))) (code nodes types (now (lists .exit)) (parserOf (now (p .exit))))) ⌝ }
 {
-    let p1 = push_token(lists, p, t);
-    let p2 = push_cell(lists, p1, n.0);
-    push_run(lists, p2, body)
+    push_token(lists, p, t);
+    push_cell(lists, p, n.0);
+    push_run(lists, p, body);
 }
 
-pub fn match_node(nodes: &mut [u32], p: Parser, t: Token, cases: Run, d: Default) -> NodeRead
-    ensures { λ r. ⌜ ((script types lists : List ℕ) → Refines script 1 0 (matchNode (lowToken t) (defaultOf d) cases) (λ n. n ≡ r .id) kept 0 0 0 (code (now (nodes .entry)) types lists p) (code (now (nodes .exit)) types lists (r .parser))) ⌝ }
+pub fn match_node(nodes: &mut [u32], p: &mut [u32; 17], t: Token, cases: Run, d: Default) -> NodeId
+    ensures { λ r. ⌜ ((script types lists : List ℕ) → Refines script 1 0 (matchNode (lowToken t) (defaultOf d) cases) (λ n. n ≡ r) kept 0 0 0 (code (now (nodes .entry)) types lists (parserOf (now (p .entry)))) (code (now (nodes .exit)) types lists (parserOf (now (p .exit))))) ⌝ }
 {
     if d.has == 0 {
-        return NodeRead {
-            parser: fail_at(p, 18, t),
-            id: NodeId(0),
-        };
+        fail_at(p, 18, t);
+        return NodeId(0);
     }
     let token = d.token;
     let run = d.run;
-    let id = p.used.values;
+    let id = get_used(p).values;
     push_node(
         nodes,
         p,

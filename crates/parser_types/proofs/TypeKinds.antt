@@ -64,16 +64,15 @@ module _ {script : List ℕ} {Q : TypeExprId → Type 0} {d r′ l′ : ℕ} {s 
   too-deep e p = rw (deeper-zero script levels e) (refused p)
 
 module _ {script : List ℕ} {Q : TypeExprId → Type 0} {r l d r′ l′ : ℕ} {s s′ : Code} (levels : ℕ) where
-  pub type-at : (kind : ℕ) → (levels ≡ 0 → ⊥) → s .parser .cur .kind ≡ kind → Refines script r l (typeByKind (deeper script (levels - 1)) kind) Q kept d r′ l′ s s′
+  pub type-at : (kind : ℕ) → (levels ≡ 0 → ⊥) → Refines script r l (typeByKind (deeper script (levels - 1)) kind) Q kept d r′ l′ s s′ → s .parser .cur .kind ≡ kind
       → Refines script r l (deeper script levels .type) Q kept d r′ l′ s s′
   unfolding parseType
-  type-at kind f e p = rw (deeper-suc script levels f) (at-kind _ kind e p)
+  type-at kind f p e = rw (deeper-suc script levels f) (at-kind _ kind p e)
 
-  pub type-atom : (levels ≡ 0 → ⊥) → kStr ≤ s .parser .cur .kind → s .parser .cur .kind < kOption → Refines script r l atomType Q kept d r′ l′ s s′ → Refines script r l (deeper script levels .type) Q kept d r′ l′ s s′
-  type-atom f a b p = type-at (s .parser .cur .kind) f refl (rw (of-atom (deeper script (levels - 1)) (s .parser .cur .kind) a b) p)
+  pub type-atom : {k : ℕ} → (levels ≡ 0 → ⊥) → Refines script r l atomType Q kept d r′ l′ s s′ → k ≡ s .parser .cur .kind → kStr ≤ k → k < kOption → Refines script r l (deeper script levels .type) Q kept d r′ l′ s s′
+  type-atom {k} f p e a b = type-at k f (rw (of-atom (deeper script (levels - 1)) k a b) p) (sym e)
 
 module _ {script : List ℕ} {Q : TypeExprId → Type 0} {d r′ l′ : ℕ} {s s′ : Code} (levels : ℕ) where
-  pub type-none : (levels ≡ 0 → ⊥) → (s .parser .cur .kind < kStr) ⊎ (kVoid < s .parser .cur .kind)
-      → (s .parser .cur .kind ≡ kOption → ⊥) → (s .parser .cur .kind ≡ kArray → ⊥) → (s .parser .cur .kind ≡ kForeign → ⊥) → (s .parser .cur .kind ≡ kRecord → ⊥)
-      → Refuses script 23 0 s s′ → Refines script 0 0 (deeper script levels .type) Q kept d r′ l′ s s′
-  type-none f h a b c e p = type-at levels (s .parser .cur .kind) f refl (rw (of-none (deeper script (levels - 1)) (s .parser .cur .kind) h a b c e) (refused p))
+  pub type-none : {k : ℕ} → (levels ≡ 0 → ⊥) → Refuses script 23 0 s s′ → k ≡ s .parser .cur .kind → (k < kStr) ⊎ (kVoid < k) → (k ≡ kOption → ⊥) → (k ≡ kArray → ⊥) → (k ≡ kForeign → ⊥) → (k ≡ kRecord → ⊥)
+      → Refines script 0 0 (deeper script levels .type) Q kept d r′ l′ s s′
+  type-none {k} f p e h a b c d = type-at levels k f (rw (of-none (deeper script (levels - 1)) k h a b c d) (refused p)) (sym e)

@@ -1,50 +1,21 @@
 -- `parser::clear_from` meets its contract.
 use borrow.Author.Needs.{needs}
 use native.Mathlib.Omega.{arith}
-use mathlib.Core.Path.{_≡_, refl, sym, ap, _∙_}
-use mathlib.Core.List.{List}
-use Prim.Native.Nat.{ℕ, _≤_, _-_}
-use lib.ListN.{length, length-set, set}
-use Rattle.parser.proofs.Clear.{cleared, cleared-start, cleared-turn, cleared-end}
+use mathlib.Core.Path.{_∙_}
+use Rattle.parser.proofs.Clear.{cleared-end}
 use Rattle.parser.proofs.clear_from.Statement.{statement}
 use Rattle.parser.proofs.clear_from.Tie as tie
 
-abbrev Inv-loop : tie.InvT-loop
-Inv-loop a₀ from i₀ a i = (from ≤ i) × (i ≤ length a₀) × (length a ≡ length a₀) × (a ≡ cleared a₀ from i)
-
-abbrev μ-loop : tie.MeasureT-loop
-μ-loop a₀ from i₀ a i = length a₀ - i
-
-loop-holds : tie.Need-loop-holds Inv-loop μ-loop
-loop-holds c =
-    let args = c .args in
-    (omega arith, omega arith, refl, cleared-start (args .a .now) (args .from))
-
-loop-again : tie.Need-loop-again Inv-loop μ-loop
-loop-again c =
-    let args = c .before .before .args in
-    let loop = c .before .loop in
-    let loop = c .before .loop in
-    (omega arith, omega arith, simp length-set (omega arith), ap (λ (l : List ℕ). set l (loop .i) 0) (loop .inv .3) ∙ cleared-turn (args .a .now) (args .from) (loop .i) (loop .inv .0) (omega arith))
-
-returns : tie.Need-returns Inv-loop μ-loop
+returns : tie.Need-returns
 returns c =
-    let args = c .before .before .args in
-    let loop = c .before .loop in
-    let loop = c .before .loop in
-    loop .inv .3 ∙ cleared-end (args .a .now) (args .from) (loop .i) (omega arith) (loop .inv .1)
+    let args = c .before .before .before .before .before .args in
+    let clear-range = c .before .before .clear-range in
+    clear-range .ensures ∙ cleared-end (args .a .now) (args .from) _ (omega arith) (omega arith)
 
 pub clear-from-spec : {M : Type 1} → statement M
 clear-from-spec =
     tie.close
     (tie.spec
-    Inv-loop
-    μ-loop
-    loop-holds
-    (λ c. search needs)
-    (λ c. search needs)
-    (λ c. search needs)
-    (λ c. search needs)
-    loop-again
+    (λ c κs. search needs)
     (λ c. search needs)
     returns)

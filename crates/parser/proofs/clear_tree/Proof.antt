@@ -1,4 +1,5 @@
 -- `parser::clear_tree` meets its contract.
+use native.Mathlib.Omega.{arith}
 use borrow.Author.Needs.{needs}
 use Rattle.parser.proofs.Clear.{cleared-all}
 use Rattle.parser.proofs.clear_tree.Statement.{statement}
@@ -21,8 +22,8 @@ clear-tree-spec =
     (λ c κs. search needs)
     (λ c κs. search needs)
     (λ c κs. search needs)
-    (λ c. search needs)
-    (λ c. search needs)
-    (λ c. search needs)
-    (λ c. search needs)
+    (λ c. omega (arith, c .before .before .clear-from4 .kept, c .before .before .before .before .before .before .clear-from3 .kept, c .before .before .before .before .before .before .before .before .before .before .clear-from2 .kept, c .before .before .before .before .before .before .before .before .before .before .before .before .before .before .clear-from .kept))
+    (λ c. omega (arith, c .before .before .clear-from4 .kept, c .before .before .before .before .before .before .clear-from3 .kept, c .before .before .before .before .before .before .before .before .before .before .clear-from2 .kept, c .before .before .before .before .before .before .before .before .before .before .before .before .before .before .clear-from .kept))
+    (λ c. omega (arith, c .before .before .clear-from4 .kept, c .before .before .before .before .before .before .clear-from3 .kept, c .before .before .before .before .before .before .before .before .before .before .clear-from2 .kept, c .before .before .before .before .before .before .before .before .before .before .before .before .before .before .clear-from .kept))
+    (λ c. omega (arith, c .before .before .clear-from4 .kept, c .before .before .before .before .before .before .clear-from3 .kept, c .before .before .before .before .before .before .before .before .before .before .clear-from2 .kept, c .before .before .before .before .before .before .before .before .before .before .before .before .before .before .clear-from .kept))
     returns)

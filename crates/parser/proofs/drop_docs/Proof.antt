@@ -1,7 +1,9 @@
 -- `parser::drop_docs` meets its contract.
 use borrow.Author.Needs.{needs}
+use Rattle.parser_base.specs.declared.Parser.{Parser}
+use Rattle.parser_base.specs.declared.Used.{Used}
 use native.Mathlib.Omega.{arith}
-use mathlib.Core.Path.{refl, sym, _∙_}
+use mathlib.Core.Path.{refl, sym, _∙_, ap}
 use borrow.Author.Tests.{not-true, not-false}
 use Rattle.parser_base.proofs.Leaves.{full, idle}
 use Rattle.parser_base.proofs.Steps.{left-some}
@@ -16,17 +18,23 @@ returns c =
     (λ script nodes lists. idle (sym (going .ensures) ∙ not-true _ (if1 .taken)), refl, refl)
 
 returns-2 : tie.Need-returns-2
-returns-2 c = (λ script nodes lists. full (λ R L stack m h. omega (arith, h .credit .records, h .lent .small, left-some h)), refl, refl)
+returns-2 c =
+    let get-used = c .before .get-used in
+    (λ script nodes lists. full (λ R L stack m h. omega (arith, ap (λ (u : Used). u .docs) (get-used .ensures), h .credit .records, h .lent .small, left-some h)), refl, refl)
 
 returns-3 : tie.Need-returns-3
-returns-3 c = (λ script nodes lists. full (λ R L stack m h. omega (arith, h .credit .records, h .lent .types, left-some h)), refl, refl)
+returns-3 c =
+    let get-used = c .before .before .get-used in
+    (λ script nodes lists. full (λ R L stack m h. omega (arith, ap (λ (u : Used). u .docs) (get-used .ensures), h .credit .records, h .lent .types, left-some h)), refl, refl)
 
 returns-4 : tie.Need-returns-4
 returns-4 c =
-    let going = c .before .before .before .before .before .before .before .before .before .before .going in
-    let if1 = c .before .before .before .before .before .before .before .before .before .if1 in
-    let clear-from = c .before .before .before .before .clear-from in
-    (λ script nodes lists. dropping script nodes _ _ lists _ (sym (going .ensures) ∙ not-false _ (if1 .left)) (clear-from .ensures), refl, refl)
+    let going = c .before .before .before .before .before .before .before .before .before .before .before .going in
+    let if1 = c .before .before .before .before .before .before .before .before .before .before .if1 in
+    let get-used = c .before .before .before .before .before .before .before .before .get-used in
+    let set-used = c .before .before .before .before .set-used in
+    let clear-from = c .before .before .clear-from in
+    (λ script nodes lists. dropping script nodes _ _ lists (sym (going .ensures) ∙ not-false _ (if1 .left)) (get-used .ensures) (set-used .ensures) (clear-from .ensures), ap (λ (p : Parser). p .cur) (set-used .ensures), ap (λ (p : Parser). p .pos) (set-used .ensures))
 
 pub drop-docs-spec : {M : Type 1} → statement M
 drop-docs-spec =
@@ -34,10 +42,12 @@ drop-docs-spec =
     (tie.spec
     (λ c κs. search needs)
     returns
+    (λ c κs. search needs)
     returns-2
     (λ c. search needs)
     (λ c. search needs)
     returns-3
+    (λ c κs. search needs)
     (λ c. search needs)
     (λ c κs. search needs)
     (λ c. search needs)

@@ -5,7 +5,7 @@ use native.Mathlib.Omega.{arith}
 use Rattle.rules.specs.Rules.{stageOne}
 use Rattle.rules.specs.Parse.{parse}
 use Rattle.parser.proofs.Clear.{cleared-all}
-use Rattle.parser.proofs.Promised.{refused, accepted, blank-of, strict-tree, strict-error}
+use Rattle.parser.proofs.Promised.{left-cleared, refused, accepted, blank-of, strict-tree, strict-error}
 use Rattle.parser.proofs.parse.Statement.{statement}
 use Rattle.parser.proofs.parse.Tie as tie
 
@@ -17,111 +17,114 @@ returns c =
 
 parse-roots-requires : tie.Need-parse-roots-requires
 parse-roots-requires c κs =
-    let args = c .before .before .before .before .before .before .before .before .before .before .before .before .before .before .before .before .before .before .before .before .before .before .before .before .before .before .before .before .before .args in
-    let refusal = c .before .before .before .before .before .before .before .before .before .before .before .before .before .before .before .before .before .before .before .before .before .before .refusal in
-    let if1 = c .before .before .before .before .before .before .before .before .before .before .before .before .before .before .before .before .before .before .before .before .before .if1 in
-    let clear-tree = c .before .before .before .before .before .before .before .before .before .before .before .before .before .before .before .before .clear-tree in
+    let args = c .before .before .before .before .before .before .before .before .before .before .before .before .before .before .before .before .before .before .before .before .before .before .before .before .before .before .before .before .before .before .args in
+    let refusal = c .before .before .before .before .before .before .before .before .before .before .before .before .before .before .before .before .before .before .before .before .before .before .before .refusal in
+    let if1 = c .before .before .before .before .before .before .before .before .before .before .before .before .before .before .before .before .before .before .before .before .before .before .if1 in
+    let clear-tree = c .before .before .before .before .before .before .before .before .before .before .before .before .before .before .before .before .before .clear-tree in
     blank-of (parse stageOne) (args .script .now) (args .nodes .now) (args .types .now) (args .lists .now) (args .roots .now) (args .diagnostics .now) (accepted (parse stageOne) _ _ _ (refusal .ensures) (if1 .left)) (clear-tree .ensures .0) (clear-tree .ensures .1) (clear-tree .ensures .2) (clear-tree .ensures .3)
 
 returns-2 : tie.Need-returns-2
 returns-2 c =
-    let args = c .before .before .before .before .before .before .before .before .before .before .before .before .before .before .before .before .before .before .before .before .before .before .before .before .before .before .before .before .before .before .before .before .before .before .before .before .before .before .before .before .before .before .args in
-    let refusal = c .before .before .before .before .before .before .before .before .before .before .before .before .before .before .before .before .before .before .before .before .before .before .before .before .before .before .before .before .before .before .before .before .before .before .before .refusal in
-    let if1 = c .before .before .before .before .before .before .before .before .before .before .before .before .before .before .before .before .before .before .before .before .before .before .before .before .before .before .before .before .before .before .before .before .before .before .if1 in
-    let parse-roots = c .before .before .before .before .before .before .before .before .before .before .before .before .parse-roots in
-    let clear-tree = c .before .before .before .before .before .before .before .before .before .before .before .before .before .before .before .before .before .before .before .before .before .before .before .before .before .before .before .before .before .clear-tree in
-    let clear-from = c .before .before .before .before .before .before .before .before .before .before .before .before .before .before .before .before .before .before .before .clear-from in
-    let going = c .before .going in
-    let if2 = c .if2 in
-    strict-tree (args .script .now) (args .nodes .now) (args .types .now) (args .lists .now) (args .roots .now) (args .diagnostics .now) _ _ _ _ _ (accepted (parse stageOne) _ _ _ (refusal .ensures) (if1 .left)) (parse-roots .ensures) (omega (arith, clear-tree .kept, clear-from .kept, parse-roots .kept)) (omega (arith, clear-tree .kept, clear-from .kept, parse-roots .kept)) (omega (arith, clear-tree .kept, clear-from .kept, parse-roots .kept)) (omega (arith, clear-tree .kept, clear-from .kept, parse-roots .kept)) _ (cleared-all (args .diagnostics .now) (clear-from .ensures)) (sym (going .ensures) ∙ if2 .taken)
+    let get-used = c .get-used in
+    let args = c .before .before .before .before .before .before .before .before .before .before .before .before .before .before .before .before .before .before .before .before .before .before .before .before .before .before .before .before .before .before .before .before .before .before .before .before .before .before .before .before .before .before .before .before .args in
+    let refusal = c .before .before .before .before .before .before .before .before .before .before .before .before .before .before .before .before .before .before .before .before .before .before .before .before .before .before .before .before .before .before .before .before .before .before .before .before .before .refusal in
+    let if1 = c .before .before .before .before .before .before .before .before .before .before .before .before .before .before .before .before .before .before .before .before .before .before .before .before .before .before .before .before .before .before .before .before .before .before .before .before .if1 in
+    let parse-roots = c .before .before .before .before .before .before .before .before .before .before .before .before .before .parse-roots in
+    let clear-tree = c .before .before .before .before .before .before .before .before .before .before .before .before .before .before .before .before .before .before .before .before .before .before .before .before .before .before .before .before .before .before .before .clear-tree in
+    let clear-from = c .before .before .before .before .before .before .before .before .before .before .before .before .before .before .before .before .before .before .before .before .before .clear-from in
+    let going = c .before .before .before .going in
+    let if2 = c .before .before .if2 in
+    strict-tree (args .script .now) (args .nodes .now) (args .types .now) (args .lists .now) (args .roots .now) (args .diagnostics .now) _ _ _ _ _ (accepted (parse stageOne) _ _ _ (refusal .ensures) (if1 .left)) (parse-roots .ensures) (omega (arith, clear-tree .kept, clear-from .kept, parse-roots .kept)) (omega (arith, clear-tree .kept, clear-from .kept, parse-roots .kept)) (omega (arith, clear-tree .kept, clear-from .kept, parse-roots .kept)) (omega (arith, clear-tree .kept, clear-from .kept, parse-roots .kept)) _ (cleared-all (args .diagnostics .now) (clear-from .ensures)) (sym (going .ensures) ∙ if2 .taken) (get-used .ensures)
 
 returns-3 : tie.Need-returns-3
 returns-3 c =
-    let args = c .before .before .before .before .before .before .before .before .before .before .before .before .before .before .before .before .before .before .before .before .before .before .before .before .before .before .before .before .before .before .before .before .before .before .before .before .before .before .before .before .before .before .before .before .before .before .before .before .before .before .before .before .before .before .before .before .args in
-    let refusal = c .before .before .before .before .before .before .before .before .before .before .before .before .before .before .before .before .before .before .before .before .before .before .before .before .before .before .before .before .before .before .before .before .before .before .before .before .before .before .before .before .before .before .before .before .before .before .before .before .before .refusal in
-    let if1 = c .before .before .before .before .before .before .before .before .before .before .before .before .before .before .before .before .before .before .before .before .before .before .before .before .before .before .before .before .before .before .before .before .before .before .before .before .before .before .before .before .before .before .before .before .before .before .before .before .if1 in
-    let parse-roots = c .before .before .before .before .before .before .before .before .before .before .before .before .before .before .before .before .before .before .before .before .before .before .before .before .before .before .parse-roots in
-    let clear-tree = c .before .before .before .before .before .before .before .before .before .before .before .before .before .before .before .before .before .before .before .before .before .before .before .before .before .before .before .before .before .before .before .before .before .before .before .before .before .before .before .before .before .before .before .clear-tree in
-    let clear-from = c .before .before .before .before .before .before .before .before .before .before .before .before .before .before .before .before .before .before .before .before .before .before .before .before .before .before .before .before .before .before .before .before .before .clear-from in
-    let clear-tree2 = c .before .before .before .before .before .before .before .before .before .clear-tree2 in
-    let if2 = c .before .before .before .before .before .before .before .before .before .before .before .before .before .before .if2 in
-    let going = c .before .before .before .before .before .before .before .before .before .before .before .before .before .before .before .going in
-    strict-error (args .script .now) (args .nodes .now) (args .types .now) (args .lists .now) (args .roots .now) (args .diagnostics .now) _ _ _ _ _ (accepted (parse stageOne) _ _ _ (refusal .ensures) (if1 .left)) (parse-roots .ensures) (omega (arith, clear-tree .kept, clear-from .kept, parse-roots .kept)) (omega (arith, clear-tree .kept, clear-from .kept, parse-roots .kept)) (omega (arith, clear-tree .kept, clear-from .kept, parse-roots .kept)) (omega (arith, clear-tree .kept, clear-from .kept, parse-roots .kept)) _ _ _ _ _ (clear-tree2 .ensures .0) (clear-tree2 .ensures .1) (clear-tree2 .ensures .2) (clear-tree2 .ensures .3) (cleared-all (args .diagnostics .now) (clear-from .ensures)) (sym (going .ensures) ∙ if2 .left)
+    let get-used2 = c .before .before .before .before .before .before .before .before .before .before .before .get-used2 in
+    let error = c .error in
+    let args = c .before .before .before .before .before .before .before .before .before .before .before .before .before .before .before .before .before .before .before .before .before .before .before .before .before .before .before .before .before .before .before .before .before .before .before .before .before .before .before .before .before .before .before .before .before .before .before .before .before .before .before .before .before .before .before .before .before .before .before .args in
+    let refusal = c .before .before .before .before .before .before .before .before .before .before .before .before .before .before .before .before .before .before .before .before .before .before .before .before .before .before .before .before .before .before .before .before .before .before .before .before .before .before .before .before .before .before .before .before .before .before .before .before .before .before .before .before .refusal in
+    let if1 = c .before .before .before .before .before .before .before .before .before .before .before .before .before .before .before .before .before .before .before .before .before .before .before .before .before .before .before .before .before .before .before .before .before .before .before .before .before .before .before .before .before .before .before .before .before .before .before .before .before .before .before .if1 in
+    let parse-roots = c .before .before .before .before .before .before .before .before .before .before .before .before .before .before .before .before .before .before .before .before .before .before .before .before .before .before .before .before .parse-roots in
+    let clear-tree = c .before .before .before .before .before .before .before .before .before .before .before .before .before .before .before .before .before .before .before .before .before .before .before .before .before .before .before .before .before .before .before .before .before .before .before .before .before .before .before .before .before .before .before .before .before .before .clear-tree in
+    let clear-from = c .before .before .before .before .before .before .before .before .before .before .before .before .before .before .before .before .before .before .before .before .before .before .before .before .before .before .before .before .before .before .before .before .before .before .before .before .clear-from in
+    let clear-left = c .before .before .before .before .before .before .before .before .before .before .clear-left in
+    let if2 = c .before .before .before .before .before .before .before .before .before .before .before .before .before .before .before .before .before .if2 in
+    let going = c .before .before .before .before .before .before .before .before .before .before .before .before .before .before .before .before .before .before .going in
+    strict-error (args .script .now) (args .nodes .now) (args .types .now) (args .lists .now) (args .roots .now) (args .diagnostics .now) _ _ _ _ _ (accepted (parse stageOne) _ _ _ (refusal .ensures) (if1 .left)) (parse-roots .ensures) (omega (arith, clear-tree .kept, clear-from .kept, parse-roots .kept)) (omega (arith, clear-tree .kept, clear-from .kept, parse-roots .kept)) (omega (arith, clear-tree .kept, clear-from .kept, parse-roots .kept)) (omega (arith, clear-tree .kept, clear-from .kept, parse-roots .kept)) _ _ _ _ _ (left-cleared (get-used2 .ensures) (clear-left .ensures .0) (clear-left .ensures .1) (clear-left .ensures .2)) (clear-left .ensures .3) (cleared-all (args .diagnostics .now) (clear-from .ensures)) (sym (going .ensures) ∙ if2 .left) (error .ensures)
 
 same-length : tie.Need-same-length
 same-length c =
-    let clear-tree = c .before .before .before .before .before .before .before .before .before .before .before .before .before .before .before .before .before .before .before .before .before .before .before .before .before .before .before .before .before .clear-tree in
-    let clear-from = c .before .before .before .before .before .before .before .before .before .before .before .before .before .before .before .before .before .before .before .clear-from in
-    let parse-roots = c .before .before .before .before .before .before .before .before .before .before .before .before .parse-roots in
+    let clear-tree = c .before .before .before .before .before .before .before .before .before .before .before .before .before .before .before .before .before .before .before .before .before .before .before .before .before .before .before .before .before .before .before .clear-tree in
+    let clear-from = c .before .before .before .before .before .before .before .before .before .before .before .before .before .before .before .before .before .before .before .before .before .clear-from in
+    let parse-roots = c .before .before .before .before .before .before .before .before .before .before .before .before .before .parse-roots in
     omega (arith, clear-tree .kept, clear-from .kept, parse-roots .kept)
 
 same-length-2 : tie.Need-same-length-2
 same-length-2 c =
-    let clear-tree = c .before .before .before .before .before .before .before .before .before .before .before .before .before .before .before .before .before .before .before .before .before .before .before .before .before .before .before .before .before .clear-tree in
-    let clear-from = c .before .before .before .before .before .before .before .before .before .before .before .before .before .before .before .before .before .before .before .clear-from in
-    let parse-roots = c .before .before .before .before .before .before .before .before .before .before .before .before .parse-roots in
+    let clear-tree = c .before .before .before .before .before .before .before .before .before .before .before .before .before .before .before .before .before .before .before .before .before .before .before .before .before .before .before .before .before .before .before .clear-tree in
+    let clear-from = c .before .before .before .before .before .before .before .before .before .before .before .before .before .before .before .before .before .before .before .before .before .clear-from in
+    let parse-roots = c .before .before .before .before .before .before .before .before .before .before .before .before .before .parse-roots in
     omega (arith, clear-tree .kept, clear-from .kept, parse-roots .kept)
 
 same-length-3 : tie.Need-same-length-3
 same-length-3 c =
-    let clear-tree = c .before .before .before .before .before .before .before .before .before .before .before .before .before .before .before .before .before .before .before .before .before .before .before .before .before .before .before .before .before .clear-tree in
-    let clear-from = c .before .before .before .before .before .before .before .before .before .before .before .before .before .before .before .before .before .before .before .clear-from in
-    let parse-roots = c .before .before .before .before .before .before .before .before .before .before .before .before .parse-roots in
+    let clear-tree = c .before .before .before .before .before .before .before .before .before .before .before .before .before .before .before .before .before .before .before .before .before .before .before .before .before .before .before .before .before .before .before .clear-tree in
+    let clear-from = c .before .before .before .before .before .before .before .before .before .before .before .before .before .before .before .before .before .before .before .before .before .clear-from in
+    let parse-roots = c .before .before .before .before .before .before .before .before .before .before .before .before .before .parse-roots in
     omega (arith, clear-tree .kept, clear-from .kept, parse-roots .kept)
 
 same-length-4 : tie.Need-same-length-4
 same-length-4 c =
-    let clear-tree = c .before .before .before .before .before .before .before .before .before .before .before .before .before .before .before .before .before .before .before .before .before .before .before .before .before .before .before .before .before .clear-tree in
-    let clear-from = c .before .before .before .before .before .before .before .before .before .before .before .before .before .before .before .before .before .before .before .clear-from in
-    let parse-roots = c .before .before .before .before .before .before .before .before .before .before .before .before .parse-roots in
+    let clear-tree = c .before .before .before .before .before .before .before .before .before .before .before .before .before .before .before .before .before .before .before .before .before .before .before .before .before .before .before .before .before .before .before .clear-tree in
+    let clear-from = c .before .before .before .before .before .before .before .before .before .before .before .before .before .before .before .before .before .before .before .before .before .clear-from in
+    let parse-roots = c .before .before .before .before .before .before .before .before .before .before .before .before .before .parse-roots in
     omega (arith, clear-tree .kept, clear-from .kept, parse-roots .kept)
 
 same-length-5 : tie.Need-same-length-5
 same-length-5 c =
-    let clear-tree = c .before .before .before .before .before .before .before .before .before .before .before .before .before .before .before .before .before .before .before .before .before .before .before .before .before .before .before .before .before .clear-tree in
-    let clear-from = c .before .before .before .before .before .before .before .before .before .before .before .before .before .before .before .before .before .before .before .clear-from in
-    let parse-roots = c .before .before .before .before .before .before .before .before .before .before .before .before .parse-roots in
+    let clear-tree = c .before .before .before .before .before .before .before .before .before .before .before .before .before .before .before .before .before .before .before .before .before .before .before .before .before .before .before .before .before .before .before .clear-tree in
+    let clear-from = c .before .before .before .before .before .before .before .before .before .before .before .before .before .before .before .before .before .before .before .before .before .clear-from in
+    let parse-roots = c .before .before .before .before .before .before .before .before .before .before .before .before .before .parse-roots in
     omega (arith, clear-tree .kept, clear-from .kept, parse-roots .kept)
 
 same-length-6 : tie.Need-same-length-6
 same-length-6 c =
-    let clear-tree = c .before .before .before .before .before .before .before .before .before .before .before .before .before .before .before .before .before .before .before .before .before .before .before .before .before .before .before .before .before .before .before .before .before .before .before .before .before .before .before .before .before .before .before .clear-tree in
-    let clear-from = c .before .before .before .before .before .before .before .before .before .before .before .before .before .before .before .before .before .before .before .before .before .before .before .before .before .before .before .before .before .before .before .before .before .clear-from in
-    let parse-roots = c .before .before .before .before .before .before .before .before .before .before .before .before .before .before .before .before .before .before .before .before .before .before .before .before .before .before .parse-roots in
-    let clear-tree2 = c .before .before .before .before .before .before .before .before .before .clear-tree2 in
-    omega (arith, clear-tree .kept, clear-from .kept, parse-roots .kept, clear-tree2 .kept)
+    let clear-tree = c .before .before .before .before .before .before .before .before .before .before .before .before .before .before .before .before .before .before .before .before .before .before .before .before .before .before .before .before .before .before .before .before .before .before .before .before .before .before .before .before .before .before .before .before .before .before .clear-tree in
+    let clear-from = c .before .before .before .before .before .before .before .before .before .before .before .before .before .before .before .before .before .before .before .before .before .before .before .before .before .before .before .before .before .before .before .before .before .before .before .before .clear-from in
+    let parse-roots = c .before .before .before .before .before .before .before .before .before .before .before .before .before .before .before .before .before .before .before .before .before .before .before .before .before .before .before .before .parse-roots in
+    let clear-left = c .before .before .before .before .before .before .before .before .before .before .clear-left in
+    omega (arith, clear-tree .kept, clear-from .kept, parse-roots .kept, clear-left .kept)
 
 same-length-7 : tie.Need-same-length-7
 same-length-7 c =
-    let clear-tree = c .before .before .before .before .before .before .before .before .before .before .before .before .before .before .before .before .before .before .before .before .before .before .before .before .before .before .before .before .before .before .before .before .before .before .before .before .before .before .before .before .before .before .before .clear-tree in
-    let clear-from = c .before .before .before .before .before .before .before .before .before .before .before .before .before .before .before .before .before .before .before .before .before .before .before .before .before .before .before .before .before .before .before .before .before .clear-from in
-    let parse-roots = c .before .before .before .before .before .before .before .before .before .before .before .before .before .before .before .before .before .before .before .before .before .before .before .before .before .before .parse-roots in
-    let clear-tree2 = c .before .before .before .before .before .before .before .before .before .clear-tree2 in
-    omega (arith, clear-tree .kept, clear-from .kept, parse-roots .kept, clear-tree2 .kept)
+    let clear-tree = c .before .before .before .before .before .before .before .before .before .before .before .before .before .before .before .before .before .before .before .before .before .before .before .before .before .before .before .before .before .before .before .before .before .before .before .before .before .before .before .before .before .before .before .before .before .before .clear-tree in
+    let clear-from = c .before .before .before .before .before .before .before .before .before .before .before .before .before .before .before .before .before .before .before .before .before .before .before .before .before .before .before .before .before .before .before .before .before .before .before .before .clear-from in
+    let parse-roots = c .before .before .before .before .before .before .before .before .before .before .before .before .before .before .before .before .before .before .before .before .before .before .before .before .before .before .before .before .parse-roots in
+    let clear-left = c .before .before .before .before .before .before .before .before .before .before .clear-left in
+    omega (arith, clear-tree .kept, clear-from .kept, parse-roots .kept, clear-left .kept)
 
 same-length-8 : tie.Need-same-length-8
 same-length-8 c =
-    let clear-tree = c .before .before .before .before .before .before .before .before .before .before .before .before .before .before .before .before .before .before .before .before .before .before .before .before .before .before .before .before .before .before .before .before .before .before .before .before .before .before .before .before .before .before .before .clear-tree in
-    let clear-from = c .before .before .before .before .before .before .before .before .before .before .before .before .before .before .before .before .before .before .before .before .before .before .before .before .before .before .before .before .before .before .before .before .before .clear-from in
-    let parse-roots = c .before .before .before .before .before .before .before .before .before .before .before .before .before .before .before .before .before .before .before .before .before .before .before .before .before .before .parse-roots in
-    let clear-tree2 = c .before .before .before .before .before .before .before .before .before .clear-tree2 in
-    omega (arith, clear-tree .kept, clear-from .kept, parse-roots .kept, clear-tree2 .kept)
+    let clear-tree = c .before .before .before .before .before .before .before .before .before .before .before .before .before .before .before .before .before .before .before .before .before .before .before .before .before .before .before .before .before .before .before .before .before .before .before .before .before .before .before .before .before .before .before .before .before .before .clear-tree in
+    let clear-from = c .before .before .before .before .before .before .before .before .before .before .before .before .before .before .before .before .before .before .before .before .before .before .before .before .before .before .before .before .before .before .before .before .before .before .before .before .clear-from in
+    let parse-roots = c .before .before .before .before .before .before .before .before .before .before .before .before .before .before .before .before .before .before .before .before .before .before .before .before .before .before .before .before .parse-roots in
+    let clear-left = c .before .before .before .before .before .before .before .before .before .before .clear-left in
+    omega (arith, clear-tree .kept, clear-from .kept, parse-roots .kept, clear-left .kept)
 
 same-length-9 : tie.Need-same-length-9
 same-length-9 c =
-    let clear-tree = c .before .before .before .before .before .before .before .before .before .before .before .before .before .before .before .before .before .before .before .before .before .before .before .before .before .before .before .before .before .before .before .before .before .before .before .before .before .before .before .before .before .before .before .clear-tree in
-    let clear-from = c .before .before .before .before .before .before .before .before .before .before .before .before .before .before .before .before .before .before .before .before .before .before .before .before .before .before .before .before .before .before .before .before .before .clear-from in
-    let parse-roots = c .before .before .before .before .before .before .before .before .before .before .before .before .before .before .before .before .before .before .before .before .before .before .before .before .before .before .parse-roots in
-    let clear-tree2 = c .before .before .before .before .before .before .before .before .before .clear-tree2 in
-    omega (arith, clear-tree .kept, clear-from .kept, parse-roots .kept, clear-tree2 .kept)
+    let clear-tree = c .before .before .before .before .before .before .before .before .before .before .before .before .before .before .before .before .before .before .before .before .before .before .before .before .before .before .before .before .before .before .before .before .before .before .before .before .before .before .before .before .before .before .before .before .before .before .clear-tree in
+    let clear-from = c .before .before .before .before .before .before .before .before .before .before .before .before .before .before .before .before .before .before .before .before .before .before .before .before .before .before .before .before .before .before .before .before .before .before .before .before .clear-from in
+    let parse-roots = c .before .before .before .before .before .before .before .before .before .before .before .before .before .before .before .before .before .before .before .before .before .before .before .before .before .before .before .before .parse-roots in
+    let clear-left = c .before .before .before .before .before .before .before .before .before .before .clear-left in
+    omega (arith, clear-tree .kept, clear-from .kept, parse-roots .kept, clear-left .kept)
 
 same-length-10 : tie.Need-same-length-10
 same-length-10 c =
-    let clear-tree = c .before .before .before .before .before .before .before .before .before .before .before .before .before .before .before .before .before .before .before .before .before .before .before .before .before .before .before .before .before .before .before .before .before .before .before .before .before .before .before .before .before .before .before .clear-tree in
-    let clear-from = c .before .before .before .before .before .before .before .before .before .before .before .before .before .before .before .before .before .before .before .before .before .before .before .before .before .before .before .before .before .before .before .before .before .clear-from in
-    let parse-roots = c .before .before .before .before .before .before .before .before .before .before .before .before .before .before .before .before .before .before .before .before .before .before .before .before .before .before .parse-roots in
-    let clear-tree2 = c .before .before .before .before .before .before .before .before .before .clear-tree2 in
-    omega (arith, clear-tree .kept, clear-from .kept, parse-roots .kept, clear-tree2 .kept)
+    let clear-tree = c .before .before .before .before .before .before .before .before .before .before .before .before .before .before .before .before .before .before .before .before .before .before .before .before .before .before .before .before .before .before .before .before .before .before .before .before .before .before .before .before .before .before .before .before .before .before .clear-tree in
+    let clear-from = c .before .before .before .before .before .before .before .before .before .before .before .before .before .before .before .before .before .before .before .before .before .before .before .before .before .before .before .before .before .before .before .before .before .before .before .before .clear-from in
+    let parse-roots = c .before .before .before .before .before .before .before .before .before .before .before .before .before .before .before .before .before .before .before .before .before .before .before .before .before .before .before .before .parse-roots in
+    let clear-left = c .before .before .before .before .before .before .before .before .before .before .clear-left in
+    omega (arith, clear-tree .kept, clear-from .kept, parse-roots .kept, clear-left .kept)
 
 pub parse-spec : {M : Type 1} → statement M
 parse-spec =
@@ -133,12 +136,15 @@ parse-spec =
     (λ c κs. search needs)
     parse-roots-requires
     (λ c κs. search needs)
+    (λ c κs. search needs)
     same-length
     same-length-2
     same-length-3
     same-length-4
     same-length-5
     returns-2
+    (λ c κs. search needs)
+    (λ c κs. search needs)
     (λ c κs. search needs)
     same-length-6
     same-length-7

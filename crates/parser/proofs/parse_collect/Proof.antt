@@ -17,117 +17,119 @@ returns c =
 
 parse-roots-collect-requires : tie.Need-parse-roots-collect-requires
 parse-roots-collect-requires c κs =
-    let args = c .before .before .before .before .before .before .before .before .before .before .before .before .before .before .before .before .before .before .before .before .before .before .before .before .before .before .before .before .before .before .args in
-    let refusal = c .before .before .before .before .before .before .before .before .before .before .before .before .before .before .before .before .before .before .before .before .before .before .before .refusal in
-    let if1 = c .before .before .before .before .before .before .before .before .before .before .before .before .before .before .before .before .before .before .before .before .before .before .if1 in
-    let clear-tree = c .before .before .before .before .before .before .before .before .before .before .before .before .before .before .before .before .before .clear-tree in
-    let clear-from = c .before .before .before .before .before .before .before .clear-from in
+    let args = c .before .before .before .before .before .before .before .before .before .before .before .before .before .before .before .before .before .before .before .before .before .before .before .before .before .before .before .before .before .before .before .args in
+    let refusal = c .before .before .before .before .before .before .before .before .before .before .before .before .before .before .before .before .before .before .before .before .before .before .before .before .refusal in
+    let if1 = c .before .before .before .before .before .before .before .before .before .before .before .before .before .before .before .before .before .before .before .before .before .before .before .if1 in
+    let clear-tree = c .before .before .before .before .before .before .before .before .before .before .before .before .before .before .before .before .before .before .clear-tree in
+    let clear-from = c .before .before .before .before .before .before .before .before .clear-from in
     (blank-of (parseCollect stageOne) (args .script .now) (args .nodes .now) (args .types .now) (args .lists .now) (args .roots .now) (args .diagnostics .now) (accepted (parseCollect stageOne) _ _ _ (refusal .ensures) (if1 .left)) (clear-tree .ensures .0) (clear-tree .ensures .1) (clear-tree .ensures .2) (clear-tree .ensures .3), blank-again (args .diagnostics .now) _ (cleared-all (args .diagnostics .now) (clear-from .ensures)), omega (arith, room-of (parseCollect stageOne) (args .script .now) (args .nodes .now) (args .types .now) (args .lists .now) (args .roots .now) (args .diagnostics .now) (accepted (parseCollect stageOne) _ _ _ (refusal .ensures) (if1 .left)), clear-from .kept))
 
 returns-2 : tie.Need-returns-2
 returns-2 c =
-    let args = c .before .before .before .before .before .before .before .before .before .before .before .before .before .before .before .before .before .before .before .before .before .before .before .before .before .before .before .before .before .before .before .before .before .before .before .before .before .before .before .before .before .before .before .before .before .args in
-    let refusal = c .before .before .before .before .before .before .before .before .before .before .before .before .before .before .before .before .before .before .before .before .before .before .before .before .before .before .before .before .before .before .before .before .before .before .before .before .before .before .refusal in
-    let if1 = c .before .before .before .before .before .before .before .before .before .before .before .before .before .before .before .before .before .before .before .before .before .before .before .before .before .before .before .before .before .before .before .before .before .before .before .before .before .if1 in
-    let parse-roots-collect = c .before .before .before .before .before .before .before .before .before .before .before .before .before .before .parse-roots-collect in
-    let clear-tree = c .before .before .before .before .before .before .before .before .before .before .before .before .before .before .before .before .before .before .before .before .before .before .before .before .before .before .before .before .before .before .before .before .clear-tree in
-    let clear-from = c .before .before .before .before .before .before .before .before .before .before .before .before .before .before .before .before .before .before .before .before .before .before .clear-from in
-    let going = c .before .going in
-    let if2 = c .if2 in
-    collect-tree (args .script .now) (args .nodes .now) (args .types .now) (args .lists .now) (args .roots .now) (args .diagnostics .now) _ _ _ _ _ _ (accepted (parseCollect stageOne) _ _ _ (refusal .ensures) (if1 .left)) (parse-roots-collect .ensures) (omega (arith, clear-tree .kept, clear-from .kept, parse-roots-collect .kept)) (omega (arith, clear-tree .kept, clear-from .kept, parse-roots-collect .kept)) (omega (arith, clear-tree .kept, clear-from .kept, parse-roots-collect .kept)) (omega (arith, clear-tree .kept, clear-from .kept, parse-roots-collect .kept)) (omega (arith, clear-tree .kept, clear-from .kept, parse-roots-collect .kept)) (sym (going .ensures) ∙ if2 .taken)
+    let get-used = c .get-used in
+    let args = c .before .before .before .before .before .before .before .before .before .before .before .before .before .before .before .before .before .before .before .before .before .before .before .before .before .before .before .before .before .before .before .before .before .before .before .before .before .before .before .before .before .before .before .before .before .before .before .args in
+    let refusal = c .before .before .before .before .before .before .before .before .before .before .before .before .before .before .before .before .before .before .before .before .before .before .before .before .before .before .before .before .before .before .before .before .before .before .before .before .before .before .before .before .refusal in
+    let if1 = c .before .before .before .before .before .before .before .before .before .before .before .before .before .before .before .before .before .before .before .before .before .before .before .before .before .before .before .before .before .before .before .before .before .before .before .before .before .before .before .if1 in
+    let parse-roots-collect = c .before .before .before .before .before .before .before .before .before .before .before .before .before .before .before .parse-roots-collect in
+    let clear-tree = c .before .before .before .before .before .before .before .before .before .before .before .before .before .before .before .before .before .before .before .before .before .before .before .before .before .before .before .before .before .before .before .before .before .before .clear-tree in
+    let clear-from = c .before .before .before .before .before .before .before .before .before .before .before .before .before .before .before .before .before .before .before .before .before .before .before .before .clear-from in
+    let going = c .before .before .before .going in
+    let if2 = c .before .before .if2 in
+    collect-tree (args .script .now) (args .nodes .now) (args .types .now) (args .lists .now) (args .roots .now) (args .diagnostics .now) _ _ _ _ _ _ (accepted (parseCollect stageOne) _ _ _ (refusal .ensures) (if1 .left)) (parse-roots-collect .ensures) (omega (arith, clear-tree .kept, clear-from .kept, parse-roots-collect .kept)) (omega (arith, clear-tree .kept, clear-from .kept, parse-roots-collect .kept)) (omega (arith, clear-tree .kept, clear-from .kept, parse-roots-collect .kept)) (omega (arith, clear-tree .kept, clear-from .kept, parse-roots-collect .kept)) (omega (arith, clear-tree .kept, clear-from .kept, parse-roots-collect .kept)) (sym (going .ensures) ∙ if2 .taken) (get-used .ensures)
 
 returns-3 : tie.Need-returns-3
 returns-3 c =
-    let args = c .before .before .before .before .before .before .before .before .before .before .before .before .before .before .before .before .before .before .before .before .before .before .before .before .before .before .before .before .before .before .before .before .before .before .before .before .before .before .before .before .before .before .before .before .before .before .before .before .before .before .before .before .before .before .before .before .before .before .before .before .before .before .before .args in
-    let refusal = c .before .before .before .before .before .before .before .before .before .before .before .before .before .before .before .before .before .before .before .before .before .before .before .before .before .before .before .before .before .before .before .before .before .before .before .before .before .before .before .before .before .before .before .before .before .before .before .before .before .before .before .before .before .before .before .before .refusal in
-    let if1 = c .before .before .before .before .before .before .before .before .before .before .before .before .before .before .before .before .before .before .before .before .before .before .before .before .before .before .before .before .before .before .before .before .before .before .before .before .before .before .before .before .before .before .before .before .before .before .before .before .before .before .before .before .before .before .before .if1 in
+    let error = c .error in
+    let args = c .before .before .before .before .before .before .before .before .before .before .before .before .before .before .before .before .before .before .before .before .before .before .before .before .before .before .before .before .before .before .before .before .before .before .before .before .before .before .before .before .before .before .before .before .before .before .before .before .before .before .before .before .before .before .before .before .before .before .before .before .before .before .before .before .args in
+    let refusal = c .before .before .before .before .before .before .before .before .before .before .before .before .before .before .before .before .before .before .before .before .before .before .before .before .before .before .before .before .before .before .before .before .before .before .before .before .before .before .before .before .before .before .before .before .before .before .before .before .before .before .before .before .before .before .before .before .before .refusal in
+    let if1 = c .before .before .before .before .before .before .before .before .before .before .before .before .before .before .before .before .before .before .before .before .before .before .before .before .before .before .before .before .before .before .before .before .before .before .before .before .before .before .before .before .before .before .before .before .before .before .before .before .before .before .before .before .before .before .before .before .if1 in
     let parse-roots-collect = c .before .before .before .before .before .before .before .before .before .before .before .before .before .before .before .before .before .before .before .before .before .before .before .before .before .before .before .before .before .before .before .before .parse-roots-collect in
-    let clear-tree = c .before .before .before .before .before .before .before .before .before .before .before .before .before .before .before .before .before .before .before .before .before .before .before .before .before .before .before .before .before .before .before .before .before .before .before .before .before .before .before .before .before .before .before .before .before .before .before .before .before .before .clear-tree in
-    let clear-from = c .before .before .before .before .before .before .before .before .before .before .before .before .before .before .before .before .before .before .before .before .before .before .before .before .before .before .before .before .before .before .before .before .before .before .before .before .before .before .before .before .clear-from in
-    let clear-tree2 = c .before .before .before .before .before .before .before .before .before .before .before .before .before .clear-tree2 in
-    let clear-from2 = c .before .before .before .clear-from2 in
-    let if2 = c .before .before .before .before .before .before .before .before .before .before .before .before .before .before .before .before .before .before .if2 in
-    let going = c .before .before .before .before .before .before .before .before .before .before .before .before .before .before .before .before .before .before .before .going in
-    collect-error (args .script .now) (args .nodes .now) (args .types .now) (args .lists .now) (args .roots .now) (args .diagnostics .now) _ _ _ _ _ _ (accepted (parseCollect stageOne) _ _ _ (refusal .ensures) (if1 .left)) (parse-roots-collect .ensures) (omega (arith, clear-tree .kept, clear-from .kept, parse-roots-collect .kept)) (omega (arith, clear-tree .kept, clear-from .kept, parse-roots-collect .kept)) (omega (arith, clear-tree .kept, clear-from .kept, parse-roots-collect .kept)) (omega (arith, clear-tree .kept, clear-from .kept, parse-roots-collect .kept)) (omega (arith, clear-tree .kept, clear-from .kept, parse-roots-collect .kept)) _ _ _ _ _ (clear-tree2 .ensures .0) (clear-tree2 .ensures .1) (clear-tree2 .ensures .2) (clear-tree2 .ensures .3) (clear-from2 .ensures) (sym (going .ensures) ∙ if2 .left)
+    let clear-tree = c .before .before .before .before .before .before .before .before .before .before .before .before .before .before .before .before .before .before .before .before .before .before .before .before .before .before .before .before .before .before .before .before .before .before .before .before .before .before .before .before .before .before .before .before .before .before .before .before .before .before .before .clear-tree in
+    let clear-from = c .before .before .before .before .before .before .before .before .before .before .before .before .before .before .before .before .before .before .before .before .before .before .before .before .before .before .before .before .before .before .before .before .before .before .before .before .before .before .before .before .before .clear-from in
+    let clear-tree2 = c .before .before .before .before .before .before .before .before .before .before .before .before .before .before .clear-tree2 in
+    let clear-from2 = c .before .before .before .before .clear-from2 in
+    let if2 = c .before .before .before .before .before .before .before .before .before .before .before .before .before .before .before .before .before .before .before .if2 in
+    let going = c .before .before .before .before .before .before .before .before .before .before .before .before .before .before .before .before .before .before .before .before .going in
+    collect-error (args .script .now) (args .nodes .now) (args .types .now) (args .lists .now) (args .roots .now) (args .diagnostics .now) _ _ _ _ _ _ (accepted (parseCollect stageOne) _ _ _ (refusal .ensures) (if1 .left)) (parse-roots-collect .ensures) (omega (arith, clear-tree .kept, clear-from .kept, parse-roots-collect .kept)) (omega (arith, clear-tree .kept, clear-from .kept, parse-roots-collect .kept)) (omega (arith, clear-tree .kept, clear-from .kept, parse-roots-collect .kept)) (omega (arith, clear-tree .kept, clear-from .kept, parse-roots-collect .kept)) (omega (arith, clear-tree .kept, clear-from .kept, parse-roots-collect .kept)) _ _ _ _ _ (clear-tree2 .ensures .0) (clear-tree2 .ensures .1) (clear-tree2 .ensures .2) (clear-tree2 .ensures .3) (clear-from2 .ensures) (sym (going .ensures) ∙ if2 .left) (error .ensures)
 
 same-length : tie.Need-same-length
 same-length c =
-    let clear-tree = c .before .before .before .before .before .before .before .before .before .before .before .before .before .before .before .before .before .before .before .before .before .before .before .before .before .before .before .before .before .before .before .before .clear-tree in
-    let clear-from = c .before .before .before .before .before .before .before .before .before .before .before .before .before .before .before .before .before .before .before .before .before .before .clear-from in
-    let parse-roots-collect = c .before .before .before .before .before .before .before .before .before .before .before .before .before .before .parse-roots-collect in
+    let clear-tree = c .before .before .before .before .before .before .before .before .before .before .before .before .before .before .before .before .before .before .before .before .before .before .before .before .before .before .before .before .before .before .before .before .before .before .clear-tree in
+    let clear-from = c .before .before .before .before .before .before .before .before .before .before .before .before .before .before .before .before .before .before .before .before .before .before .before .before .clear-from in
+    let parse-roots-collect = c .before .before .before .before .before .before .before .before .before .before .before .before .before .before .before .parse-roots-collect in
     omega (arith, clear-tree .kept, clear-from .kept, parse-roots-collect .kept)
 
 same-length-2 : tie.Need-same-length-2
 same-length-2 c =
-    let clear-tree = c .before .before .before .before .before .before .before .before .before .before .before .before .before .before .before .before .before .before .before .before .before .before .before .before .before .before .before .before .before .before .before .before .clear-tree in
-    let clear-from = c .before .before .before .before .before .before .before .before .before .before .before .before .before .before .before .before .before .before .before .before .before .before .clear-from in
-    let parse-roots-collect = c .before .before .before .before .before .before .before .before .before .before .before .before .before .before .parse-roots-collect in
+    let clear-tree = c .before .before .before .before .before .before .before .before .before .before .before .before .before .before .before .before .before .before .before .before .before .before .before .before .before .before .before .before .before .before .before .before .before .before .clear-tree in
+    let clear-from = c .before .before .before .before .before .before .before .before .before .before .before .before .before .before .before .before .before .before .before .before .before .before .before .before .clear-from in
+    let parse-roots-collect = c .before .before .before .before .before .before .before .before .before .before .before .before .before .before .before .parse-roots-collect in
     omega (arith, clear-tree .kept, clear-from .kept, parse-roots-collect .kept)
 
 same-length-3 : tie.Need-same-length-3
 same-length-3 c =
-    let clear-tree = c .before .before .before .before .before .before .before .before .before .before .before .before .before .before .before .before .before .before .before .before .before .before .before .before .before .before .before .before .before .before .before .before .clear-tree in
-    let clear-from = c .before .before .before .before .before .before .before .before .before .before .before .before .before .before .before .before .before .before .before .before .before .before .clear-from in
-    let parse-roots-collect = c .before .before .before .before .before .before .before .before .before .before .before .before .before .before .parse-roots-collect in
+    let clear-tree = c .before .before .before .before .before .before .before .before .before .before .before .before .before .before .before .before .before .before .before .before .before .before .before .before .before .before .before .before .before .before .before .before .before .before .clear-tree in
+    let clear-from = c .before .before .before .before .before .before .before .before .before .before .before .before .before .before .before .before .before .before .before .before .before .before .before .before .clear-from in
+    let parse-roots-collect = c .before .before .before .before .before .before .before .before .before .before .before .before .before .before .before .parse-roots-collect in
     omega (arith, clear-tree .kept, clear-from .kept, parse-roots-collect .kept)
 
 same-length-4 : tie.Need-same-length-4
 same-length-4 c =
-    let clear-tree = c .before .before .before .before .before .before .before .before .before .before .before .before .before .before .before .before .before .before .before .before .before .before .before .before .before .before .before .before .before .before .before .before .clear-tree in
-    let clear-from = c .before .before .before .before .before .before .before .before .before .before .before .before .before .before .before .before .before .before .before .before .before .before .clear-from in
-    let parse-roots-collect = c .before .before .before .before .before .before .before .before .before .before .before .before .before .before .parse-roots-collect in
+    let clear-tree = c .before .before .before .before .before .before .before .before .before .before .before .before .before .before .before .before .before .before .before .before .before .before .before .before .before .before .before .before .before .before .before .before .before .before .clear-tree in
+    let clear-from = c .before .before .before .before .before .before .before .before .before .before .before .before .before .before .before .before .before .before .before .before .before .before .before .before .clear-from in
+    let parse-roots-collect = c .before .before .before .before .before .before .before .before .before .before .before .before .before .before .before .parse-roots-collect in
     omega (arith, clear-tree .kept, clear-from .kept, parse-roots-collect .kept)
 
 same-length-5 : tie.Need-same-length-5
 same-length-5 c =
-    let clear-tree = c .before .before .before .before .before .before .before .before .before .before .before .before .before .before .before .before .before .before .before .before .before .before .before .before .before .before .before .before .before .before .before .before .clear-tree in
-    let clear-from = c .before .before .before .before .before .before .before .before .before .before .before .before .before .before .before .before .before .before .before .before .before .before .clear-from in
-    let parse-roots-collect = c .before .before .before .before .before .before .before .before .before .before .before .before .before .before .parse-roots-collect in
+    let clear-tree = c .before .before .before .before .before .before .before .before .before .before .before .before .before .before .before .before .before .before .before .before .before .before .before .before .before .before .before .before .before .before .before .before .before .before .clear-tree in
+    let clear-from = c .before .before .before .before .before .before .before .before .before .before .before .before .before .before .before .before .before .before .before .before .before .before .before .before .clear-from in
+    let parse-roots-collect = c .before .before .before .before .before .before .before .before .before .before .before .before .before .before .before .parse-roots-collect in
     omega (arith, clear-tree .kept, clear-from .kept, parse-roots-collect .kept)
 
 same-length-6 : tie.Need-same-length-6
 same-length-6 c =
-    let clear-tree = c .before .before .before .before .before .before .before .before .before .before .before .before .before .before .before .before .before .before .before .before .before .before .before .before .before .before .before .before .before .before .before .before .before .before .before .before .before .before .before .before .before .before .before .before .before .before .before .before .before .before .clear-tree in
-    let clear-from = c .before .before .before .before .before .before .before .before .before .before .before .before .before .before .before .before .before .before .before .before .before .before .before .before .before .before .before .before .before .before .before .before .before .before .before .before .before .before .before .before .clear-from in
+    let clear-tree = c .before .before .before .before .before .before .before .before .before .before .before .before .before .before .before .before .before .before .before .before .before .before .before .before .before .before .before .before .before .before .before .before .before .before .before .before .before .before .before .before .before .before .before .before .before .before .before .before .before .before .before .clear-tree in
+    let clear-from = c .before .before .before .before .before .before .before .before .before .before .before .before .before .before .before .before .before .before .before .before .before .before .before .before .before .before .before .before .before .before .before .before .before .before .before .before .before .before .before .before .before .clear-from in
     let parse-roots-collect = c .before .before .before .before .before .before .before .before .before .before .before .before .before .before .before .before .before .before .before .before .before .before .before .before .before .before .before .before .before .before .before .before .parse-roots-collect in
-    let clear-tree2 = c .before .before .before .before .before .before .before .before .before .before .before .before .before .clear-tree2 in
-    let clear-from2 = c .before .before .before .clear-from2 in
+    let clear-tree2 = c .before .before .before .before .before .before .before .before .before .before .before .before .before .before .clear-tree2 in
+    let clear-from2 = c .before .before .before .before .clear-from2 in
     omega (arith, clear-tree .kept, clear-from .kept, parse-roots-collect .kept, clear-tree2 .kept, clear-from2 .kept)
 
 same-length-7 : tie.Need-same-length-7
 same-length-7 c =
-    let clear-tree = c .before .before .before .before .before .before .before .before .before .before .before .before .before .before .before .before .before .before .before .before .before .before .before .before .before .before .before .before .before .before .before .before .before .before .before .before .before .before .before .before .before .before .before .before .before .before .before .before .before .before .clear-tree in
-    let clear-from = c .before .before .before .before .before .before .before .before .before .before .before .before .before .before .before .before .before .before .before .before .before .before .before .before .before .before .before .before .before .before .before .before .before .before .before .before .before .before .before .before .clear-from in
+    let clear-tree = c .before .before .before .before .before .before .before .before .before .before .before .before .before .before .before .before .before .before .before .before .before .before .before .before .before .before .before .before .before .before .before .before .before .before .before .before .before .before .before .before .before .before .before .before .before .before .before .before .before .before .before .clear-tree in
+    let clear-from = c .before .before .before .before .before .before .before .before .before .before .before .before .before .before .before .before .before .before .before .before .before .before .before .before .before .before .before .before .before .before .before .before .before .before .before .before .before .before .before .before .before .clear-from in
     let parse-roots-collect = c .before .before .before .before .before .before .before .before .before .before .before .before .before .before .before .before .before .before .before .before .before .before .before .before .before .before .before .before .before .before .before .before .parse-roots-collect in
-    let clear-tree2 = c .before .before .before .before .before .before .before .before .before .before .before .before .before .clear-tree2 in
-    let clear-from2 = c .before .before .before .clear-from2 in
+    let clear-tree2 = c .before .before .before .before .before .before .before .before .before .before .before .before .before .before .clear-tree2 in
+    let clear-from2 = c .before .before .before .before .clear-from2 in
     omega (arith, clear-tree .kept, clear-from .kept, parse-roots-collect .kept, clear-tree2 .kept, clear-from2 .kept)
 
 same-length-8 : tie.Need-same-length-8
 same-length-8 c =
-    let clear-tree = c .before .before .before .before .before .before .before .before .before .before .before .before .before .before .before .before .before .before .before .before .before .before .before .before .before .before .before .before .before .before .before .before .before .before .before .before .before .before .before .before .before .before .before .before .before .before .before .before .before .before .clear-tree in
-    let clear-from = c .before .before .before .before .before .before .before .before .before .before .before .before .before .before .before .before .before .before .before .before .before .before .before .before .before .before .before .before .before .before .before .before .before .before .before .before .before .before .before .before .clear-from in
+    let clear-tree = c .before .before .before .before .before .before .before .before .before .before .before .before .before .before .before .before .before .before .before .before .before .before .before .before .before .before .before .before .before .before .before .before .before .before .before .before .before .before .before .before .before .before .before .before .before .before .before .before .before .before .before .clear-tree in
+    let clear-from = c .before .before .before .before .before .before .before .before .before .before .before .before .before .before .before .before .before .before .before .before .before .before .before .before .before .before .before .before .before .before .before .before .before .before .before .before .before .before .before .before .before .clear-from in
     let parse-roots-collect = c .before .before .before .before .before .before .before .before .before .before .before .before .before .before .before .before .before .before .before .before .before .before .before .before .before .before .before .before .before .before .before .before .parse-roots-collect in
-    let clear-tree2 = c .before .before .before .before .before .before .before .before .before .before .before .before .before .clear-tree2 in
-    let clear-from2 = c .before .before .before .clear-from2 in
+    let clear-tree2 = c .before .before .before .before .before .before .before .before .before .before .before .before .before .before .clear-tree2 in
+    let clear-from2 = c .before .before .before .before .clear-from2 in
     omega (arith, clear-tree .kept, clear-from .kept, parse-roots-collect .kept, clear-tree2 .kept, clear-from2 .kept)
 
 same-length-9 : tie.Need-same-length-9
 same-length-9 c =
-    let clear-tree = c .before .before .before .before .before .before .before .before .before .before .before .before .before .before .before .before .before .before .before .before .before .before .before .before .before .before .before .before .before .before .before .before .before .before .before .before .before .before .before .before .before .before .before .before .before .before .before .before .before .before .clear-tree in
-    let clear-from = c .before .before .before .before .before .before .before .before .before .before .before .before .before .before .before .before .before .before .before .before .before .before .before .before .before .before .before .before .before .before .before .before .before .before .before .before .before .before .before .before .clear-from in
+    let clear-tree = c .before .before .before .before .before .before .before .before .before .before .before .before .before .before .before .before .before .before .before .before .before .before .before .before .before .before .before .before .before .before .before .before .before .before .before .before .before .before .before .before .before .before .before .before .before .before .before .before .before .before .before .clear-tree in
+    let clear-from = c .before .before .before .before .before .before .before .before .before .before .before .before .before .before .before .before .before .before .before .before .before .before .before .before .before .before .before .before .before .before .before .before .before .before .before .before .before .before .before .before .before .clear-from in
     let parse-roots-collect = c .before .before .before .before .before .before .before .before .before .before .before .before .before .before .before .before .before .before .before .before .before .before .before .before .before .before .before .before .before .before .before .before .parse-roots-collect in
-    let clear-tree2 = c .before .before .before .before .before .before .before .before .before .before .before .before .before .clear-tree2 in
-    let clear-from2 = c .before .before .before .clear-from2 in
+    let clear-tree2 = c .before .before .before .before .before .before .before .before .before .before .before .before .before .before .clear-tree2 in
+    let clear-from2 = c .before .before .before .before .clear-from2 in
     omega (arith, clear-tree .kept, clear-from .kept, parse-roots-collect .kept, clear-tree2 .kept, clear-from2 .kept)
 
 same-length-10 : tie.Need-same-length-10
 same-length-10 c =
-    let clear-tree = c .before .before .before .before .before .before .before .before .before .before .before .before .before .before .before .before .before .before .before .before .before .before .before .before .before .before .before .before .before .before .before .before .before .before .before .before .before .before .before .before .before .before .before .before .before .before .before .before .before .before .clear-tree in
-    let clear-from = c .before .before .before .before .before .before .before .before .before .before .before .before .before .before .before .before .before .before .before .before .before .before .before .before .before .before .before .before .before .before .before .before .before .before .before .before .before .before .before .before .clear-from in
+    let clear-tree = c .before .before .before .before .before .before .before .before .before .before .before .before .before .before .before .before .before .before .before .before .before .before .before .before .before .before .before .before .before .before .before .before .before .before .before .before .before .before .before .before .before .before .before .before .before .before .before .before .before .before .before .clear-tree in
+    let clear-from = c .before .before .before .before .before .before .before .before .before .before .before .before .before .before .before .before .before .before .before .before .before .before .before .before .before .before .before .before .before .before .before .before .before .before .before .before .before .before .before .before .before .clear-from in
     let parse-roots-collect = c .before .before .before .before .before .before .before .before .before .before .before .before .before .before .before .before .before .before .before .before .before .before .before .before .before .before .before .before .before .before .before .before .parse-roots-collect in
-    let clear-tree2 = c .before .before .before .before .before .before .before .before .before .before .before .before .before .clear-tree2 in
-    let clear-from2 = c .before .before .before .clear-from2 in
+    let clear-tree2 = c .before .before .before .before .before .before .before .before .before .before .before .before .before .before .clear-tree2 in
+    let clear-from2 = c .before .before .before .before .clear-from2 in
     omega (arith, clear-tree .kept, clear-from .kept, parse-roots-collect .kept, clear-tree2 .kept, clear-from2 .kept)
 
 pub parse-collect-spec : {M : Type 1} → statement M
@@ -140,12 +142,14 @@ parse-collect-spec =
     (λ c κs. search needs)
     parse-roots-collect-requires
     (λ c κs. search needs)
+    (λ c κs. search needs)
     same-length
     same-length-2
     same-length-3
     same-length-4
     same-length-5
     returns-2
+    (λ c κs. search needs)
     (λ c κs. search needs)
     (λ c κs. search needs)
     same-length-6

@@ -1,5 +1,7 @@
 -- `parser::parse_roots_collect` meets its contract.
 use borrow.Author.Needs.{needs}
+use Rattle.parser.specs.Collect.{collected}
+use Rattle.parser_base.specs.Represents.{parserOf}
 use native.Mathlib.Omega.{arith}
 use mathlib.Core.Path.{_≡_, refl, sym, _∙_}
 use borrow.Author.Tests.{not-true, not-false}
@@ -9,60 +11,61 @@ use Rattle.parser.proofs.parse_roots_collect.Statement.{statement}
 use Rattle.parser.proofs.parse_roots_collect.Tie as tie
 
 abbrev Inv-loop : tie.InvT-loop
-Inv-loop script nodes₀ types₀ lists₀ roots₀ diagnostics₀ c₀ nodes types lists roots diagnostics c =
-    (length nodes ≡ length nodes₀) × (length types ≡ length types₀) × (length lists ≡ length lists₀) × (length roots ≡ length roots₀) × (length diagnostics ≡ length diagnostics₀) × Progress script nodes types lists roots diagnostics c
+Inv-loop script nodes₀ types₀ lists₀ roots₀ diagnostics₀ p₀ c₀ nodes types lists roots diagnostics p c =
+    (length nodes ≡ length nodes₀) × (length types ≡ length types₀) × (length lists ≡ length lists₀) × (length roots ≡ length roots₀) × (length diagnostics ≡ length diagnostics₀) × Progress script nodes types lists roots diagnostics (collected (parserOf p) c)
 
 abbrev μ-loop : tie.MeasureT-loop
-μ-loop script nodes₀ types₀ lists₀ roots₀ diagnostics₀ c₀ nodes types lists roots diagnostics c = toGo script nodes types lists c
+μ-loop script nodes₀ types₀ lists₀ roots₀ diagnostics₀ p₀ c₀ nodes types lists roots diagnostics p c = toGo script nodes types lists (collected (parserOf p) c)
 
 loop-holds : tie.Need-loop-holds Inv-loop μ-loop
 loop-holds c =
-    let pre = c .before .before .before .before .before .before .before .pre in
+    let pre = c .before .before .before .before .before .before .before .before .pre in
     let first = c .first in
     (refl, refl, refl, refl, refl, start _ _ (pre .0) (first .ensures) (pre .1))
 
 collect-root-requires : tie.Need-collect-root-requires Inv-loop μ-loop
 collect-root-requires c κs =
-    let wants = c .before .before .before .before .before .before .wants in
-    let if1 = c .before .before .before .before .before .if1 in
-    sym (wants .ensures) ∙ if1 .taken
+    let member-follows = c .before .before .before .before .before .before .before .member-follows in
+    let if1 = c .before .before .before .before .before .before .if1 in
+    sym (member-follows .ensures) ∙ if1 .taken
 
 loop-less : tie.Need-loop-less Inv-loop μ-loop
 loop-less c =
-    let wants = c .before .before .before .before .before .before .before .before .before .before .before .before .before .before .before .before .before .wants in
-    let if1 = c .before .before .before .before .before .before .before .before .before .before .before .before .before .before .before .before .if1 in
-    let pre = c .before .before .before .before .before .before .before .before .before .before .before .before .before .before .before .before .before .before .before .before .before .before .before .before .before .before .pre in
-    let loop = c .before .before .before .before .before .before .before .before .before .before .before .before .before .before .before .before .before .before .loop in
+    let member-follows = c .before .before .before .before .before .before .before .before .before .before .before .before .before .before .before .before .before .before .member-follows in
+    let if1 = c .before .before .before .before .before .before .before .before .before .before .before .before .before .before .before .before .before .if1 in
+    let pre = c .before .before .before .before .before .before .before .before .before .before .before .before .before .before .before .before .before .before .before .before .before .before .before .before .before .before .before .before .before .pre in
+    let loop = c .before .before .before .before .before .before .before .before .before .before .before .before .before .before .before .before .before .before .before .before .loop in
     let collect-root = c .before .before .before .before .before .before .before .before .before .before .collect-root in
-    turn _ (sym (wants .ensures) ∙ if1 .taken) (omega (arith, pre .0 .roots, loop .inv .3)) (omega (arith, pre .2, loop .inv .4)) (loop .inv .5) (collect-root .ensures) .less
+    turn _ (sym (member-follows .ensures) ∙ if1 .taken) (omega (arith, pre .0 .roots, loop .inv .3)) (omega (arith, pre .2, loop .inv .4)) (loop .inv .5) (collect-root .ensures) .less
 
 loop-again : tie.Need-loop-again Inv-loop μ-loop
 loop-again c =
-    let wants = c .before .before .before .before .before .before .before .before .before .before .before .before .before .before .before .before .before .wants in
-    let if1 = c .before .before .before .before .before .before .before .before .before .before .before .before .before .before .before .before .if1 in
-    let pre = c .before .before .before .before .before .before .before .before .before .before .before .before .before .before .before .before .before .before .before .before .before .before .before .before .before .before .pre in
-    let loop = c .before .before .before .before .before .before .before .before .before .before .before .before .before .before .before .before .before .before .loop in
+    let member-follows = c .before .before .before .before .before .before .before .before .before .before .before .before .before .before .before .before .before .before .member-follows in
+    let if1 = c .before .before .before .before .before .before .before .before .before .before .before .before .before .before .before .before .before .if1 in
+    let pre = c .before .before .before .before .before .before .before .before .before .before .before .before .before .before .before .before .before .before .before .before .before .before .before .before .before .before .before .before .before .pre in
+    let loop = c .before .before .before .before .before .before .before .before .before .before .before .before .before .before .before .before .before .before .before .before .loop in
     let collect-root = c .before .before .before .before .before .before .before .before .before .before .collect-root in
-    (omega arith, omega arith, omega arith, omega arith, omega arith, turn _ (sym (wants .ensures) ∙ if1 .taken) (omega (arith, pre .0 .roots, loop .inv .3)) (omega (arith, pre .2, loop .inv .4)) (loop .inv .5) (collect-root .ensures) .progress)
+    (omega arith, omega arith, omega arith, omega arith, omega arith, turn _ (sym (member-follows .ensures) ∙ if1 .taken) (omega (arith, pre .0 .roots, loop .inv .3)) (omega (arith, pre .2, loop .inv .4)) (loop .inv .5) (collect-root .ensures) .progress)
 
 returns : tie.Need-returns Inv-loop μ-loop
 returns c =
     let going = c .before .going in
     let if2 = c .if2 in
-    let loop = c .before .before .before .before .before .loop in
+    let loop = c .before .before .before .before .before .before .loop in
     ended-by _ (sym (going .ensures) ∙ not-true _ (if2 .taken)) (loop .inv .5)
 
 returns-2 : tie.Need-returns-2 Inv-loop μ-loop
 returns-2 c =
-    let wants = c .before .before .before .before .before .before .before .before .before .before .before .before .wants in
-    let if1 = c .before .before .before .before .before .before .before .before .before .before .before .if1 in
-    let going = c .before .before .before .before .before .before .before .before .before .going in
-    let if2 = c .before .before .before .before .before .before .before .before .if2 in
-    let pre = c .before .before .before .before .before .before .before .before .before .before .before .before .before .before .before .before .before .before .before .before .before .pre in
-    let loop = c .before .before .before .before .before .before .before .before .before .before .before .before .before .loop in
-    let push-faults = c .before .before .before .before .before .before .push-faults in
+    let member-follows = c .before .before .before .before .before .before .before .before .before .before .before .before .before .before .before .member-follows in
+    let if1 = c .before .before .before .before .before .before .before .before .before .before .before .before .before .before .if1 in
+    let going = c .before .before .before .before .before .before .before .before .before .before .before .before .going in
+    let if2 = c .before .before .before .before .before .before .before .before .before .before .before .if2 in
+    let pre = c .before .before .before .before .before .before .before .before .before .before .before .before .before .before .before .before .before .before .before .before .before .before .before .before .before .before .pre in
+    let loop = c .before .before .before .before .before .before .before .before .before .before .before .before .before .before .before .before .before .loop in
+    let position = c .before .before .before .before .before .before .before .before .before .position in
+    let push-faults = c .before .before .before .before .before .before .before .push-faults in
     let drop-docs = c .before .before .drop-docs in
-    ends _ (sym (wants .ensures) ∙ if1 .left) (sym (going .ensures) ∙ not-false _ (if2 .left)) (omega (arith, pre .2, loop .inv .4)) (loop .inv .5) (push-faults .ensures) (omega (arith, push-faults .kept)) (drop-docs .ensures .0 _ _ _)
+    ends _ (position .ensures) (sym (member-follows .ensures) ∙ if1 .left) (sym (going .ensures) ∙ not-false _ (if2 .left)) (omega (arith, pre .2, loop .inv .4)) (loop .inv .5) (push-faults .ensures) (omega (arith, push-faults .kept)) (drop-docs .ensures .0 _ _ _)
 
 pub parse-roots-collect-spec : {M : Type 1} → statement M
 parse-roots-collect-spec =
@@ -85,9 +88,10 @@ parse-roots-collect-spec =
     returns
     (λ c κs. search needs)
     (λ c κs. search needs)
-    (λ c. search needs)
-    (λ c. search needs)
-    (λ c. search needs)
-    (λ c. search needs)
-    (λ c. search needs)
+    (λ c κs. search needs)
+    (λ c. omega (arith, c .before .before .drop-docs .kept, c .before .before .before .before .before .before .before .push-faults .kept))
+    (λ c. omega (arith, c .before .before .drop-docs .kept, c .before .before .before .before .before .before .before .push-faults .kept))
+    (λ c. omega (arith, c .before .before .drop-docs .kept, c .before .before .before .before .before .before .before .push-faults .kept))
+    (λ c. omega (arith, c .before .before .drop-docs .kept, c .before .before .before .before .before .before .before .push-faults .kept))
+    (λ c. omega (arith, c .before .before .drop-docs .kept, c .before .before .before .before .before .before .before .push-faults .kept))
     returns-2)

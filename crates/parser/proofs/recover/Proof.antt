@@ -1,5 +1,7 @@
 -- `parser::recover` meets its contract.
 use borrow.Author.Needs.{needs}
+use Rattle.parser.specs.Collect.{collected}
+use Rattle.parser_base.specs.Represents.{parserOf}
 use native.Mathlib.Omega.{arith}
 use mathlib.Core.Path.{refl, sym, ap, _∙_}
 use borrow.Author.Tests.{eq-eqb, ne-eqb}
@@ -17,22 +19,27 @@ returns c =
 
 returns-2 : tie.Need-returns-2
 returns-2 c =
+    let args = c .before .before .before .before .before .before .before .before .before .before .before .args in
+    let error = c .before .before .error in
     let if2 = c .if2 in
-    λ nodes roots g e m room h z. ended-by-ten roots _ _ g e m refl (eq-eqb _ _ (if2 .taken)) h
+    λ nodes roots g e m room h z. ended-by-ten roots _ (collected (parserOf (args .p .now)) (args .c)) g e m (error .ensures) (eq-eqb _ _ (if2 .taken)) h
 
 returns-3 : tie.Need-returns-3
 returns-3 c =
-    let if2 = c .before .before .before .before .before .before .before .before .before .before .before .before .before .before .before .before .if2 in
-    let push-faults = c .before .before .before .before .before .before .before .before .before .before .before .before .before .before .push-faults in
-    let push-diagnostic = c .before .before .before .before .before .before .before .before .before .before .push-diagnostic in
-    let resume = c .before .before .before .before .before .resume in
+    let args = c .before .before .before .before .before .before .before .before .before .before .before .before .before .before .before .before .before .before .before .before .before .before .before .before .before .before .before .before .before .before .before .args in
+    let error = c .before .before .before .before .before .before .before .before .before .before .before .before .before .before .before .before .before .before .before .before .before .before .error in
+    let position = c .before .before .before .before .before .before .before .before .before .before .before .before .before .before .before .before .before .before .position in
+    let if2 = c .before .before .before .before .before .before .before .before .before .before .before .before .before .before .before .before .before .before .before .before .if2 in
+    let push-faults = c .before .before .before .before .before .before .before .before .before .before .before .before .before .before .before .before .push-faults in
+    let push-diagnostic = c .before .before .before .before .before .before .before .before .before .before .before .before .push-diagnostic in
+    let resume = c .before .before .before .before .before .before .resume in
     let synchronize-root = c .synchronize-root in
-    λ nodes roots g e m room h z. gathered-error g e m refl (ne-eqb _ _ (if2 .left)) (push-faults .ensures) (push-diagnostic .ensures) (omega (arith, push-faults .kept, push-diagnostic .kept)) (resume .ensures _ nodes) (synchronize-root .ensures nodes _ _) room h z
+    λ nodes roots g e m room h z. gathered-error {c = collected (parserOf (args .p .now)) (args .c)} g e m (position .ensures) (error .ensures) (ne-eqb _ _ (if2 .left)) (push-faults .ensures) (push-diagnostic .ensures) (omega (arith, push-faults .kept, push-diagnostic .kept)) (resume .ensures _ nodes) (synchronize-root .ensures nodes _ _) room h z
 
 same-length-3 : tie.Need-same-length-3
 same-length-3 c =
-    let push-faults = c .before .before .before .before .before .before .before .before .before .before .before .before .before .before .push-faults in
-    let push-diagnostic = c .before .before .before .before .before .before .before .before .before .before .push-diagnostic in
+    let push-faults = c .before .before .before .before .before .before .before .before .before .before .before .before .before .before .before .before .push-faults in
+    let push-diagnostic = c .before .before .before .before .before .before .before .before .before .before .before .before .push-diagnostic in
     omega (arith, push-faults .kept, push-diagnostic .kept)
 
 pub recover-spec : {M : Type 1} → statement M
@@ -41,12 +48,14 @@ recover-spec =
     (tie.spec
     (λ c κs. search needs)
     returns
+    (λ c κs. search needs)
     returns-2
     (λ c κs. search needs)
     (λ c κs. search needs)
     (λ c κs. search needs)
     (λ c κs. search needs)
-    (λ c. search needs)
-    (λ c. search needs)
+    (λ c κs. search needs)
+    (λ c. omega (arith, c .before .before .before .before .before .before .resume .kept, c .before .before .before .before .before .before .before .before .before .before .before .before .push-diagnostic .kept, c .before .before .before .before .before .before .before .before .before .before .before .before .before .before .before .before .push-faults .kept))
+    (λ c. omega (arith, c .before .before .before .before .before .before .resume .kept, c .before .before .before .before .before .before .before .before .before .before .before .before .push-diagnostic .kept, c .before .before .before .before .before .before .before .before .before .before .before .before .before .before .before .before .push-faults .kept))
     same-length-3
     returns-3)

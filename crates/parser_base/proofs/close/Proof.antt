@@ -8,9 +8,13 @@ use Rattle.parser_base.specs.Refines.{closed}
 returns : tie.Need-returns
 unfolding closed
 returns c =
-    let expect = c .before .before .before .before .expect in
-    let finish = c .before .before .finish in
-    ((λ nodes types. lists-then _ (expect .ensures nodes types _) (finish .ensures .0 _ nodes types)), finish .ensures .1)
+    let expect = c .before .before .before .before .before .expect in
+    let alloc-slice = c .before .before .alloc-slice in
+    ((λ nodes types. lists-then _ (expect .ensures nodes types _) (alloc-slice .ensures .0 _ nodes types)), alloc-slice .ensures .1)
 
 pub close-spec : {M : Type 1} → statement M
-close-spec = tie.close (tie.spec (λ c κs. search needs) (λ c κs. search needs) (λ c. search needs) returns)
+close-spec = tie.close (tie.spec
+    (λ c κs. search needs)
+    (λ c κs. search needs)
+    (λ c. search needs)
+    returns)

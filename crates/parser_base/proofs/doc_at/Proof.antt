@@ -8,7 +8,7 @@ returns : tie.Need-returns
 returns c =
     let wide = c .before .before .wide in
     let wide2 = c .wide2 in
-    token-same (wide .ensures) (wide2 .ensures)
+    token-same (wide .ensures .0) (wide2 .ensures .0)
 
 pub doc-at-spec : {M : Type 1} → statement M
 doc-at-spec =

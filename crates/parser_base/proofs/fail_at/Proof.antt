@@ -8,4 +8,6 @@ returns : tie.Need-returns
 returns c = λ script nodes types lists. failing-before script nodes types lists _ _ _ _ (c .fail-with .ensures .0) (c .fail-with .ensures .1)
 
 pub fail-at-spec : {M : Type 1} → statement M
-fail-at-spec = tie.close (tie.spec (λ c κs. search needs) returns)
+fail-at-spec = tie.close (tie.spec
+    (λ c κs. search needs)
+    returns)

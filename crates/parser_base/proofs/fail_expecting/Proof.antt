@@ -5,7 +5,13 @@ use Rattle.parser_base.proofs.fail_expecting.Statement.{statement}
 use Rattle.parser_base.proofs.fail_expecting.Tie as tie
 
 returns : tie.Need-returns
-returns c = λ script nodes types lists. failing script nodes types lists _ _ _ _ (c .fail-with .ensures .0) (c .fail-with .ensures .1)
+returns c =
+    let current = c .before .before .current in
+    let fail-with = c .fail-with in
+    λ script nodes types lists. failing script nodes types lists _ _ _ _ _ (current .ensures) (fail-with .ensures .0) (fail-with .ensures .1)
 
 pub fail-expecting-spec : {M : Type 1} → statement M
-fail-expecting-spec = tie.close (tie.spec (λ c κs. search needs) returns)
+fail-expecting-spec = tie.close (tie.spec
+    (λ c κs. search needs)
+    (λ c κs. search needs)
+    returns)

@@ -13,16 +13,30 @@ returns c = rw (sym (c .before .going .ensures) ∙ not-true _ (c .if1 .taken)) 
 
 returns-2 : tie.Need-returns-2
 unfolding hasRoom
-returns-2 c = rw (sym (c .before .before .going .ensures) ∙ not-false _ (c .before .if1 .left), le-ltb _ 65536 (c .if2 .taken)) refl
+returns-2 c =
+    let going = c .before .before .before .going in
+    let if1 = c .before .before .if1 in
+    let get-used = c .before .get-used in
+    rw (sym (going .ensures) ∙ not-false _ (if1 .left), ← get-used .ensures, le-ltb _ 65536 (c .if2 .taken)) refl
 
 returns-3 : tie.Need-returns-3
 unfolding hasRoom
-returns-3 c = rw (sym (c .before .before .before .going .ensures) ∙ not-false _ (c .before .before .if1 .left), lt-ltb _ 65536 (c .before .if2 .left), lt-leb _ _ (c .if3 .taken)) refl
+returns-3 c =
+    let going = c .before .before .before .before .going in
+    let if1 = c .before .before .before .if1 in
+    let get-used = c .before .before .get-used in
+    let if2 = c .before .if2 in
+    rw (sym (going .ensures) ∙ not-false _ (if1 .left), ← get-used .ensures, lt-ltb _ 65536 (if2 .left), lt-leb _ _ (c .if3 .taken)) refl
 
 returns-4 : tie.Need-returns-4
 unfolding hasRoom
 returns-4 c =
-    rw (sym (c .before .before .before .before .going .ensures) ∙ not-false _ (c .before .before .before .if1 .left), lt-ltb _ 65536 (c .before .before .if2 .left), le-leb _ _ (c .before .if3 .left)) refl
+    let going = c .before .before .before .before .before .going in
+    let if1 = c .before .before .before .before .if1 in
+    let get-used = c .before .before .before .get-used in
+    let if2 = c .before .before .if2 in
+    let if3 = c .before .if3 in
+    rw (sym (going .ensures) ∙ not-false _ (if1 .left), ← get-used .ensures, lt-ltb _ 65536 (if2 .left), le-leb _ _ (if3 .left)) refl
 
 pub has-room-spec : {M : Type 1} → statement M
 has-room-spec =
@@ -30,6 +44,7 @@ has-room-spec =
     (tie.spec
     (λ c κs. search needs)
     returns
+    (λ c κs. search needs)
     returns-2
     (λ c. search needs)
     (λ c. search needs)

@@ -6,9 +6,13 @@ use Rattle.parser_base.proofs.Steps.{push-then}
 
 returns : tie.Need-returns
 returns c =
-    let push-token = c .before .before .before .before .before .before .push-token in
+    let push-token = c .before .before .before .before .before .before .before .push-token in
     let push-cell = c .before .before .push-cell in
     λ script nodes types. push-then _ _ (push-token .ensures script nodes types) (push-cell .ensures script nodes types)
 
 pub push-named-spec : {M : Type 1} → statement M
-push-named-spec = tie.close (tie.spec (λ c κs. search needs) (λ c κs. search needs) (λ c. search needs) returns)
+push-named-spec = tie.close (tie.spec
+    (λ c κs. search needs)
+    (λ c κs. search needs)
+    (λ c. search needs)
+    returns)

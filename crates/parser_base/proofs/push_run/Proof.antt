@@ -9,9 +9,13 @@ use mathlib.Core.List.{[], _∷_}
 returns : tie.Need-returns
 unfolding runCells
 returns c =
-    let push-cell = c .before .before .before .before .before .before .push-cell in
+    let push-cell = c .before .before .before .before .before .before .before .push-cell in
     let push-cell2 = c .before .before .push-cell2 in
     λ script nodes types. push-then (_ ∷ []) (_ ∷ []) (push-cell .ensures script nodes types) (push-cell2 .ensures script nodes types)
 
 pub push-run-spec : {M : Type 1} → statement M
-push-run-spec = tie.close (tie.spec (λ c κs. search needs) (λ c κs. search needs) (λ c. search needs) returns)
+push-run-spec = tie.close (tie.spec
+    (λ c κs. search needs)
+    (λ c κs. search needs)
+    (λ c. search needs)
+    returns)

@@ -9,9 +9,9 @@ use Rattle.parser_base.proofs.Steps.{push-as, push-then}
 returns : tie.Need-returns
 unfolding tokenCells
 returns c =
-    let push-cell = c .before .before .before .before .before .before .before .before .before .before .before .before .push-cell in
-    let low = c .before .before .before .before .before .before .before .before .low in
-    let push-cell2 = c .before .before .before .before .before .before .before .push-cell2 in
+    let push-cell = c .before .before .before .before .before .before .before .before .before .before .before .before .before .before .push-cell in
+    let low = c .before .before .before .before .before .before .before .before .before .low in
+    let push-cell2 = c .before .before .before .before .before .before .before .before .push-cell2 in
     let low2 = c .before .before .before .low2 in
     let push-cell3 = c .before .before .push-cell3 in
     λ script nodes types. push-then (_ ∷ []) (_ ∷ (_ ∷ [])) (push-cell .ensures script nodes types) (push-then (_ ∷ []) (_ ∷ []) (push-as (low .ensures) (push-cell2 .ensures script nodes types)) (push-as (low2 .ensures) (push-cell3 .ensures script nodes types)))

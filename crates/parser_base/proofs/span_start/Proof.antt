@@ -17,4 +17,9 @@ unfolding atToken
 returns-2 c = c .low2 .ensures ∙ rw (ne-eqb _ kS (c .before .if1 .left)) (omega arith)
 
 pub span-start-spec : {M : Type 1} → statement M
-span-start-spec = tie.close (tie.spec (λ c κs. search needs) (λ c κs. search needs) (λ c κs. search needs) returns returns-2)
+span-start-spec = tie.close (tie.spec
+    (λ c κs. search needs)
+    (λ c κs. search needs)
+    (λ c κs. search needs)
+    returns
+    returns-2)

@@ -8,15 +8,17 @@ use Rattle.parser_leaves.proofs.field_access.Tie as tie
 returns : tie.Need-returns
 unfolding fieldAccess
 returns c =
-    let advance = c .before .before .before .before .before .before .advance in
-    let expect-ident = c .before .before .before .before .expect-ident in
+    let current = c .before .before .before .before .before .before .before .current in
+    let advance = c .before .before .before .before .before .before .before .before .before .advance in
+    let expect-ident = c .before .before .before .before .before .expect-ident in
     let push-field = c .before .before .push-field in
-    λ types lists. enough (then (advance .ensures _ types lists) (read _ (expect-ident .ensures _ types lists) (seq _ (push-field .ensures _ types lists) done))) tt
+    λ types lists. enough (then (advance .ensures _ types lists) (read _ (expect-ident .ensures _ types lists) (current .ensures) (seq _ (push-field .ensures _ types lists) done))) tt
 
 pub field-access-spec : {M : Type 1} → statement M
 field-access-spec =
     tie.close
     (tie.spec
+    (λ c κs. search needs)
     (λ c κs. search needs)
     (λ c κs. search needs)
     (λ c κs. search needs)

@@ -11,14 +11,16 @@ use Rattle.parser_leaves.proofs.ident.Tie as tie
 returns : tie.Need-returns
 unfolding ident nodeCells tokenCells
 returns c =
-    let advance = c .before .before .before .before .advance in
+    let current = c .before .before .before .before .before .before .before .current in
+    let advance = c .before .before .before .before .before .advance in
     let push-token-node = c .before .before .push-token-node in
-    λ types lists. enough (read _ (advance .ensures _ types lists) (push-token-node .ensures _ types lists _ refl)) tt
+    λ types lists. enough (read _ (advance .ensures _ types lists) (current .ensures) (push-token-node .ensures _ types lists _ refl)) tt
 
 pub ident-spec : {M : Type 1} → statement M
 ident-spec =
     tie.close
     (tie.spec
+    (λ c κs. search needs)
     (λ c κs. search needs)
     (λ c κs. search needs)
     (λ c. search needs)

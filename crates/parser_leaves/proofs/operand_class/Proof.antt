@@ -56,4 +56,16 @@ returns-12 c =
     sym (past _ _ _ (c .before .before .before .before .before .before .before .before .before .before .if1 .left) ∙ past _ _ _ (c .before .before .before .before .before .before .before .before .before .if2 .left) ∙ past _ _ _ (c .before .before .before .before .before .before .before .before .if3 .left) ∙ past _ _ _ (c .before .before .before .before .before .before .before .if4 .left) ∙ past _ _ _ (c .before .before .before .before .before .before .if5 .left) ∙ past _ _ _ (c .before .before .before .before .before .if6 .left) ∙ past _ _ _ (c .before .before .before .before .if7 .left) ∙ past _ _ _ (c .before .before .before .if8 .left) ∙ past _ _ _ (c .before .before .if9 .left) ∙ past _ _ _ (c .before .if10 .left) ∙ past _ _ _ (c .if11 .left) ∙ past-all _ _)
 
 pub operand-class-spec : {M : Type 1} → statement M
-operand-class-spec = tie.close (tie.spec returns returns-2 returns-3 returns-4 returns-5 returns-6 returns-7 returns-8 returns-9 returns-10 returns-11 returns-12)
+operand-class-spec = tie.close (tie.spec
+    returns
+    returns-2
+    returns-3
+    returns-4
+    returns-5
+    returns-6
+    returns-7
+    returns-8
+    returns-9
+    returns-10
+    returns-11
+    returns-12)

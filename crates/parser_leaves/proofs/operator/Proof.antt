@@ -44,4 +44,13 @@ returns-9 c =
     sym (past _ _ _ (c .before .before .before .before .before .before .before .if1 .left) ∙ past _ _ _ (c .before .before .before .before .before .before .if2 .left) ∙ past _ _ _ (c .before .before .before .before .before .if3 .left) ∙ past _ _ _ (c .before .before .before .before .if4 .left) ∙ past _ _ _ (c .before .before .before .if5 .left) ∙ past _ _ _ (c .before .before .if6 .left) ∙ past _ _ _ (c .before .if7 .left) ∙ past _ _ _ (c .if8 .left) ∙ past-all _ _)
 
 pub operator-spec : {M : Type 1} → statement M
-operator-spec = tie.close (tie.spec returns returns-2 returns-3 returns-4 returns-5 returns-6 returns-7 returns-8 returns-9)
+operator-spec = tie.close (tie.spec
+    returns
+    returns-2
+    returns-3
+    returns-4
+    returns-5
+    returns-6
+    returns-7
+    returns-8
+    returns-9)

@@ -8,8 +8,8 @@ use Rattle.parser_leaves.proofs.push_case.Tie as tie
 
 returns : tie.Need-returns
 returns c =
-    let push-token = c .before .before .before .before .before .before .before .before .before .before .push-token in
-    let push-cell = c .before .before .before .before .before .before .push-cell in
+    let push-token = c .before .before .before .before .before .before .before .before .before .before .before .before .push-token in
+    let push-cell = c .before .before .before .before .before .before .before .push-cell in
     let push-run = c .before .before .push-run in
     λ script nodes types. push-then _ _ (push-token .ensures script nodes types) (push-then (_ ∷ []) _ (push-cell .ensures script nodes types) (push-run .ensures script nodes types))
 
@@ -20,5 +20,5 @@ push-case-spec =
     (λ c κs. search needs)
     (λ c κs. search needs)
     (λ c κs. search needs)
-    (λ c. omega (arith, c .before .before .push-run .kept, c .before .before .before .before .before .before .push-cell .kept, c .before .before .before .before .before .before .before .before .before .before .push-token .kept))
+    (λ c. omega (arith, c .before .before .push-run .kept, c .before .before .before .before .before .before .before .push-cell .kept, c .before .before .before .before .before .before .before .before .before .before .before .before .push-token .kept))
     returns)

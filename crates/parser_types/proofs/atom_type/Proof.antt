@@ -8,9 +8,15 @@ use Rattle.rules.specs.Rules.{atomType}
 returns : tie.Need-returns
 unfolding atomType
 returns c =
-    let advance = c .before .before .before .before .advance in
+    let current = c .before .before .before .before .before .before .before .current in
+    let advance = c .before .before .before .before .before .advance in
     let push-type = c .before .before .push-type in
-    λ nodes lists. enough (read _ (advance .ensures nodes _ lists) (push-type .ensures _ nodes lists)) tt
+    λ nodes lists. enough (read _ (advance .ensures nodes _ lists) (current .ensures) (push-type .ensures _ nodes lists)) tt
 
 pub atom-type-spec : {M : Type 1} → statement M
-atom-type-spec = tie.close (tie.spec (λ c κs. search needs) (λ c κs. search needs) (λ c. search needs) returns)
+atom-type-spec = tie.close (tie.spec
+    (λ c κs. search needs)
+    (λ c κs. search needs)
+    (λ c κs. search needs)
+    (λ c. search needs)
+    returns)

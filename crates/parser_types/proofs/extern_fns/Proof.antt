@@ -1,12 +1,13 @@
 -- `parser_types::extern_fns` meets its contract.
 use borrow.Author.Needs.{needs}
+use Rattle.parser_base.specs.declared.Used.{Used}
 use Rattle.parser_base.proofs.Loops.{MembersInvariant, midway-start, midway-turn, midway-end, falls}
 use Rattle.parser_base.proofs.Rounds.{weight}
-use Rattle.parser_base.specs.Represents.{code}
+use Rattle.parser_base.specs.Represents.{parserOf, code}
 use Rattle.parser_base.specs.Refines.{deeper}
 use Rattle.lex.specs.Kind.{kCurlyRight}
 use Rattle.rules.specs.Rules.{externFn}
-use mathlib.Core.Path.{_≡_, refl, sym, _∙_}
+use mathlib.Core.Path.{_≡_, refl, sym, _∙_, ap}
 use mathlib.Core.List.{List, []}
 use Prim.Native.Nat.{ℕ}
 use native.Mathlib.Omega.{arith}
@@ -15,37 +16,38 @@ use Rattle.parser_types.proofs.extern_fns.Statement.{statement}
 use Rattle.parser_types.proofs.extern_fns.Tie as tie
 
 abbrev Inv-loop : tie.InvT-loop
-Inv-loop script types₀ lists₀ levels mark q₀ members₀ types lists q members = (length types ≡ length types₀) × (length lists ≡ length lists₀) × ((nodes : List ℕ) → MembersInvariant script kCurlyRight (externFn (deeper script levels)) (code nodes types₀ lists₀ q₀) (code nodes types lists q) members)
+Inv-loop script types₀ lists₀ p₀ levels mark members₀ types lists p members = (length types ≡ length types₀) × (length lists ≡ length lists₀) × ((nodes : List ℕ) → MembersInvariant script kCurlyRight (externFn (deeper script levels)) (code nodes types₀ lists₀ (parserOf p₀)) (code nodes types lists (parserOf p)) members)
 
 abbrev μ-loop : tie.MeasureT-loop
-μ-loop script types₀ lists₀ levels mark q₀ members₀ types lists q members = weight script (code [] types lists q)
+μ-loop script types₀ lists₀ p₀ levels mark members₀ types lists p members = weight script (code [] types lists (parserOf p))
 
 loop-holds : tie.Need-loop-holds Inv-loop μ-loop
 loop-holds c = (refl, refl, λ nodes. midway-start)
 
 loop-less : tie.Need-loop-less Inv-loop μ-loop
 loop-less c =
-    let wants = c .before .before .before .before .before .before .before .before .before .wants in
-    let if1 = c .before .before .before .before .before .before .before .before .if1 in
+    let member-follows = c .before .before .before .before .before .before .before .before .before .before .member-follows in
+    let if1 = c .before .before .before .before .before .before .before .before .before .if1 in
     let extern-fn = c .before .before .before .before .before .extern-fn in
-    falls _ (sym (wants .ensures) ∙ if1 .taken) (extern-fn .ensures [])
+    falls _ (sym (member-follows .ensures) ∙ if1 .taken) (extern-fn .ensures [])
 
 loop-again : tie.Need-loop-again Inv-loop μ-loop
 loop-again c =
-    let loop = c .before .before .before .before .before .before .before .before .before .before .loop in
-    let wants = c .before .before .before .before .before .before .before .before .before .wants in
-    let if1 = c .before .before .before .before .before .before .before .before .if1 in
+    let loop = c .before .before .before .before .before .before .before .before .before .before .before .before .loop in
+    let member-follows = c .before .before .before .before .before .before .before .before .before .before .member-follows in
+    let if1 = c .before .before .before .before .before .before .before .before .before .if1 in
     let extern-fn = c .before .before .before .before .before .extern-fn in
     let wrapping-add-u32 = c .wrapping-add-u32 in
-    (omega arith, omega arith, λ nodes. midway-turn (loop .inv .2 nodes) (sym (wants .ensures) ∙ if1 .taken) (extern-fn .ensures nodes) (wrapping-add-u32 .ensures))
+    (omega arith, omega arith, λ nodes. midway-turn (loop .inv .2 nodes) (sym (member-follows .ensures) ∙ if1 .taken) (extern-fn .ensures nodes) (wrapping-add-u32 .ensures))
 
 returns : tie.Need-returns Inv-loop μ-loop
 returns c =
-    let loop = c .before .before .before .before .before .before .loop in
-    let wants = c .before .before .before .before .before .wants in
-    let if1 = c .before .before .before .before .if1 in
+    let loop = c .before .before .before .before .before .before .before .before .loop in
+    let member-follows = c .before .before .before .before .before .before .member-follows in
+    let if1 = c .before .before .before .before .before .if1 in
+    let get-used = c .before .before .before .before .before .before .before .before .before .get-used in
     let close = c .before .before .close in
-    λ nodes. midway-end (loop .inv .2 nodes) (sym (wants .ensures) ∙ if1 .left) refl (close .ensures .0 nodes _)
+    λ nodes. midway-end (loop .inv .2 nodes) (sym (member-follows .ensures) ∙ if1 .left) (ap (λ (u : Used). u .scratch) (get-used .ensures)) (close .ensures .0 nodes _)
 
 pub extern-fns-spec : {M : Type 1} → statement M
 extern-fns-spec =
@@ -53,6 +55,7 @@ extern-fns-spec =
     (tie.spec
     Inv-loop
     μ-loop
+    (λ c κs. search needs)
     loop-holds
     (λ c κs. search needs)
     (λ c κs. search needs)

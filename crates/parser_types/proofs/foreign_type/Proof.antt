@@ -8,16 +8,18 @@ use Rattle.rules.specs.Rules.{foreignType}
 returns : tie.Need-returns
 unfolding foreignType
 returns c =
-    let open-angle = c .before .before .before .before .before .before .before .open-angle in
-    let expect-ident = c .before .before .before .before .before .expect-ident in
-    let expect = c .before .before .before .before .expect in
+    let current = c .before .before .before .before .before .before .before .before .before .current in
+    let open-angle = c .before .before .before .before .before .before .before .before .before .before .before .open-angle in
+    let expect-ident = c .before .before .before .before .before .before .before .expect-ident in
+    let expect = c .before .before .before .before .before .expect in
     let push-type = c .before .before .push-type in
-    λ nodes lists. enough (then (open-angle .ensures nodes _ lists) (read _ (expect-ident .ensures nodes _ lists) (then (expect .ensures nodes _ lists) (push-type .ensures _ nodes lists)))) tt
+    λ nodes lists. enough (then (open-angle .ensures nodes _ lists) (read _ (expect-ident .ensures nodes _ lists) (current .ensures) (then (expect .ensures nodes _ lists) (push-type .ensures _ nodes lists)))) tt
 
 pub foreign-type-spec : {M : Type 1} → statement M
 foreign-type-spec =
     tie.close
     (tie.spec
+    (λ c κs. search needs)
     (λ c κs. search needs)
     (λ c κs. search needs)
     (λ c κs. search needs)

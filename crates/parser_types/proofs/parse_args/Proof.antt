@@ -8,7 +8,7 @@ use Rattle.parser_types.proofs.parse_args.Tie as tie
 returns : tie.Need-returns
 unfolding parseArgs
 returns c =
-    let expect = c .before .before .before .before .before .before .before .expect in
+    let expect = c .before .before .before .before .before .before .before .before .expect in
     let fields = c .before .before .before .before .fields in
     ((λ nodes. enough (then (expect .ensures nodes _ _) (fields .ensures .0 nodes)) tt), fields .ensures .1)
 

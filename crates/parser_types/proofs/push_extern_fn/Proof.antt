@@ -1,4 +1,5 @@
 -- `parser_types::push_extern_fn` meets its contract.
+use native.Mathlib.Omega.{arith}
 use borrow.Author.Needs.{needs}
 use Rattle.parser_base.proofs.Steps.{push-then}
 use Rattle.parser_types.proofs.push_extern_fn.Statement.{statement}
@@ -6,9 +7,9 @@ use Rattle.parser_types.proofs.push_extern_fn.Tie as tie
 
 returns : tie.Need-returns
 returns c =
-    let push-run = c .before .before .before .before .before .before .before .before .before .before .before .before .before .before .push-run in
-    let push-token = c .before .before .before .before .before .before .before .before .before .before .push-token in
-    let push-run2 = c .before .before .before .before .before .before .push-run2 in
+    let push-run = c .before .before .before .before .before .before .before .before .before .before .before .before .before .before .before .before .before .push-run in
+    let push-token = c .before .before .before .before .before .before .before .before .before .before .before .before .push-token in
+    let push-run2 = c .before .before .before .before .before .before .before .push-run2 in
     let push-cell = c .before .before .push-cell in
     λ script nodes types. push-then _ _ (push-then _ _ (push-then _ _ (push-run .ensures script nodes types) (push-token .ensures script nodes types)) (push-run2 .ensures script nodes types)) (push-cell .ensures script nodes types)
 
@@ -20,5 +21,5 @@ push-extern-fn-spec =
     (λ c κs. search needs)
     (λ c κs. search needs)
     (λ c κs. search needs)
-    (λ c. search needs)
+    (λ c. omega (arith, c .before .before .push-cell .kept, c .before .before .before .before .before .before .before .push-run2 .kept, c .before .before .before .before .before .before .before .before .before .before .before .before .push-token .kept, c .before .before .before .before .before .before .before .before .before .before .before .before .before .before .before .before .before .push-run .kept))
     returns)

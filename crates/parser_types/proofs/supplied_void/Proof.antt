@@ -8,13 +8,15 @@ use Rattle.parser_types.proofs.supplied_void.Tie as tie
 returns : tie.Need-returns
 unfolding suppliedVoid
 returns c =
+    let current = c .before .before .before .before .before .current in
     let push-type = c .before .before .push-type in
-    λ script nodes lists. read _ looks (push-type .ensures script nodes lists)
+    λ script nodes lists. read _ looks (current .ensures) (push-type .ensures script nodes lists)
 
 pub supplied-void-spec : {M : Type 1} → statement M
 supplied-void-spec =
     tie.close
     (tie.spec
+    (λ c κs. search needs)
     (λ c κs. search needs)
     (λ c. search needs)
     returns)

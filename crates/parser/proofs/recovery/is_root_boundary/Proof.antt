@@ -18,4 +18,8 @@ returns-4 : tie.Need-returns-4
 returns-4 c = boundary-inside _ (omega (arith, c .before .if1 .left)) (omega (arith, c .if2 .taken))
 
 pub is-root-boundary-spec : {M : Type 1} → statement M
-is-root-boundary-spec = tie.close (tie.spec returns returns-2 returns-3 returns-4)
+is-root-boundary-spec = tie.close (tie.spec
+    returns
+    returns-2
+    returns-3
+    returns-4)

@@ -1,5 +1,6 @@
 -- `parser::recovery::synchronize_root` meets its contract.
 use borrow.Author.Needs.{needs}
+use Rattle.parser_base.specs.Represents.{parserOf}
 use mathlib.Core.Path.{_≡_, refl, sym, _∙_}
 use mathlib.Core.Bool.{true}
 use mathlib.Core.List.{List, []}
@@ -14,41 +15,44 @@ use Rattle.parser.proofs.recovery.synchronize_root.Statement.{statement
 use Rattle.parser.proofs.recovery.synchronize_root.Tie as tie
 
 abbrev Inv-loop : tie.InvT-loop
-Inv-loop script q₀ q = (nodes types lists : List ℕ) → LoopInvariant script synchronizeStep kept 0 (λ n. n ≡ 0) (code nodes types lists q₀) (code nodes types lists q)
+Inv-loop script p₀ p = (nodes types lists : List ℕ) → LoopInvariant script synchronizeStep kept 0 (λ n. n ≡ 0) (code nodes types lists (parserOf p₀)) (code nodes types lists (parserOf p))
 
 abbrev μ-loop : tie.MeasureT-loop
-μ-loop script q₀ q = weight script (code [] [] [] q)
+μ-loop script p₀ p = weight script (code [] [] [] (parserOf p))
 
 loop-holds : tie.Need-loop-holds Inv-loop μ-loop
 loop-holds c = λ nodes types lists. round-start
 
 advance-requires : tie.Need-advance-requires Inv-loop μ-loop
-advance-requires c κs = skips-some _ (sym (c .before .skips .ensures) ∙ c .if1 .taken)
+advance-requires c κs = skips-some _ (sym (c .before .before .skips .ensures) ∙ c .before .if1 .taken)
 
 loop-less : tie.Need-loop-less Inv-loop μ-loop
-loop-less c = lighter (skips-both _ (sym (c .before .before .skips .ensures) ∙ c .before .if1 .taken) .0) (c .advance .ensures [] [] [])
+loop-less c = lighter (skips-both _ (sym (c .before .before .before .skips .ensures) ∙ c .before .before .if1 .taken) .0) (c .advance .ensures [] [] [])
 
 loop-again : tie.Need-loop-again Inv-loop μ-loop
 loop-again c =
-    let loop = c .before .before .before .loop in
-    let skips = c .before .before .skips in
-    let on : _ ≡ true = sym (skips .ensures) ∙ c .before .if1 .taken in
+    let loop = c .before .before .before .before .before .loop in
+    let skips = c .before .before .before .skips in
+    let on : _ ≡ true = sym (skips .ensures) ∙ c .before .before .if1 .taken in
     λ nodes types lists. round-again (loop .inv nodes types lists) (skips-both _ on .0) (again-of _ (continues on (c .advance .ensures nodes types lists)))
 
 returns : tie.Need-returns Inv-loop μ-loop
 unfolding synchronizing
 returns c =
-    let loop = c .before .before .before .before .before .loop in
-    let if2 = c .before .if2 in
-    λ nodes types lists. round-last (loop .inv nodes types lists) (λ stack. refl) (last-of _ (breaks-past (if2 .taken) (c .advance2 .ensures nodes types lists)))
+    let kind = c .before .before .before .kind in
+    let loop = c .before .before .before .before .before .before .before .before .loop in
+    let if2 = c .before .before .if2 in
+    λ nodes types lists. round-last (loop .inv nodes types lists) (λ stack. refl) (last-of _ (breaks-past (c .advance2 .ensures nodes types lists) (sym (kind .ensures) ∙ if2 .taken)))
 
 returns-2 : tie.Need-returns-2 Inv-loop μ-loop
 unfolding synchronizing
 returns-2 c =
-    let loop = c .before .before .before .before .loop in
-    let skips = c .before .before .before .skips in
-    let if1 = c .before .before .if1 in
-    λ nodes types lists. round-last (loop .inv nodes types lists) (λ stack. refl) (last-of _ (breaks-before _ (sym (skips .ensures) ∙ if1 .left) (c .if2 .left)))
+    let kind = c .before .kind in
+    let if2 = c .if2 in
+    let loop = c .before .before .before .before .before .before .loop in
+    let skips = c .before .before .before .before .skips in
+    let if1 = c .before .before .before .if1 in
+    λ nodes types lists. round-last (loop .inv nodes types lists) (λ stack. refl) (last-of _ (breaks-before _ (sym (skips .ensures) ∙ if1 .left) (λ e. if2 .left (kind .ensures ∙ e))))
 
 pub synchronize-root-spec : {M : Type 1} → statement M
 synchronize-root-spec =
@@ -61,6 +65,7 @@ synchronize-root-spec =
     advance-requires
     loop-less
     loop-again
+    (λ c κs. search needs)
     (λ c κs. search needs)
     returns
     returns-2)

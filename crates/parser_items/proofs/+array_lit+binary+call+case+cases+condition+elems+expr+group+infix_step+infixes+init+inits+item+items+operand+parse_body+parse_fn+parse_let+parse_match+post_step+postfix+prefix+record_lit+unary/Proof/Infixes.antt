@@ -3,69 +3,69 @@ use borrow.Author.Needs.{needs}
 use native.Mathlib.Omega.{arith}
 use Prim.Native.Nat.{ℕ}
 use Rattle.parser_items.proofs.infixes.Reads as infixes
-use Rattle.parser_items.proofs.+array_lit+binary+call+case+cases+condition+elems+expr+group+infix_step+infixes+init+inits+item+items+operand+parse_body+parse_fn+parse_let+parse_match+post_step+postfix+prefix+record_lit+unary.Lts-infixes as lts
-use Rattle.parser_leaves.proofs.goes.Reads as goes-reads
+use Rattle.parser_leaves.proofs.infix_follows.Reads as infix-follows-reads
 use Rattle.parser_items.proofs.infix_step.Reads as infix-step
+use Rattle.parser_items.proofs.+array_lit+binary+call+case+cases+condition+elems+expr+group+infix_step+infixes+init+inits+item+items+operand+parse_body+parse_fn+parse_let+parse_match+post_step+postfix+prefix+record_lit+unary.Lts-infixes as lts
 use Rattle.parser_items.proofs.+array_lit+binary+call+case+cases+condition+elems+expr+group+infix_step+infixes+init+inits+item+items+operand+parse_body+parse_fn+parse_let+parse_match+post_step+postfix+prefix+record_lit+unary.Proof.Measures.{infixes-at, infix-step-below}
 use Rattle.rules.specs.Rules.{infixes, infixStep, stageOne}
 use Rattle.parser_base.proofs.Rounds.{LoopInvariant, round-start, round-again, round-out, again-of, weight, lighter}
-use Rattle.parser_base.specs.Represents.{code}
+use Rattle.parser_base.specs.Represents.{parserOf, code}
 use Rattle.parser_base.specs.Refines.{kept, deeper}
-use Rattle.parser_leaves.proofs.Exprs.{goes-on, infix-out}
+use Rattle.parser_leaves.proofs.Exprs.{infix-on, infix-out}
 use Rattle.parser_items.proofs.Levels.{out-at}
 use mathlib.Core.Path.{_≡_, refl, sym, _∙_}
 use lib.ListN.{length}
 
 abbrev claims : ℕ → lts.Claims
-claims t = (goes-reads.Asked, goes-reads.Learnt, infix-step-below t, infix-step.Post)
+claims t = (infix-follows-reads.Asked, infix-follows-reads.Learnt, infix-step-below t, infix-step.Post)
 
 abbrev Inv-loop : lts.InvT-loop
-Inv-loop script nodes₀ types₀ lists₀ least levels q₀ x₀ nodes types lists q x = (length nodes ≡ length nodes₀) × (length types ≡ length types₀) × (length lists ≡ length lists₀) × LoopInvariant script (infixStep (deeper script levels) stageOne script least) kept x₀ (λ a. a ≡ x) (code nodes₀ types₀ lists₀ q₀) (code nodes types lists q)
+Inv-loop script nodes₀ types₀ lists₀ p₀ least levels x₀ nodes types lists p x = (length nodes ≡ length nodes₀) × (length types ≡ length types₀) × (length lists ≡ length lists₀) × LoopInvariant script (infixStep (deeper script levels) stageOne script least) kept x₀ (λ a. a ≡ x) (code nodes₀ types₀ lists₀ (parserOf p₀)) (code nodes types lists (parserOf p))
 
 abbrev μ-loop : lts.MeasureT-loop
-μ-loop script nodes₀ types₀ lists₀ least levels q₀ x₀ nodes types lists q x = weight script (code nodes types lists q)
+μ-loop script nodes₀ types₀ lists₀ p₀ least levels x₀ nodes types lists p x = weight script (code nodes types lists (parserOf p))
 
 loop-holds : (t : ℕ) → lts.Need-loop-holds (claims t) (infixes-at t) infixes.Post Inv-loop μ-loop
 loop-holds t c = (refl, refl, refl, round-start)
 
 infix-step-requires : (t : ℕ) → lts.Need-infix-step-requires (claims t) (infixes-at t) infixes.Post Inv-loop μ-loop
 infix-step-requires t c κs =
-    let pre = c .before .before .before .before .before .before .before .before .before .before .pre in
-    let goes = c .before .before .before .before .goes in
-    let if1 = c .before .before .before .if1 in
-    (omega (arith, pre .0), sym (goes .ensures) ∙ if1 .taken)
+    let pre = c .before .before .before .before .before .before .before .before .before .before .before .before .pre in
+    let infix-follows = c .before .before .before .before .before .infix-follows in
+    let if1 = c .before .before .before .before .if1 in
+    (omega (arith, pre .0), sym (infix-follows .ensures) ∙ if1 .taken)
 
 loop-less : (t : ℕ) → lts.Need-loop-less (claims t) (infixes-at t) infixes.Post Inv-loop μ-loop
 loop-less t c =
     let args = c .before .before .before .before .before .before .before .before .before .before .before .before .before .before .before .before .before .before .before .args in
     let loop = c .before .before .before .before .before .before .before .before .before .before .before .before .before .before .loop in
-    let goes = c .before .before .before .before .before .before .before .before .before .before .before .before .before .goes in
-    let if1 = c .before .before .before .before .before .before .before .before .before .before .before .before .if1 in
-    let infix-step = c .before .before .before .before .before .before .before .before .infix-step in
-    lighter (goes-on (args .script .now) (loop .q) (args .least) (sym (goes .ensures) ∙ if1 .taken)) (infix-step .ensures)
+    let infix-follows = c .before .before .before .before .before .before .before .before .before .before .before .before .infix-follows in
+    let if1 = c .before .before .before .before .before .before .before .before .before .before .before .if1 in
+    let infix-step = c .before .before .before .before .before .before .infix-step in
+    lighter (infix-on (args .script .now) (parserOf (loop .p)) (args .least) (sym (infix-follows .ensures) ∙ if1 .taken)) (infix-step .ensures)
 
 loop-again : (t : ℕ) → lts.Need-loop-again (claims t) (infixes-at t) infixes.Post Inv-loop μ-loop
 loop-again t c =
     let args = c .before .before .before .before .before .before .before .before .before .before .before .before .before .before .before .before .before .before .before .args in
     let loop = c .before .before .before .before .before .before .before .before .before .before .before .before .before .before .loop in
-    let goes = c .before .before .before .before .before .before .before .before .before .before .before .before .before .goes in
-    let if1 = c .before .before .before .before .before .before .before .before .before .before .before .before .if1 in
-    let infix-step = c .before .before .before .before .before .before .before .before .infix-step in
-    (omega (arith, c .before .before .before .before .before .before .before .before .infix-step .kept), omega (arith, c .before .before .before .before .before .before .before .before .infix-step .kept), omega (arith, c .before .before .before .before .before .before .before .before .infix-step .kept), round-again (loop .inv .3) (goes-on (args .script .now) (loop .q) (args .least) (sym (goes .ensures) ∙ if1 .taken)) (again-of _ (infix-step .ensures)))
+    let infix-follows = c .before .before .before .before .before .before .before .before .before .before .before .before .infix-follows in
+    let if1 = c .before .before .before .before .before .before .before .before .before .before .before .if1 in
+    let infix-step = c .before .before .before .before .before .before .infix-step in
+    (omega (arith, c .before .before .before .before .before .before .infix-step .kept), omega (arith, c .before .before .before .before .before .before .infix-step .kept), omega (arith, c .before .before .before .before .before .before .infix-step .kept), round-again (loop .inv .3) (infix-on (args .script .now) (parserOf (loop .p)) (args .least) (sym (infix-follows .ensures) ∙ if1 .taken)) (again-of _ (infix-step .ensures)))
 
 returns : (t : ℕ) → lts.Need-returns (claims t) (infixes-at t) infixes.Post Inv-loop μ-loop
 unfolding infixes
 returns t c =
-    let args = c .before .before .before .before .before .before .before .args in
-    let loop = c .before .before .loop in
-    let goes = c .before .goes in
+    let args = c .before .before .before .before .before .before .before .before .args in
+    let loop = c .before .before .before .loop in
+    let infix-follows = c .before .infix-follows in
     let if1 = c .if1 in
-    round-out (loop .inv .3) (λ stack. refl) (λ R L stack a m e h. out-at (infixStep (deeper (args .script .now) (args .levels)) stageOne (args .script .now) (args .least)) e (infix-out (deeper (args .script .now) (args .levels)) (args .least) (loop .x) (sym (goes .ensures) ∙ if1 .left) R L stack m h))
+    round-out (loop .inv .3) (λ stack. refl) (λ R L stack a m e h. out-at (infixStep (deeper (args .script .now) (args .levels)) stageOne (args .script .now) (args .least)) e (infix-out (deeper (args .script .now) (args .levels)) (args .least) (loop .x) (sym (infix-follows .ensures) ∙ if1 .left) R L stack m h))
 
 pub infixes-meets : {M : Type 1} (t : ℕ) → lts.Closed (claims t) (infixes-at t) infixes.Post M
 infixes-meets t = lts.spec (claims t) (infixes-at t) infixes.Post Inv-loop μ-loop
     (loop-holds t)
-    (λ c κs. search needs)  -- goes-requires
+    (λ c κs. search needs)  -- infix-follows-requires
     (infix-step-requires t)
     (loop-less t)
     (loop-again t)

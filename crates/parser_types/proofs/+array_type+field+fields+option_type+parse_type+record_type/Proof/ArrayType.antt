@@ -3,11 +3,11 @@ use borrow.Author.Needs.{needs}
 use native.Mathlib.Omega.{arith}
 use Prim.Native.Nat.{ℕ}
 use Rattle.parser_types.proofs.array_type.Reads as array-type
-use Rattle.parser_types.proofs.+array_type+field+fields+option_type+parse_type+record_type.Lts-array_type as lts
 use Rattle.parser_types.proofs.open_angle.Reads as open-angle-reads
 use Rattle.parser_types.proofs.parse_type.Reads as parse-type
 use Rattle.parser_base.proofs.expect.Reads as expect-reads
 use Rattle.parser_base.proofs.push_type.Reads as push-type-reads
+use Rattle.parser_types.proofs.+array_type+field+fields+option_type+parse_type+record_type.Lts-array_type as lts
 use Rattle.parser_types.proofs.+array_type+field+fields+option_type+parse_type+record_type.Proof.Measures.{array-type-at, parse-type-below}
 use Rattle.parser_base.proofs.Steps.{seq, then, enough}
 use Rattle.rules.specs.Rules.{arrayType}
@@ -18,7 +18,7 @@ claims t = (open-angle-reads.Asked, open-angle-reads.Learnt, parse-type-below t,
 returns : (t : ℕ) → lts.Need-returns (claims t) (array-type-at t) array-type.Post
 unfolding arrayType
 returns t c =
-    let open-angle = c .before .before .before .before .before .before .before .before .before .before .before .before .before .before .open-angle in
+    let open-angle = c .before .before .before .before .before .before .before .before .before .before .before .before .before .before .before .open-angle in
     let parse-type = c .before .before .before .before .before .before .before .before .before .before .before .parse-type in
     let expect = c .before .before .before .before .before .expect in
     let push-type = c .before .before .push-type in
@@ -30,6 +30,6 @@ array-type-meets t = lts.spec (claims t) (array-type-at t) array-type.Post
     (λ c κs. (omega arith, search needs))  -- parse-type-requires
     (λ c κs. search needs)  -- expect-requires
     (λ c κs. search needs)  -- push-type-requires
-    (λ c. search needs)  -- same-length
-    (λ c. search needs)  -- same-length-2
+    (λ c. omega (arith, c .before .before .push-type .kept, c .before .before .before .before .before .before .before .before .before .before .before .parse-type .kept))  -- same-length
+    (λ c. omega (arith, c .before .before .push-type .kept, c .before .before .before .before .before .before .before .before .before .before .before .parse-type .kept))  -- same-length-2
     (returns t)

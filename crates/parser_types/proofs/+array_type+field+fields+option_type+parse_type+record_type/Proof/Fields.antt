@@ -1,63 +1,67 @@
 -- `fields` meets its contract.
 use borrow.Author.Needs.{needs}
+use Rattle.parser_base.specs.declared.Used.{Used}
 use native.Mathlib.Omega.{arith}
 use Prim.Native.Nat.{ℕ}
 use Rattle.parser_types.proofs.fields.Reads as fields
-use Rattle.parser_types.proofs.+array_type+field+fields+option_type+parse_type+record_type.Lts-fields as lts
-use Rattle.parser_base.proofs.wants.Reads as wants-reads
+use Rattle.parser_base.proofs.get_used.Reads as get-used-reads
+use Rattle.parser_base.proofs.member_follows.Reads as member-follows-reads
 use Rattle.parser_types.proofs.field.Reads as field
 use Rattle.std.proofs.num.wrapping_add_u32.Reads as wrapping-add-u32-reads
 use Rattle.parser_base.proofs.close.Reads as close-reads
+use Rattle.parser_types.proofs.+array_type+field+fields+option_type+parse_type+record_type.Lts-fields as lts
 use Rattle.parser_types.proofs.+array_type+field+fields+option_type+parse_type+record_type.Proof.Measures.{fields-at, field-below}
 use Rattle.parser_base.proofs.Loops.{MembersInvariant, midway-start, midway-turn, midway-end, falls}
 use Rattle.parser_base.proofs.Rounds.{weight}
-use mathlib.Core.Path.{_≡_, refl, sym, _∙_}
+use mathlib.Core.Path.{_≡_, refl, sym, _∙_, ap}
 use lib.ListN.{length}
 use mathlib.Core.List.{List, []}
 use Rattle.rules.specs.Rules.{typedName}
-use Rattle.parser_base.specs.Represents.{code}
+use Rattle.parser_base.specs.Represents.{parserOf, code}
 use Rattle.parser_base.specs.Refines.{deeper}
 
 abbrev claims : ℕ → lts.Claims
-claims t = (wants-reads.Asked, wants-reads.Learnt, field-below t, field.Post, wrapping-add-u32-reads.Asked, wrapping-add-u32-reads.Learnt, close-reads.Asked, close-reads.Learnt)
+claims t = (get-used-reads.Asked, get-used-reads.Learnt, member-follows-reads.Asked, member-follows-reads.Learnt, field-below t, field.Post, wrapping-add-u32-reads.Asked, wrapping-add-u32-reads.Learnt, close-reads.Asked, close-reads.Learnt)
 
 abbrev Inv-loop : lts.InvT-loop
-Inv-loop script types₀ lists₀ stop levels mark q₀ members₀ types lists q members = (length types ≡ length types₀) × (length lists ≡ length lists₀) × ((nodes : List ℕ) → MembersInvariant script stop (typedName (deeper script levels)) (code nodes types₀ lists₀ q₀) (code nodes types lists q) members)
+Inv-loop script types₀ lists₀ p₀ stop levels mark members₀ types lists p members = (length types ≡ length types₀) × (length lists ≡ length lists₀) × ((nodes : List ℕ) → MembersInvariant script stop (typedName (deeper script levels)) (code nodes types₀ lists₀ (parserOf p₀)) (code nodes types lists (parserOf p)) members)
 
 abbrev μ-loop : lts.MeasureT-loop
-μ-loop script types₀ lists₀ stop levels mark q₀ members₀ types lists q members = weight script (code [] types lists q)
+μ-loop script types₀ lists₀ p₀ stop levels mark members₀ types lists p members = weight script (code [] types lists (parserOf p))
 
 loop-holds : (t : ℕ) → lts.Need-loop-holds (claims t) (fields-at t) fields.Post Inv-loop μ-loop
 loop-holds t c = (refl, refl, λ nodes. midway-start)
 
 loop-less : (t : ℕ) → lts.Need-loop-less (claims t) (fields-at t) fields.Post Inv-loop μ-loop
 loop-less t c =
-    let wants = c .before .before .before .before .before .before .before .before .before .wants in
-    let if1 = c .before .before .before .before .before .before .before .before .if1 in
+    let member-follows = c .before .before .before .before .before .before .before .before .before .before .member-follows in
+    let if1 = c .before .before .before .before .before .before .before .before .before .if1 in
     let field = c .before .before .before .before .before .field in
-    falls _ (sym (wants .ensures) ∙ if1 .taken) (field .ensures [])
+    falls _ (sym (member-follows .ensures) ∙ if1 .taken) (field .ensures [])
 
 loop-again : (t : ℕ) → lts.Need-loop-again (claims t) (fields-at t) fields.Post Inv-loop μ-loop
 loop-again t c =
-    let loop = c .before .before .before .before .before .before .before .before .before .before .loop in
-    let wants = c .before .before .before .before .before .before .before .before .before .wants in
-    let if1 = c .before .before .before .before .before .before .before .before .if1 in
+    let loop = c .before .before .before .before .before .before .before .before .before .before .before .before .loop in
+    let member-follows = c .before .before .before .before .before .before .before .before .before .before .member-follows in
+    let if1 = c .before .before .before .before .before .before .before .before .before .if1 in
     let field = c .before .before .before .before .before .field in
     let wrapping-add-u32 = c .wrapping-add-u32 in
-    (omega arith, omega arith, λ nodes. midway-turn (loop .inv .2 nodes) (sym (wants .ensures) ∙ if1 .taken) (field .ensures nodes) (wrapping-add-u32 .ensures))
+    (omega arith, omega arith, λ nodes. midway-turn (loop .inv .2 nodes) (sym (member-follows .ensures) ∙ if1 .taken) (field .ensures nodes) (wrapping-add-u32 .ensures))
 
 returns : (t : ℕ) → lts.Need-returns (claims t) (fields-at t) fields.Post Inv-loop μ-loop
 returns t c =
-    let loop = c .before .before .before .before .before .before .loop in
-    let wants = c .before .before .before .before .before .wants in
-    let if1 = c .before .before .before .before .if1 in
+    let loop = c .before .before .before .before .before .before .before .before .loop in
+    let member-follows = c .before .before .before .before .before .before .member-follows in
+    let if1 = c .before .before .before .before .before .if1 in
+    let get-used = c .before .before .before .before .before .before .before .before .before .get-used in
     let close = c .before .before .close in
-    ((λ nodes. midway-end (loop .inv .2 nodes) (sym (wants .ensures) ∙ if1 .left) refl (close .ensures .0 nodes _)), close .ensures .1)
+    ((λ nodes. midway-end (loop .inv .2 nodes) (sym (member-follows .ensures) ∙ if1 .left) (ap (λ (u : Used). u .scratch) (get-used .ensures)) (close .ensures .0 nodes _)), close .ensures .1)
 
 pub fields-meets : {M : Type 1} (t : ℕ) → lts.Closed (claims t) (fields-at t) fields.Post M
 fields-meets t = lts.spec (claims t) (fields-at t) fields.Post Inv-loop μ-loop
+    (λ c κs. search needs)  -- get-used-requires
     (loop-holds t)
-    (λ c κs. search needs)  -- wants-requires
+    (λ c κs. search needs)  -- member-follows-requires
     (λ c κs. (omega arith, search needs))  -- field-requires
     (λ c κs. search needs)  -- wrapping-add-u32-requires
     (loop-less t)

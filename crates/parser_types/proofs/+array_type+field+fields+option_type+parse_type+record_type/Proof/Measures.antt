@@ -15,64 +15,64 @@ use Rattle.parser_types.proofs.option_type.Kinds as option-type-kinds
 use Rattle.parser_types.proofs.parse_type.Kinds as parse-type-kinds
 use Rattle.parser_types.proofs.record_type.Kinds as record-type-kinds
 
-abbrev pub μ-array-type : Measures 3 array-type-kinds.ps ℕ
+abbrev pub μ-array-type : Measures 4 array-type-kinds.ps ℕ
 μ-array-type κs a = 4 * a .1 .1 .1 .1 .0 + 1
 
-abbrev pub μ-field : Measures 3 field-kinds.ps ℕ
+abbrev pub μ-field : Measures 4 field-kinds.ps ℕ
 μ-field κs a = 4 * a .1 .1 .1 .1 .0 + 1
 
-abbrev pub μ-fields : Measures 3 fields-kinds.ps ℕ
+abbrev pub μ-fields : Measures 4 fields-kinds.ps ℕ
 μ-fields κs a = 4 * a .1 .1 .1 .1 .1 .0 + 2
 
-abbrev pub μ-option-type : Measures 3 option-type-kinds.ps ℕ
+abbrev pub μ-option-type : Measures 4 option-type-kinds.ps ℕ
 μ-option-type κs a = 4 * a .1 .1 .1 .1 .0 + 1
 
-abbrev pub μ-parse-type : Measures 3 parse-type-kinds.ps ℕ
+abbrev pub μ-parse-type : Measures 4 parse-type-kinds.ps ℕ
 μ-parse-type κs a = 4 * a .1 .1 .1 .1 .0
 
-abbrev pub μ-record-type : Measures 3 record-type-kinds.ps ℕ
+abbrev pub μ-record-type : Measures 4 record-type-kinds.ps ℕ
 μ-record-type κs a = 4 * a .1 .1 .1 .1 .0 + 3
 
-abbrev pub array-type-at : ℕ → In 3 array-type-kinds.ps
+abbrev pub array-type-at : ℕ → In 4 array-type-kinds.ps
 array-type-at t =
-    and 3 array-type-kinds.ps (is 3 array-type-kinds.ps μ-array-type t) array-type.Pre
+    and 4 array-type-kinds.ps (is 4 array-type-kinds.ps μ-array-type t) array-type.Pre
 
-abbrev pub array-type-below : ℕ → In 3 array-type-kinds.ps
+abbrev pub array-type-below : ℕ → In 4 array-type-kinds.ps
 array-type-below t =
-    and 3 array-type-kinds.ps (falls 3 array-type-kinds.ps _<_ μ-array-type t) array-type.Pre
+    and 4 array-type-kinds.ps (falls 4 array-type-kinds.ps _<_ μ-array-type t) array-type.Pre
 
-abbrev pub field-at : ℕ → In 3 field-kinds.ps
-field-at t = and 3 field-kinds.ps (is 3 field-kinds.ps μ-field t) field.Pre
+abbrev pub field-at : ℕ → In 4 field-kinds.ps
+field-at t = and 4 field-kinds.ps (is 4 field-kinds.ps μ-field t) field.Pre
 
-abbrev pub field-below : ℕ → In 3 field-kinds.ps
-field-below t = and 3 field-kinds.ps (falls 3 field-kinds.ps _<_ μ-field t) field.Pre
+abbrev pub field-below : ℕ → In 4 field-kinds.ps
+field-below t = and 4 field-kinds.ps (falls 4 field-kinds.ps _<_ μ-field t) field.Pre
 
-abbrev pub fields-at : ℕ → In 3 fields-kinds.ps
-fields-at t = and 3 fields-kinds.ps (is 3 fields-kinds.ps μ-fields t) fields.Pre
+abbrev pub fields-at : ℕ → In 4 fields-kinds.ps
+fields-at t = and 4 fields-kinds.ps (is 4 fields-kinds.ps μ-fields t) fields.Pre
 
-abbrev pub fields-below : ℕ → In 3 fields-kinds.ps
-fields-below t = and 3 fields-kinds.ps (falls 3 fields-kinds.ps _<_ μ-fields t) fields.Pre
+abbrev pub fields-below : ℕ → In 4 fields-kinds.ps
+fields-below t = and 4 fields-kinds.ps (falls 4 fields-kinds.ps _<_ μ-fields t) fields.Pre
 
-abbrev pub option-type-at : ℕ → In 3 option-type-kinds.ps
+abbrev pub option-type-at : ℕ → In 4 option-type-kinds.ps
 option-type-at t =
-    and 3 option-type-kinds.ps (is 3 option-type-kinds.ps μ-option-type t) option-type.Pre
+    and 4 option-type-kinds.ps (is 4 option-type-kinds.ps μ-option-type t) option-type.Pre
 
-abbrev pub option-type-below : ℕ → In 3 option-type-kinds.ps
+abbrev pub option-type-below : ℕ → In 4 option-type-kinds.ps
 option-type-below t =
-    and 3 option-type-kinds.ps (falls 3 option-type-kinds.ps _<_ μ-option-type t) option-type.Pre
+    and 4 option-type-kinds.ps (falls 4 option-type-kinds.ps _<_ μ-option-type t) option-type.Pre
 
-abbrev pub parse-type-at : ℕ → In 3 parse-type-kinds.ps
+abbrev pub parse-type-at : ℕ → In 4 parse-type-kinds.ps
 parse-type-at t =
-    and 3 parse-type-kinds.ps (is 3 parse-type-kinds.ps μ-parse-type t) parse-type.Pre
+    and 4 parse-type-kinds.ps (is 4 parse-type-kinds.ps μ-parse-type t) parse-type.Pre
 
-abbrev pub parse-type-below : ℕ → In 3 parse-type-kinds.ps
+abbrev pub parse-type-below : ℕ → In 4 parse-type-kinds.ps
 parse-type-below t =
-    and 3 parse-type-kinds.ps (falls 3 parse-type-kinds.ps _<_ μ-parse-type t) parse-type.Pre
+    and 4 parse-type-kinds.ps (falls 4 parse-type-kinds.ps _<_ μ-parse-type t) parse-type.Pre
 
-abbrev pub record-type-at : ℕ → In 3 record-type-kinds.ps
+abbrev pub record-type-at : ℕ → In 4 record-type-kinds.ps
 record-type-at t =
-    and 3 record-type-kinds.ps (is 3 record-type-kinds.ps μ-record-type t) record-type.Pre
+    and 4 record-type-kinds.ps (is 4 record-type-kinds.ps μ-record-type t) record-type.Pre
 
-abbrev pub record-type-below : ℕ → In 3 record-type-kinds.ps
+abbrev pub record-type-below : ℕ → In 4 record-type-kinds.ps
 record-type-below t =
-    and 3 record-type-kinds.ps (falls 3 record-type-kinds.ps _<_ μ-record-type t) record-type.Pre
+    and 4 record-type-kinds.ps (falls 4 record-type-kinds.ps _<_ μ-record-type t) record-type.Pre

@@ -3,33 +3,36 @@ use borrow.Author.Needs.{needs}
 use native.Mathlib.Omega.{arith}
 use Prim.Native.Nat.{ℕ}
 use Rattle.parser_types.proofs.record_type.Reads as record-type
-use Rattle.parser_types.proofs.+array_type+field+fields+option_type+parse_type+record_type.Lts-record_type as lts
+use Rattle.parser_base.proofs.current.Reads as current-reads
 use Rattle.parser_base.proofs.advance.Reads as advance-reads
 use Rattle.parser_base.proofs.expect.Reads as expect-reads
 use Rattle.parser_types.proofs.fields.Reads as fields
 use Rattle.parser_base.proofs.push_type.Reads as push-type-reads
+use Rattle.parser_types.proofs.+array_type+field+fields+option_type+parse_type+record_type.Lts-record_type as lts
 use Rattle.parser_types.proofs.+array_type+field+fields+option_type+parse_type+record_type.Proof.Measures.{record-type-at, fields-below}
 use Rattle.parser_base.proofs.Steps.{read, seq, then, enough}
 use Rattle.rules.specs.Rules.{recordType}
 
 abbrev claims : ℕ → lts.Claims
-claims t = (advance-reads.Asked, advance-reads.Learnt, expect-reads.Asked, expect-reads.Learnt, fields-below t, fields.Post, push-type-reads.Asked, push-type-reads.Learnt)
+claims t = (current-reads.Asked, current-reads.Learnt, advance-reads.Asked, advance-reads.Learnt, expect-reads.Asked, expect-reads.Learnt, fields-below t, fields.Post, push-type-reads.Asked, push-type-reads.Learnt)
 
 returns : (t : ℕ) → lts.Need-returns (claims t) (record-type-at t) record-type.Post
 unfolding recordType
 returns t c =
-    let advance = c .before .before .before .before .before .before .before .before .before .before .before .before .before .before .advance in
+    let current = c .before .before .before .before .before .before .before .before .before .before .before .before .before .before .before .before .before .current in
+    let advance = c .before .before .before .before .before .before .before .before .before .before .before .before .before .before .before .advance in
     let expect = c .before .before .before .before .before .before .before .before .before .before .before .before .before .expect in
-    let fields = c .before .before .before .before .before .before .before .before .before .before .fields in
+    let fields = c .before .before .before .before .before .before .before .before .before .fields in
     let push-type = c .before .before .push-type in
-    λ nodes. enough (read _ (advance .ensures nodes _ _) (then (expect .ensures nodes _ _) (seq _ (fields .ensures .0 nodes) (push-type .ensures _ nodes _)))) tt
+    λ nodes. enough (read _ (advance .ensures nodes _ _) (current .ensures) (then (expect .ensures nodes _ _) (seq _ (fields .ensures .0 nodes) (push-type .ensures _ nodes _)))) tt
 
 pub record-type-meets : {M : Type 1} (t : ℕ) → lts.Closed (claims t) (record-type-at t) record-type.Post M
 record-type-meets t = lts.spec (claims t) (record-type-at t) record-type.Post
+    (λ c κs. search needs)  -- current-requires
     (λ c κs. search needs)  -- advance-requires
     (λ c κs. search needs)  -- expect-requires
     (λ c κs. (omega arith, search needs))  -- fields-requires
     (λ c κs. search needs)  -- push-type-requires
-    (λ c. search needs)  -- same-length
-    (λ c. search needs)  -- same-length-2
+    (λ c. omega (arith, c .before .before .push-type .kept, c .before .before .before .before .before .before .before .before .before .fields .kept))  -- same-length
+    (λ c. omega (arith, c .before .before .push-type .kept, c .before .before .before .before .before .before .before .before .before .fields .kept))  -- same-length-2
     (returns t)

@@ -1,4 +1,4 @@
--- `parser_base::settle` meets its contract.
+-- `parser_base::move_list` meets its contract.
 use borrow.Author.Needs.{needs}
 use mathlib.Core.Path.{_≡_, refl}
 use mathlib.Core.List.{List, _++_, reverse}
@@ -6,8 +6,8 @@ use Prim.Native.Nat.{ℕ, _≤_, _-_, _+_}
 use native.Mathlib.Omega.{arith}
 use lib.ListN.{length, replicate, length-set}
 use Rattle.parser_base.proofs.Cells.{Moving, moving-start, moving-turn, moving-end}
-use Rattle.parser_base.proofs.settle.Statement.{statement}
-use Rattle.parser_base.proofs.settle.Tie as tie
+use Rattle.parser_base.proofs.move_list.Statement.{statement}
+use Rattle.parser_base.proofs.move_list.Tie as tie
 
 abbrev Inv-loop : tie.InvT-loop
 Inv-loop part₀ n scratch i₀ part i = (i ≤ n) × (length part ≡ length part₀) × ((top base : List ℕ) (z : ℕ) → part₀ ≡ replicate z 0 ++ (reverse top ++ base) → length top ≡ n → length base + n ≡ scratch → n ≤ z → Moving top base z i part)
@@ -24,8 +24,8 @@ loop-again c = (omega arith, simp length-set (omega arith), λ top base z e a b 
 returns : tie.Need-returns Inv-loop μ-loop
 returns c = λ top base z e a b k. moving-end (c .before .loop .inv .2 top base z e a b k) (c .before .loop .inv .0) (c .loop-test .left) a k
 
-pub settle-spec : {M : Type 1} → statement M
-settle-spec =
+pub move-list-spec : {M : Type 1} → statement M
+move-list-spec =
     tie.close
     (tie.spec
     Inv-loop
