@@ -5,7 +5,6 @@ mod diagnostic;
 mod tok;
 mod utf8;
 
-use byte_search::ByteSet;
 pub use byte_search::Found;
 use byte_search::find_byte;
 use byte_search::line_end;
@@ -13,7 +12,6 @@ use byte_search::peek;
 use byte_search::skip_class;
 use byte_search::skip_digits;
 use byte_search::skip_ident_cont;
-use byte_search::skip_set;
 use class::CLASS;
 use class::Class;
 use class::is_digit;
@@ -67,7 +65,7 @@ fn begins_comment(b: u8, next: u8) -> bool
     next != b'!'
 }
 
-// The position after blanks and comments. A long run of blanks is passed over from a multiple of 16 on.
+// The position after blanks and comments.
 fn skip_separators(script: &[u8], pos: usize) -> usize
     ensures { λ r. ⌜ r ≡ pos + skipped false (drop pos (now (script .entry))) ⌝ }
 {
@@ -76,9 +74,6 @@ fn skip_separators(script: &[u8], pos: usize) -> usize
         let b = script[p];
         if is_ws(b) {
             p += 1;
-            if p % 16 == 0 {
-                p = skip_set(ByteSet::WS, 0, script, p);
-            }
         } else if begins_comment(b, peek(script, p + 1)) {
             p += line_end(&script[p..]);
         } else {

@@ -1,16 +1,15 @@
 -- `skip_separators` meets its contract: each turn passes over blanks or a comment.
 -- Assumes nothing.
 use mathlib.Core.Bool.{false}
-use mathlib.Core.Path.{_≡_, refl, _∙_, sym, ap}
+use mathlib.Core.Path.{_≡_, _∙_, sym, ap}
 use Prim.Native.Nat.{_+_, _-_}
 use native.Mathlib.Omega.{arith}
 use lib.ListN.{length, drop, length-drop}
 use borrow.Rule.Slice.PartAt.{part-to-end}
 use borrow.Author.Needs.{needs}
-use Rattle.lex.specs.Bytes.{inSet, isWs}
 use Rattle.lex.specs.Lex.{beginsComment, skipped}
-use Rattle.lex.proofs.Laws.{before-le, run-agree}
-use Rattle.lex.proofs.Skips.{skip-end, skip-blank, skip-blanks, skip-stop, skip-comment, line-pos}
+use Rattle.lex.proofs.Laws.{before-le}
+use Rattle.lex.proofs.Skips.{skip-end, skip-blank, skip-stop, skip-comment, line-pos}
 use Rattle.lex.proofs.skip_separators.Statement.{statement}
 use Rattle.lex.proofs.skip_separators.Tie as tie
 
@@ -21,20 +20,10 @@ abbrev μ-loop : tie.MeasureT-loop
 μ-loop script pos p₀ p = length script - p
 
 loop-again : tie.Need-loop-again Inv-loop μ-loop
-unfolding inSet
 loop-again c =
     let c3 = c .before .before .before in
-    let c5 = c3 .before .before in
-    let c8 = c5 .before .before .before in
-    let s = c8 .args .script .now in
-    skip-blanks s _ _ (skip-blank s _ _ (c5 .before .loop .inv) (c5 .loop-test .taken) (sym (c3 .is-ws .ensures) ∙ c .before .before .if1 .taken)) _
-    (omega (arith, run-agree (inSet 2 0) isWs (λ b. refl) (drop (c5 .before .loop .p + 1) s), c .skip-set .ensures))
-
-loop-again-2 : tie.Need-loop-again-2 Inv-loop μ-loop
-loop-again-2 c =
-    let c4 = c .before .before .before .before in
-    let c7 = c4 .before .before .before in
-    skip-blank (c7 .args .script .now) _ _ (c4 .before .loop .inv) (c4 .loop-test .taken) (sym (c .before .before .is-ws .ensures) ∙ c .before .if1 .taken)
+    let c6 = c3 .before .before .before in
+    skip-blank (c6 .args .script .now) _ _ (c3 .before .loop .inv) (c3 .loop-test .taken) (sym (c .before .is-ws .ensures) ∙ c .if1 .taken)
 
 add-p-2 : tie.Need-add-p-2 Inv-loop μ-loop
 add-p-2 c =
@@ -47,8 +36,8 @@ add-p-2 c =
       rw part-to-end at (c .line-end .ensures),
     )
 
-loop-less-3 : tie.Need-loop-less-3 Inv-loop μ-loop
-loop-less-3 c =
+loop-less-2 : tie.Need-loop-less-2 Inv-loop μ-loop
+loop-less-2 c =
     let c3 = c .before .before .before in
     let c4 = c3 .before in
     let c8 = c4 .before .before .before .before in
@@ -57,12 +46,12 @@ loop-less-3 c =
     omega (
       arith,
       line-pos (c11 .args .script .now) (c9 .loop .p) _ (c8 .loop-test .taken)
-          (ap (beginsComment _) (sym (c4 .peek .ensures)) ∙ sym (c3 .begins-comment .ensures) ∙ c .before .before .if3 .taken),
+          (ap (beginsComment _) (sym (c4 .peek .ensures)) ∙ sym (c3 .begins-comment .ensures) ∙ c .before .before .if2 .taken),
       rw part-to-end at (c .line-end .ensures),
     )
 
-loop-again-3 : tie.Need-loop-again-3 Inv-loop μ-loop
-loop-again-3 c =
+loop-again-2 : tie.Need-loop-again-2 Inv-loop μ-loop
+loop-again-2 c =
     let c3 = c .before .before .before in
     let c4 = c3 .before in
     let c5 = c4 .before in
@@ -71,7 +60,7 @@ loop-again-3 c =
     let c9 = c8 .before in
     let c11 = c9 .before .before in
     skip-comment (c11 .args .script .now) _ _ (c9 .loop .inv) (c8 .loop-test .taken) (sym (c6 .is-ws .ensures) ∙ c5 .if1 .left)
-    (ap (beginsComment _) (sym (c4 .peek .ensures)) ∙ sym (c3 .begins-comment .ensures) ∙ c .before .before .if3 .taken) _ (rw part-to-end at (c .line-end .ensures))
+    (ap (beginsComment _) (sym (c4 .peek .ensures)) ∙ sym (c3 .begins-comment .ensures) ∙ c .before .before .if2 .taken) _ (rw part-to-end at (c .line-end .ensures))
 
 returns : tie.Need-returns Inv-loop μ-loop
 returns c =
@@ -81,7 +70,7 @@ returns c =
     let c7 = c6 .before in
     let c9 = c7 .before .before in
     skip-stop (c9 .args .script .now) _ _ (c7 .loop .inv) (c6 .loop-test .taken) (sym (c4 .is-ws .ensures) ∙ c3 .if1 .left)
-    (ap (beginsComment _) (sym (c .before .before .peek .ensures)) ∙ sym (c .before .begins-comment .ensures) ∙ c .if3 .left)
+    (ap (beginsComment _) (sym (c .before .before .peek .ensures)) ∙ sym (c .before .begins-comment .ensures) ∙ c .if2 .left)
 
 returns-2 : tie.Need-returns-2 Inv-loop μ-loop
 returns-2 c =
@@ -98,11 +87,8 @@ skip-separators-spec =
     (λ c. search needs)
     (λ c κs. search needs)
     (λ c. search needs)
-    (λ c κs. search needs)
     (λ c. search needs)
     loop-again
-    (λ c. search needs)
-    loop-again-2
     (λ c. search needs)
     (λ c κs. search needs)
     (λ c κs. search needs)
@@ -111,7 +97,7 @@ skip-separators-spec =
     (λ c. search needs)
     (λ c κs. search needs)
     add-p-2
-    loop-less-3
-    loop-again-3
+    loop-less-2
+    loop-again-2
     returns
     returns-2)
