@@ -6,13 +6,18 @@ use Prim.Native.Nat.{ℕ, _<_, _≤_}
 use native.Mathlib.Omega.{arith}
 use lib.Bits.{bitAnd, bitOr}
 use lib.Dec.{leb, ltb, eqb}
+use lib.ListN.{getD}
 use borrow.Author.Tests.{le-leb, lt-leb, leb-true, ltb-true, ltb-false, ne-eqb}
-use Rattle.lex.specs.Bytes.{classOf, bit, hasBit, Classes, isLetter, isIdentCont, isIdentStart, isDigit, isNumCont, isWs, or, between}
+use Rattle.lex.specs.Bytes.{classOf, bit, isLetter, isIdentCont, isIdentStart, isDigit, isNumCont, isWs, or, between}
 use Rattle.lex.proofs.Laws.{cases, table, table-at, agree, at-each}
 
 -- the table that the code has
-pub classes : Classes (table classOf 0 256)
+pub classes : (b : ℕ) → b < 256 → getD (table classOf 0 256) b 0 ≡ classOf b
 classes b h = table-at classOf 0 256 b h
+
+-- a byte's class has the bit
+abbrev pub hasBit : ℕ → ℕ → Bool
+hasBit m b = not (eqb (bitAnd (classOf b) m) 0)
 
 pub below : (low high b : ℕ) → b < low → between low high b ≡ false
 unfolding between
@@ -59,7 +64,6 @@ module _ (b : ℕ) (h : 256 ≤ b) where
   no-class = rw (in-no-name, no-start, no-digit, in-no-number, no-separator)
 
   no-bit : (m : ℕ) → not (eqb (bitAnd 0 m) 0) ≡ false → hasBit m b ≡ false
-  unfolding hasBit
   no-bit m e = rw no-class e
 
 -- ---- each bit stands for its property
@@ -71,13 +75,16 @@ everywhere m p bytes e others b = go (ltb b 256) refl
     go true q = agree (hasBit m) p true 256 b bytes (ltb-true b 256 q)
     go false q = let h = ltb-false b 256 q in no-bit b h m e ∙ sym (others b h)
 
-pub beginsName-bit : (b : ℕ) → hasBit 2 b ≡ isIdentStart b
-unfolding hasBit classOf bit isIdentCont isIdentStart isDigit isNumCont isWs or between
-beginsName-bit = everywhere 2 isIdentStart refl refl no-start
-
-pub inNumber-bit : (b : ℕ) → hasBit 8 b ≡ isNumCont b
-unfolding hasBit classOf bit isIdentCont isIdentStart isDigit isNumCont isWs or between
-inNumber-bit = everywhere 8 isNumCont refl refl in-no-number
+-- the rule of the table: its five bits, each at all bytes
+pub class-bits : (b : ℕ) → (hasBit 1 b ≡ isIdentCont b) × (hasBit 2 b ≡ isIdentStart b) × (hasBit 4 b ≡ isDigit b) × (hasBit 8 b ≡ isNumCont b) × (hasBit 16 b ≡ isWs b)
+unfolding classOf bit isIdentCont isIdentStart isDigit isNumCont isWs or between
+class-bits b = (
+  everywhere 1 isIdentCont refl refl in-no-name b,
+  everywhere 2 isIdentStart refl refl no-start b,
+  everywhere 4 isDigit refl refl no-digit b,
+  everywhere 8 isNumCont refl refl in-no-number b,
+  everywhere 16 isWs refl refl no-separator b,
+)
 
 -- ---- bytes that are told without the table
 
@@ -124,3 +131,12 @@ inName b = letters _ _ _ _
 
 pub letter-inName : (b : ℕ) → isLetter b ≡ true → isIdentCont b ≡ true
 letter-inName b e = rw (← inName b, e)
+
+in-number : (digit dot : Bool) → digit || dot ≡ or digit dot
+unfolding or
+in-number true dot = refl
+in-number false dot = refl
+
+pub inNumber : (b : ℕ) → isDigit b || eqb b 46 ≡ isNumCont b
+unfolding isNumCont
+inNumber b = in-number _ _

@@ -179,21 +179,21 @@ lead-asks b m l h =
 -- ---- a script, read from place to place: `isBoundary (stateAfter Boundary (drop i s))` stays what it is
 
 -- behind the bytes in front that are ASCII
-ascii-run : (s : List ℕ) → stateAfter Boundary (drop (countWhile (inSet 3 0) s) s) ≡ stateAfter Boundary s
+ascii-run : (s : List ℕ) → stateAfter Boundary (drop (countWhile (inSet 2 0) s) s) ≡ stateAfter Boundary s
 unfolding countWhile inSet stateAfter nextState afterLead
 ascii-run [] = refl
 ascii-run (b ∷ bs) = go (ltb b 0x80) refl (ascii-run bs)
   where
-    go : (t : Bool) → ltb b 0x80 ≡ t → stateAfter Boundary (drop (countWhile (inSet 3 0) bs) bs) ≡ stateAfter Boundary bs
-        → stateAfter Boundary (drop (countWhile (inSet 3 0) (b ∷ bs)) (b ∷ bs)) ≡ stateAfter Boundary (b ∷ bs)
+    go : (t : Bool) → ltb b 0x80 ≡ t → stateAfter Boundary (drop (countWhile (inSet 2 0) bs) bs) ≡ stateAfter Boundary bs
+        → stateAfter Boundary (drop (countWhile (inSet 2 0) (b ∷ bs)) (b ∷ bs)) ≡ stateAfter Boundary (b ∷ bs)
     go true e more = simp (e, countWhile) (more ∙ ap (λ (q : Utf8State). stateAfter q bs) (rw (e, afterLead)))
     go false e more = simp (e, countWhile)
 
-pub ascii-front : (s : List ℕ) (n : ℕ) → n ≡ 0 + countWhile (inSet 3 0) (drop 0 s) → (n ≤ length s) × (isBoundary (stateAfter Boundary (drop n s)) ≡ utf8 s)
+pub ascii-front : (s : List ℕ) (n : ℕ) → n ≡ 0 + countWhile (inSet 2 0) (drop 0 s) → (n ≤ length s) × (isBoundary (stateAfter Boundary (drop n s)) ≡ utf8 s)
 unfolding utf8
 ascii-front s n e =
-    let run : n ≡ countWhile (inSet 3 0) s = e ∙ zero-add _ in
-    (rw run (run-le (inSet 3 0) s), rw run (ap isBoundary (ascii-run s)))
+    let run : n ≡ countWhile (inSet 2 0) s = e ∙ zero-add _ in
+    (rw run (run-le (inSet 2 0) s), rw run (ap isBoundary (ascii-run s)))
 
 module _ (s : List ℕ) (i : ℕ) (t : Bool) (reached : isBoundary (stateAfter Boundary (drop i s)) ≡ t) (h : i < length s) where
   behind : isBoundary (stateAfter (afterLead (getD s i 0)) (drop (i + 1) s)) ≡ t

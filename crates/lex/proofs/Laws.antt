@@ -58,7 +58,7 @@ pub at-each : {A : Type 0} (p : ℕ → Bool) (f : ℕ → A) (v : A) (b : ℕ) 
 at-each {A} p f v b e h q = rw q at (agree (λ (x : ℕ). elim (p x) as (λ (_ : Bool). A) [ true ↦ f x | false ↦ v ]) (λ (x : ℕ). v) v 256 b e h)
 
 -- properties that agree have runs of the same length
-pub run-agree : (p q : ℕ → Bool) → ((b : ℕ) → p b ≡ q b) → (s : List ℕ) → countWhile p s ≡ countWhile q s
+run-agree : (p q : ℕ → Bool) → ((b : ℕ) → p b ≡ q b) → (s : List ℕ) → countWhile p s ≡ countWhile q s
 unfolding countWhile
 run-agree p q h [] = refl
 run-agree p q h (b ∷ bs) = rw (h b, countWhile) (ap (λ (n : ℕ). elim (q b) as (λ (_ : Bool). ℕ) [ true ↦ suc n | false ↦ 0 ]) (run-agree p q h bs))
@@ -123,7 +123,7 @@ module _ (p : ℕ → Bool) (s : List ℕ) (at : ℕ) where
   window-end k t w e f = e ∙ ap (λ (n : ℕ). leb n (countWhile p (drop at s))) f
 
 -- a run goes on behind its first `k` bytes
-pub run-over : (p : ℕ → Bool) (k : ℕ) (s : List ℕ) → k ≤ countWhile p s → k + countWhile p (drop k s) ≡ countWhile p s
+run-over : (p : ℕ → Bool) (k : ℕ) (s : List ℕ) → k ≤ countWhile p s → k + countWhile p (drop k s) ≡ countWhile p s
 unfolding countWhile
 run-over p zero s h = zero-add _
 run-over p (suc k) [] h = absurd (not-suc-le-zero h)

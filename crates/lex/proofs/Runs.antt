@@ -3,19 +3,18 @@
 use mathlib.Core.Path.{_≡_, refl, _∙_, sym, ap}
 use mathlib.Core.Bool.{Bool, true, false, not}
 use mathlib.Core.List.{List, [], _∷_}
-use Prim.Native.Nat.{ℕ, suc, _+_, _-_, _<_, _≤_, zero-le, suc-le-suc}
+use Prim.Native.Nat.{ℕ, suc, _+_, _<_, zero-le, suc-le-suc}
 use native.Mathlib.Omega.{arith}
 use lib.Dec.{eqb}
-use lib.ListN.{length, getD, take, drop, length-take, length-drop}
-use lib.Seq.{length-take-le, getD-drop}
+use lib.ListN.{getD, take, drop, length-take}
+use lib.Seq.{length-take-le}
 use borrow.Author.Tests.{eq-eqb, ne-eqb}
 use Rattle.lex.specs.declared.byte_search.Found.the-variants.{At, Nothing}
 use Rattle.lex.specs.declared.tok.Piece.{Piece}
-use Rattle.lex.specs.Bytes.{or, between, isDigit, isIdentStart, isNumCont, hasBit, countWhile, differsFrom, before, findByte}
-use Rattle.lex.specs.Kind.{kI, kD}
+use Rattle.lex.specs.Bytes.{or, between, isDigit, isIdentStart, isNumCont, countWhile, differsFrom, before, findByte}
+use Rattle.lex.specs.Kind.{kI}
 use Rattle.lex.specs.Lex.{doubleIn, numberIn, number}
-use Rattle.lex.proofs.Bits.{inNumber-bit}
-use Rattle.lex.proofs.Laws.{run-le, run-agree, run-over, run-split, find-hit, find-miss}
+use Rattle.lex.proofs.Laws.{run-le, run-split, find-hit, find-miss}
 
 -- ---- a number: digits, and what of the run of digits and dots follows them
 
@@ -96,23 +95,5 @@ module _ (s : List ℕ) (d : ℕ) (front : d ≡ countWhile isDigit s) where
     unfolding number numberIn
     number-double e n run = rw (run, dot-found, e, numberIn)
 
-    -- the digits behind the dot
-    module _ (e : ℕ) (back : e ≡ countWhile isDigit (drop (d + 1) s)) where
-      pub back-inside : d + 1 + e ≤ length s
-      back-inside = omega (arith, dot-before, run-le isNumCont s, run-le isDigit (drop (d + 1) s), length-drop (d + 1) s)
-
-      -- without a second dot the number ends with the digits behind the first
-      pub number-one-dot : isIdentStart (getD s (d + 1) 0) ≡ false → (getD s (d + 1 + e) 0 ≡ 46 → ⊥) → Piece.Token kD (d + 1 + e) (d + 1 + e) ≡ number s
-      unfolding doubleIn
-      number-one-dot f h =
-          let t = drop (d + 1) s in
-          let m = countWhile isNumCont t in
-          let all : m ≡ e = digits-all t (rw (← back, getD-drop (d + 1) s e 0) h) ∙ sym back in
-          let same : d + 1 + e - (d + 1) ≡ m = omega (arith, all) in
-          let none : findByte 46 (take m t) ≡ Nothing = sym (find-miss 46 (take m t) e (back ∙ dot-behind t) (omega (arith, all, length-take m t))) in
-          let run : d + 1 + e ≡ countWhile isNumCont s = omega (arith, all, run-over isNumCont (d + 1) s (omega (arith, dot-before))) in
-          rw (same, none, doubleIn) at (number-double f (d + 1 + e) run)
-
-  pub number-run : (k : ℕ) → k ≡ countWhile (hasBit 8) (drop d s) → d + k ≡ countWhile isNumCont s
-  number-run k e =
-      ap (λ (m : ℕ). d + m) (e ∙ run-agree (hasBit 8) isNumCont inNumber-bit (drop d s)) ∙ rw front (run-split isDigit isNumCont digit-inNumber s)
+  pub number-run : (k : ℕ) → k ≡ countWhile isNumCont (drop d s) → d + k ≡ countWhile isNumCont s
+  number-run k e = ap (λ (m : ℕ). d + m) e ∙ rw front (run-split isDigit isNumCont digit-inNumber s)

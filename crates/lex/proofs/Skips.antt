@@ -33,17 +33,6 @@ pub stands : (b next : ℕ) → 32 < b → (b ≡ 35 → ⊥) → (isWs b ≡ fa
 unfolding beginsComment
 stands b next h n = (sym (separates-from-space b (omega arith)) ∙ ne-eqb b 32 (λ e. omega arith), rw (ne-eqb b 35 n, beginsComment))
 
--- blanks are passed over as a run
-blank-run : (bs : List ℕ) → countWhile isWs bs + skipped false (drop (countWhile isWs bs) bs) ≡ skipped false bs
-unfolding countWhile skipped
-blank-run [] = refl
-blank-run (b ∷ bs) = go (isWs b) refl (blank-run bs)
-  where
-    go : (t : Bool) → isWs b ≡ t → countWhile isWs bs + skipped false (drop (countWhile isWs bs) bs) ≡ skipped false bs
-        → countWhile isWs (b ∷ bs) + skipped false (drop (countWhile isWs (b ∷ bs)) (b ∷ bs)) ≡ skipped false (b ∷ bs)
-    go true e h = simp (e, countWhile, skipped) (omega arith)
-    go false e h = simp (e, countWhile) (zero-add _)
-
 -- a comment runs to the end of its line
 comment : (bs : List ℕ) → skipped true bs ≡ before 10 bs + skipped false (drop (before 10 bs) bs)
 unfolding skipped before countWhile differsFrom isWs or
@@ -76,12 +65,6 @@ module _ (s : List ℕ) (i n : ℕ) (scanned : i + skipped false (drop i s) ≡ 
   pub skip-end : length s ≤ i → i ≡ n
   unfolding skipped
   skip-end h = omega (arith, rw (drop-of-length-le s h) at scanned)
-
-  pub skip-blanks : (k : ℕ) → k ≡ i + countWhile isWs (drop i s) → k + skipped false (drop k s) ≡ n
-  skip-blanks k e =
-      let m = countWhile isWs (drop i s) in
-      let to : drop k s ≡ drop m (drop i s) = ap (λ (x : ℕ). drop x s) e ∙ sym (drop-drop m i s) in
-      rw to (omega (arith, blank-run (drop i s)))
 
   module _ (h : i < length s) where
     pub skip-blank : isWs (getD s i 0) ≡ true → i + 1 + skipped false (drop (i + 1) s) ≡ n

@@ -1,11 +1,9 @@
 -- The classes of bytes, runs of bytes, and the first place of a byte.
-use mathlib.Core.Path.{_≡_}
 use mathlib.Core.Bool.{Bool, true, false, not}
 use mathlib.Core.List.{List, [], _∷_}
-use Prim.Native.Nat.{ℕ, suc, _+_, _<_}
+use Prim.Native.Nat.{ℕ, suc, _+_}
 use lib.Dec.{leb, ltb, eqb}
-use lib.Bits.{bitAnd}
-use lib.ListN.{length, getD}
+use lib.ListN.{length}
 use Rattle.lex.specs.declared.byte_search.Found.{Found}
 use Rattle.lex.specs.declared.byte_search.Found.the-variants.{At, Nothing}
 
@@ -44,14 +42,6 @@ bit false n = 0
 unfoldable pub classOf : ℕ → ℕ
 classOf b = bit (isIdentCont b) 1 + bit (isIdentStart b) 2 + bit (isDigit b) 4 + bit (isNumCont b) 8 + bit (isWs b) 16
 
--- a byte's class has the bit
-unfoldable pub hasBit : ℕ → ℕ → Bool
-hasBit m b = not (eqb (bitAnd (classOf b) m) 0)
-
--- a table of the classes of all bytes
-abbrev pub Classes : List ℕ → Type 0
-Classes table = (b : ℕ) → b < 256 → getD table b 0 ≡ classOf b
-
 -- how many bytes in front have the property
 unfoldable pub countWhile : (ℕ → Bool) → List ℕ → ℕ
 countWhile p [] = 0
@@ -68,7 +58,7 @@ inSet set except b =
       | false ↦
           elim (eqb set 1) [
             | true ↦ isDigit b
-            | false ↦ elim (eqb set 2) [ true ↦ isWs b | false ↦ elim (eqb set 3) [ true ↦ ltb b 0x80 | false ↦ differsFrom except b ] ]
+            | false ↦ elim (eqb set 2) [ true ↦ ltb b 0x80 | false ↦ differsFrom except b ]
           ]
     ]
 

@@ -1,14 +1,13 @@
 // Byte-level scans for the lexer.
-use crate::class::has_bit;
 use crate::class::is_digit;
 use crate::class::is_ident_cont;
 use crate::class::is_letter;
-use crate::class::is_ws;
+use crate::class::is_num_cont;
 ghost use mathlib.Core.Path.{_≡_};
 ghost use Prim.Native.Nat.{_+_, _≤_};
 ghost use lib.Dec.{leb};
 ghost use lib.ListN.{length, getD, drop};
-ghost use Rattle.lex.specs.Bytes.{isDigit, isIdentCont, inSet, hasBit, Classes, countWhile, before, findByte};
+ghost use Rattle.lex.specs.Bytes.{isDigit, isIdentCont, isNumCont, inSet, countWhile, before, findByte};
 
 // What a search found.
 pub enum Found {
@@ -24,11 +23,9 @@ impl ByteSet {
 
     pub(crate) const DIGIT: u8 = 1;
 
-    pub(crate) const WS: u8 = 2;
+    pub(crate) const ASCII: u8 = 2;
 
-    pub(crate) const ASCII: u8 = 3;
-
-    pub(crate) const EXCEPT: u8 = 4; // all bytes but one, which is given
+    pub(crate) const EXCEPT: u8 = 3; // all bytes but one, which is given
 }
 
 // Whether the byte is in the set.
@@ -38,7 +35,6 @@ fn in_set(set: u8, except: u8, b: u8) -> bool
     match set {
         ByteSet::IDENT_CONT => is_ident_cont(b),
         ByteSet::DIGIT => is_digit(b),
-        ByteSet::WS => is_ws(b),
         ByteSet::ASCII => b < 0x80,
         _ => b != except,
     }
@@ -151,14 +147,13 @@ pub(crate) fn skip_ident_cont(haystack: &[u8]) -> usize
     skip_set(ByteSet::IDENT_CONT, 0, haystack, i)
 }
 
-// How many bytes in front have a bit in their class, by the table that is lent.
-pub(crate) fn skip_class(class: &[u8; 256], bit: u8, haystack: &[u8]) -> usize
-    requires { ⌜ Classes (now class) ⌝ }
-    ensures { λ r. ⌜ r ≡ countWhile (hasBit bit) (now (haystack .entry)) ⌝ }
+// How many bytes in front can continue a number.
+pub(crate) fn skip_num_cont(haystack: &[u8]) -> usize
+    ensures { λ r. ⌜ r ≡ countWhile isNumCont (now (haystack .entry)) ⌝ }
 {
     let mut i = 0;
     while i < haystack.len() {
-        if !has_bit(class, bit, haystack[i]) {
+        if !is_num_cont(haystack[i]) {
             return i;
         }
         i += 1;

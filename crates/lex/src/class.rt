@@ -1,6 +1,6 @@
 // The class of a byte: five bits, looked up in one table.
 ghost use mathlib.Core.Path.{_≡_};
-ghost use Rattle.lex.specs.Bytes.{isWs, isLetter, isDigit, isIdentStart, isIdentCont, classOf, hasBit, Classes};
+ghost use Rattle.lex.specs.Bytes.{isWs, isLetter, isDigit, isIdentStart, isIdentCont, isNumCont, classOf};
 
 // The bits of a class: what the byte can be or begin.
 pub(crate) struct Class(pub u8);
@@ -336,10 +336,9 @@ pub(crate) fn is_ident_start(b: u8) -> bool
     class_of(b) & Class::IDENT_START != 0
 }
 
-// Whether the byte's class has the bit, by the table that is lent.
-pub(crate) fn has_bit(class: &[u8; 256], bit: u8, b: u8) -> bool
-    requires { ⌜ Classes (now class) ⌝ }
-    ensures { λ r. ⌜ r ≡ hasBit bit b ⌝ }
+// Whether the byte can continue a number.
+pub(crate) fn is_num_cont(b: u8) -> bool
+    ensures { λ r. ⌜ r ≡ isNumCont b ⌝ }
 {
-    class[b as usize] & bit != 0
+    is_digit(b) | (b == b'.')
 }

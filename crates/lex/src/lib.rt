@@ -9,11 +9,9 @@ pub use byte_search::Found;
 use byte_search::find_byte;
 use byte_search::line_end;
 use byte_search::peek;
-use byte_search::skip_class;
 use byte_search::skip_digits;
 use byte_search::skip_ident_cont;
-use class::CLASS;
-use class::Class;
+use byte_search::skip_num_cont;
 use class::is_digit;
 use class::is_ident_start;
 use class::is_ws;
@@ -240,16 +238,7 @@ fn number(rest: &[u8]) -> Piece
         };
     }
     // One dot is answered without the table, which is written onto the stack at each use.
-    let second = first + 1 + skip_digits(&rest[first + 1..]);
-    if peek(rest, second) != b'.' {
-        return Piece::Token {
-            kind: Type::D,
-            len: second,
-            taken: second,
-        };
-    }
-    let class = CLASS;
-    let n = first + skip_class(&class, Class::NUM_CONT, &rest[first..]);
+    let n = first + skip_num_cont(&rest[first..]);
     double(rest, n, first + 1)
 }
 

@@ -36,7 +36,7 @@ returns-3 : tie.Need-returns-3 Inv-loop μ-loop
 unfolding inSet before
 returns-3 c =
     let c4 = c .before .before .before .before in
-    run-rest (differsFrom _) (c4 .args .haystack .now) _ _ (c .before .before .loop .inv .2) (inSet 4 (c4 .args .needle)) (λ b. refl) _ (c .skip-set .ensures)
+    run-rest (differsFrom _) (c4 .args .haystack .now) _ _ (c .before .before .loop .inv .2) (inSet 3 (c4 .args .needle)) (λ b. refl) _ (c .skip-set .ensures)
 
 pub skip-until-spec : {M : Type 1} → statement M
 skip-until-spec =

@@ -1,0 +1,60 @@
+-- `skip_num_cont` meets its contract: the run is scanned one byte at a time.
+-- Assumes nothing.
+use mathlib.Core.Path.{_≡_, _∙_, sym}
+use Prim.Native.Nat.{_+_, _-_, _≤_}
+use lib.ListN.{length, drop}
+use borrow.Author.Needs.{needs}
+use borrow.Author.Tests.{not-true, not-false}
+use Rattle.lex.specs.Bytes.{countWhile, isNumCont}
+use Rattle.lex.proofs.Laws.{run-more, run-stop, run-end}
+use Rattle.lex.proofs.byte_search.skip_num_cont.Statement.{statement}
+use Rattle.lex.proofs.byte_search.skip_num_cont.Tie as tie
+
+abbrev Inv-loop : tie.InvT-loop
+Inv-loop haystack i₀ i = (i ≤ length haystack) × (i + countWhile isNumCont (drop i haystack) ≡ countWhile isNumCont haystack)
+
+abbrev μ-loop : tie.MeasureT-loop
+μ-loop haystack i₀ i = length haystack - i
+
+loop-holds : tie.Need-loop-holds Inv-loop μ-loop
+loop-holds c = search needs
+
+shared-slice-read-is-num-cont : tie.Need-shared-slice-read-is-num-cont Inv-loop μ-loop
+shared-slice-read-is-num-cont c = search needs
+
+is-num-cont-requires : tie.Need-is-num-cont-requires Inv-loop μ-loop
+is-num-cont-requires c κs = search needs
+
+returns : tie.Need-returns Inv-loop μ-loop
+returns c =
+    let c4 = c .before .before .before .before in
+    run-stop isNumCont _ _ _ (c4 .loop .inv .1) (search needs) (sym (c .before .is-num-cont .ensures) ∙ not-true _ (c .if1 .taken))
+
+add-i : tie.Need-add-i Inv-loop μ-loop
+add-i c = search needs
+
+loop-less : tie.Need-loop-less Inv-loop μ-loop
+loop-less c = search needs
+
+loop-again : tie.Need-loop-again Inv-loop μ-loop
+loop-again c =
+    let c4 = c .before .before .before .before in
+    (search needs, run-more isNumCont _ _ _ (c4 .loop .inv .1) (search needs) (sym (c .before .is-num-cont .ensures) ∙ not-false _ (c .if1 .left)))
+
+returns-2 : tie.Need-returns-2 Inv-loop μ-loop
+returns-2 c = run-end isNumCont _ _ _ (c .before .loop .inv .1) (search needs)
+
+pub skip-num-cont-spec : {M : Type 1} → statement M
+skip-num-cont-spec =
+    tie.close
+    (tie.spec
+    Inv-loop
+    μ-loop
+    loop-holds
+    shared-slice-read-is-num-cont
+    is-num-cont-requires
+    returns
+    add-i
+    loop-less
+    loop-again
+    returns-2)
