@@ -1,11 +1,9 @@
 -- Worked examples of the rules, which antt computes.
 -- Assumes nothing.
 use mathlib.Core.Path.{_≡_, refl}
-use mathlib.Core.List.{List, [], _∷_}
+use mathlib.Core.List.{[], _∷_}
 use Prim.Native.Nat.{ℕ}
 use Rattle.lex.specs.declared.byte_search.Found.the-variants.{At, Nothing}
-use Rattle.lex.specs.declared.tok.Token.{Token}
-use Rattle.lex.specs.declared.tok.Fault.{Fault}
 use Rattle.lex.specs.Bytes.{or, between, isWs, isDigit, isIdentStart, isIdentCont, isNumCont, countWhile, differsFrom, before, findByte}
 use Rattle.lex.specs.Kind.{kBraceLeft, kNotEqual, kDot, kS, kD, kIdent, kDoc, kImport, sameBytes, keywords, nameKind, punctuators, punctuatorKinds, punctuatorKind}
 use Rattle.lex.specs.Utf8.{leastSecond, greatestSecond, afterLead, afterContinuation, nextState, stateAfter, utf8}

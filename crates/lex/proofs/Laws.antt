@@ -10,7 +10,7 @@ use native.Mathlib.Omega.{arith}
 use lib.ListN.{length, getD, take, drop, length-take, length-drop, drop-of-length-le}
 use lib.Seq.{drop-cons, drop-drop, getD-drop}
 use lib.Dec.{leb, ltb, eqb, leb·zero, leb·suc-zero, leb·suc-suc}
-use borrow.Author.Tests.{lt-ltb, le-ltb, ltb-true, ltb-false, leb-true, eq-eqb, ne-eqb, eqb-false}
+use borrow.Author.Tests.{lt-ltb, le-ltb, ltb-true, leb-true, eq-eqb, ne-eqb, eqb-false}
 use Rattle.lex.specs.declared.byte_search.Found.{Found}
 use Rattle.lex.specs.declared.byte_search.Found.the-variants.{At, Nothing}
 use Rattle.lex.specs.declared.utf8.Utf8State.{Utf8State}
@@ -165,13 +165,6 @@ module _ (b : ℕ) (s : List ℕ) (i : ℕ) where
       cases (λ (f : Found). f ≡ At i → (i ≡ before b s) × (i < length s)) (ltb (before b s) (length s))
       (λ q e. let n : before b s ≡ i = cc in (sym n, rw n at (ltb-true (before b s) (length s) q)))
       (λ q e. let z : _≡_ {A = ℕ} 0 1 = cc in absurd (omega arith))
-
-pub missed : (b : ℕ) (s : List ℕ) → findByte b s ≡ Nothing → length s ≡ before b s
-unfolding findByte before
-missed b s =
-    cases (λ (f : Found). f ≡ Nothing → length s ≡ before b s) (ltb (before b s) (length s))
-    (λ q e. let z : _≡_ {A = ℕ} 0 1 = cc in absurd (omega arith))
-    (λ q e. omega (arith, ltb-false (before b s) (length s) q, run-le (differsFrom b) s))
 
 pub before-le : (b : ℕ) (s : List ℕ) → before b s ≤ length s
 unfolding before

@@ -1,20 +1,18 @@
 -- A piece takes at least one byte and no more than there are, its span lies within what it takes, and no token of it is Eof.
 -- Assumes nothing.
-use mathlib.Core.Path.{_≡_, refl, _∙_, sym, ap, subst}
-use mathlib.Core.Bool.{Bool, true, false, not}
+use mathlib.Core.Path.{_≡_, refl}
+use mathlib.Core.Bool.{true, false}
 use mathlib.Core.List.{List, [], _∷_}
-use Prim.Native.Nat.{ℕ, zero, suc, _+_, _-_, _<_, _≤_}
+use Prim.Native.Nat.{ℕ, _+_, _-_, _<_, _≤_}
 use native.Mathlib.Nat.{le-refl}
 use native.Mathlib.Omega.{arith}
 use lib.Dec.{ltb, eqb}
-use lib.ListN.{length, getD, take, drop, length-take, length-drop}
+use lib.ListN.{length, getD, take, drop, length-drop}
 use lib.Seq.{getD-take, length-take-le}
 use borrow.Author.Tests.{ltb-true, eqb-true, ne-eqb}
-use Rattle.lex.specs.declared.byte_search.Found.{Found}
-use Rattle.lex.specs.declared.byte_search.Found.the-variants.{At, Nothing}
 use Rattle.lex.specs.declared.tok.Piece.{Piece}
 use Rattle.lex.specs.Bytes.{or, between, isDigit, isIdentStart, isIdentCont, isNumCont, countWhile, differsFrom, before, findByte}
-use Rattle.lex.specs.Kind.{Keyword, keywords, nameKind, sameBytes, punctuators, punctuatorKinds, punctuatorKind, kD, kI}
+use Rattle.lex.specs.Kind.{Keyword, keywords, nameKind, sameBytes, punctuators, punctuatorKinds, punctuatorKind}
 use Rattle.lex.specs.Utf8.{utf8}
 use Rattle.lex.specs.Lex.{punctuator, punctuation, leadingSpace, docIn, doc, string, doubleIn, numberIn, number, name, symbol, piece}
 use Rattle.lex.proofs.Laws.{cases, found-cases, agree, run-pos, run-le, before-le, found, found-part, nonzero-inside}

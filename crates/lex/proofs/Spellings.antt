@@ -1,9 +1,9 @@
 -- Spellings: what `spelling` answers, and that of every token that the lexer yields the kind is known and the spelling lies in the script.
 -- Assumes nothing.
-use mathlib.Core.Path.{_≡_, refl, _∙_, sym, ap}
+use mathlib.Core.Path.{_≡_, refl, sym}
 use mathlib.Core.Bool.{Bool, true, false}
 use mathlib.Core.List.{List, [], _∷_}
-use Prim.Native.Nat.{ℕ, zero, suc, _+_, _-_, _<_, _≤_}
+use Prim.Native.Nat.{ℕ, suc, _+_, _-_, _<_, _≤_}
 use native.Mathlib.Omega.{arith}
 use lib.Dec.{ltb, leb, eqb}
 use lib.ListN.{length, getD, take, drop, length-take, length-drop}
@@ -13,7 +13,7 @@ use Rattle.lex.specs.declared.byte_search.Found.the-variants.{At, Nothin
 use Rattle.lex.specs.declared.tok.Token.{Token}
 use Rattle.lex.specs.declared.tok.Piece.{Piece}
 use Rattle.lex.specs.declared.tok.Step.{Step}
-use Rattle.lex.specs.Bytes.{isDigit, isIdentStart, isIdentCont, isNumCont, countWhile, differsFrom, before, findByte}
+use Rattle.lex.specs.Bytes.{isDigit, isIdentStart, isNumCont, countWhile, differsFrom, before, findByte}
 use Rattle.lex.specs.Kind.{Keyword, kEof, kS, kDoc, keywords, nameKind, sameBytes, punctuators, punctuatorKinds, punctuatorKind}
 use Rattle.lex.specs.Utf8.{utf8}
 use Rattle.lex.specs.Lex.{skipped, punctuator, punctuation, leadingSpace, docIn, doc, string, doubleIn, numberIn, number, name, symbol, piece, placed, standsAt, stepAt}

@@ -1,7 +1,7 @@
 -- The laws of the cut: every step moves forward and stays within the script, the cut from a position on begins with what
 -- the step there gives, and `nextAt` gives the first token of `tokensFrom` and where the others begin.
 -- Assumes nothing.
-use mathlib.Core.Path.{_≡_, refl, _∙_, sym, ap}
+use mathlib.Core.Path.{_≡_, refl, ap}
 use mathlib.Core.Bool.{Bool, true, false}
 use mathlib.Core.List.{List, [], _∷_}
 use Prim.Native.Nat.{ℕ, zero, suc, _+_, _-_, _<_, _≤_, zero-le, suc-le-suc}
@@ -18,7 +18,7 @@ use Rattle.lex.specs.declared.tok.Next.{Next}
 use Rattle.lex.specs.Bytes.{isWs}
 use Rattle.lex.specs.Kind.{kEof}
 use Rattle.lex.specs.Lex.{beginsComment, skipped, piece, placed, standsAt, stepAt}
-use Rattle.lex.specs.Lex.{Cut, eof, cutToken, cutFault, extendCut, cutFrom, cutAt, cut, eofToken, tokensOf, nextOf, tokensFrom, nextAt, Occurrence, faultsOf}
+use Rattle.lex.specs.Lex.{Cut, eof, cutToken, cutFault, extendCut, cutFrom, cutAt, cut, tokensOf, nextOf, tokensFrom, nextAt, faultsOf}
 use Rattle.lex.proofs.Laws.{cases}
 use Rattle.lex.proofs.Pieces.{Within, piece-within}
 
@@ -130,10 +130,6 @@ unfolding nextAt tokensFrom
 next-first script pos e =
     rw e
     (cut-ind script (λ (n : ℕ) (c : Cut). First script n (nextOf c) (tokensOf c)) (first-step script) (suc (length script)) pos (omega arith))
-
-pub tokens-end : (script : List ℕ) (pos : ℕ) → length script ≤ pos → tokensFrom script pos ≡ eofToken pos ∷ []
-unfolding tokensFrom tokensOf
-tokens-end script pos h = rw (cut-step script pos, step-end script pos h)
 
 -- ---- there are no more tokens and faults than bytes
 

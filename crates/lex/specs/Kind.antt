@@ -1,6 +1,6 @@
 -- The kinds of token, numbered in the order of `Type`, the signs, the keyword table and the fixed spellings.
 use mathlib.Core.Bool.{Bool, true, false}
-use mathlib.Core.List.{List, [], _∷_, _++_, map}
+use mathlib.Core.List.{List, [], _∷_, map}
 use Prim.Native.Nat.{ℕ}
 use lib.Dec.{eqb}
 use lib.ListN.{getD}

@@ -15,7 +15,7 @@ use Rattle.lex.specs.declared.diagnostic.Diagnostic.{Diagnostic}
 use Rattle.lex.specs.declared.tok.Token.{Token}
 use Rattle.lex.proofs.Steps.{cut-le}
 use Rattle.rules.specs.Tree.{State, Result, ok, err}
-use Rattle.rules.specs.Combinators.{Rule, _>>_, pure, choose, current, ControlFlow, continue, break, iterate, loop}
+use Rattle.rules.specs.Combinators.{_>>_, pure, choose, current, ControlFlow, continue, break, iterate, loop}
 use Rattle.rules.specs.Rules.{stageOne, maxLevels}
 use Rattle.rules.specs.Parse.{Gathered, begin, merged, synchronizeRoot, recover, parseRootsCollect}
 use Rattle.rules.specs.Layout.{zeros, padded, diagnosticCells}
@@ -29,16 +29,16 @@ use Rattle.diagnostics.proofs.Records.{holding-pushed, holding-none, holding-pa
 use Rattle.diagnostics.specs.Faults.{faultsBetween, lowDiagnostic}
 use Rattle.diagnostics.proofs.Faults.{faults-low}
 use Rattle.diagnostics.proofs.Order.{Ordered, ordered-start, ordered-error, ordered-end, ordered-room}
-use Rattle.parser_base.specs.Represents.{Failed, Code, code, going, isGoing, ahead, Represents, FailedAt}
+use Rattle.parser_base.specs.Represents.{Failed, Code, code, isGoing, ahead, Represents, FailedAt}
 use Rattle.parser_base.specs.Refines.{Ends, kept, Refines, deeper, memberFollows}
 use Rattle.parser_base.specs.declared.Parser.{Parser}
 use Rattle.parser_base.specs.declared.Status.{Status}
-use Rattle.parser_base.proofs.Steps.{either, true≢false, left-some, current-represents, represents-less, represents-going, failed-fails}
+use Rattle.parser_base.proofs.Steps.{true≢false, current-represents, represents-less, represents-going}
 use Rattle.parser_base.proofs.Rounds.{after, iterate-suc, ifKind-is-yes, ifKind-is-no}
 use Rattle.parser_base.proofs.Loops.{member-going, member-eof}
-use Rattle.parser.specs.Whole.{RootsRead, Blank, fresh, RootsAre, dropDocs, Holds, Resumes, synchronizing}
-use Rattle.parser.specs.Collect.{RootsCollected, collectStep, DiagnosticsAre, Gathers, Room, TurnEnds, inOrder, CollectEnds}
-use Rattle.parser.proofs.Synchronize.{Recovered, recovered}
+use Rattle.parser.specs.Whole.{Blank, fresh, dropDocs, Resumes, synchronizing}
+use Rattle.parser.specs.Collect.{RootsCollected, collectStep, DiagnosticsAre, Gathers, Room, TurnEnds, CollectEnds}
+use Rattle.parser.proofs.Synchronize.{recovered}
 use Rattle.parser.proofs.Roots.{some-ahead, root-pushed, at-eof, tree-held, begun}
 
 -- ---- diagnostics

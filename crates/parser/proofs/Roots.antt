@@ -1,6 +1,6 @@
 -- The roots of a script, one after the other.
 use mathlib.Core.Path.{_≡_, refl, sym, ap, subst, _∙_}
-use mathlib.Core.Bool.{Bool, true, false}
+use mathlib.Core.Bool.{true, false}
 use mathlib.Core.List.{List, [], _∷_, _++_, map, flatten, reverse, append-assoc, append-nil}
 use Prim.Native.Nat.{ℕ, suc, _+_, _*_, _-_, _≤_, _<_}
 use native.Mathlib.Omega.{arith}
@@ -9,13 +9,11 @@ use lib.ListN.{length, take, set, length-append, length-reverse, length-set}
 use lib.Seq.{set-at}
 use Rattle.lex.specs.Kind.{kEof}
 use Rattle.lex.specs.Lex.{cut, tokensFrom, nextAt}
-use Rattle.lex.specs.declared.tok.Next.{Next}
-use Rattle.lex.specs.declared.tok.Token.{Token}
 use Rattle.lex.proofs.Steps.{tokens-le}
 use Rattle.lex.proofs.Passed.{stands-start, stands-next}
 use Rattle.lex.specs.declared.diagnostic.Diagnostic.{Diagnostic}
 use Rattle.rules.specs.Tree.{State, Result, ok, err}
-use Rattle.rules.specs.Combinators.{Rule, _>>=_, pure, current, ifKind, withDocs, loop, ControlFlow, continue, break}
+use Rattle.rules.specs.Combinators.{_>>=_, pure, current, withDocs, loop, ControlFlow, continue, break}
 use Rattle.rules.specs.Rules.{maxLevels, stageOne}
 use Rattle.rules.specs.Parse.{begin, parseRoots}
 use Rattle.rules.specs.Layout.{zeros, nodeCells, typeCells}

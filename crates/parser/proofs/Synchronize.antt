@@ -19,7 +19,6 @@ use Rattle.rules.proofs.Results as Results
 use Rattle.parser_base.specs.Represents.{Going, withUsed, withStatus, Code, code, isGoing, Represents, FailedAt}
 use Rattle.parser_base.specs.Refines.{Ends, kept, Refines}
 use Rattle.parser_base.specs.declared.Parser.{Parser}
-use Rattle.parser_base.specs.declared.Status.{Status}
 use Rattle.parser_base.specs.declared.Used.{Used}
 use Rattle.parser_base.proofs.Steps.{either, true≢false, at-kind, then, done, enough, represents-less}
 use Rattle.parser_base.proofs.Leaves.{idle, lent}

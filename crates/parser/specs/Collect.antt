@@ -6,17 +6,17 @@ use lib.ListN.{length}
 use Rattle.lex.specs.Kind.{kEof}
 use Rattle.lex.specs.Lex.{Occurrence, cut, tokensOf, faultsOf}
 use Rattle.lex.specs.declared.diagnostic.Diagnostic.{Diagnostic}
-use Rattle.rules.specs.Tree.{State, Result, ok, err}
+use Rattle.rules.specs.Tree.{Result, ok, err}
 use Rattle.rules.specs.Combinators.{Rule, pure, ifKind, ControlFlow, continue, break}
 use Rattle.rules.specs.Rules.{stageOne, maxLevels}
 use Rattle.rules.specs.Parse.{Gathered, merged, recover}
 use Rattle.rules.specs.Layout.{padded, diagnosticCells}
 use Rattle.diagnostics.specs.Records.{diagnostics, holding}
 use Rattle.diagnostics.proofs.Order.{Ordered}
-use Rattle.parser_base.specs.Represents.{Failed, Code, code, ahead, Represents, FailedAt}
-use Rattle.parser_base.specs.Refines.{deeper, memberFollows}
+use Rattle.parser_base.specs.Represents.{Failed, code, ahead, Represents}
+use Rattle.parser_base.specs.Refines.{deeper}
 use Rattle.parser_base.specs.declared.Parser.{Parser}
-use Rattle.parser.specs.Whole.{Blank, RootsRead, RootsAre, Holds}
+use Rattle.parser.specs.Whole.{RootsAre, Holds}
 use Rattle.parser.specs.declared.Gathering.{Gathering}
 
 -- the parser behind the roots, how many roots and diagnostics there are, and up to where the lexer's faults are among these

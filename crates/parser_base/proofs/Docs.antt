@@ -1,6 +1,6 @@
 -- The docs that wait.
 use mathlib.Core.Path.{_≡_, refl, sym, ap, subst, _∙_}
-use mathlib.Core.Bool.{Bool, true, false}
+use mathlib.Core.Bool.{true, false}
 use mathlib.Core.List.{List, [], _∷_, _++_, map, flatten, reverse, reverse-cons, reverse-append, append-assoc, append-nil}
 use Prim.Native.Nat.{ℕ, suc, _+_, _*_, _-_, _≤_, _<_}
 use native.Mathlib.Omega.{arith}
@@ -8,10 +8,9 @@ use lib.ListN.{length, set, getD, length-append, length-map, length-reverse, rep
 use lib.Seq.{paste, set-at, getD-at}
 use lib.Dec.{eqb}
 use Rattle.lex.specs.Kind.{kEof}
-use Rattle.lex.specs.declared.diagnostic.Diagnostic.{Diagnostic}
 use Rattle.lex.specs.declared.tok.Token.{Token}
 use Rattle.rules.specs.Tree.{State, Result, ok, err}
-use Rattle.rules.specs.Combinators.{Rule, _>>_, current, pure, ifKind, atToken, keepDoc, withDocs, withArena, tokenCells, takeDocs, allocSlice, ControlFlow, continue}
+use Rattle.rules.specs.Combinators.{Rule, _>>_, current, pure, ifKind, atToken, keepDoc, withDocs, withArena, tokenCells, takeDocs, allocSlice, continue}
 use Rattle.rules.specs.Rules.{lastOf, requireNoDocs}
 use Rattle.rules.specs.Layout.{zeros, typeCells}
 use Rattle.parser_base.specs.Represents.{Code, code, withUsed, isGoing, lowToken, docCells, AllLow, Represents}

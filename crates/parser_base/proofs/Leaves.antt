@@ -17,7 +17,7 @@ use Rattle.lex.specs.declared.tok.Next.{Next}
 use Rattle.lex.proofs.Steps.{Forward, cut-ind, next-first}
 use Rattle.lex.proofs.Passed.{stands-next}
 use Rattle.rules.specs.Tree.{State}
-use Rattle.rules.specs.Combinators.{Rule, current, rest, advance, atToken}
+use Rattle.rules.specs.Combinators.{Rule, rest, advance, atToken}
 use Rattle.parser_base.specs.Represents.{Failed, withNext, withUsed, lowToken, InRange, Code, code, going, isGoing, from, Related, Represents, FailedAt}
 use Rattle.parser_base.specs.Refines.{kept, Refines, Refuses, Takes, Lists, failAt, failed}
 use Rattle.parser_base.specs.declared.Parser.{Parser}

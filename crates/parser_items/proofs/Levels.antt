@@ -1,18 +1,18 @@
 -- Which rule reads an item or an expression, by the levels that are left and what the code has found out.
 use mathlib.Core.Path.{_≡_, refl, sym, ap, subst, _∙_}
-use mathlib.Core.Bool.{true, false}
-use mathlib.Core.Option.{Option, some}
+use mathlib.Core.Bool.{true}
+use mathlib.Core.Option.{some}
 use mathlib.Core.List.{List}
-use Prim.Native.Nat.{ℕ, zero, suc, _+_, _-_, _<_}
+use Prim.Native.Nat.{ℕ, zero, suc, _-_, _<_}
 use native.Mathlib.Omega.{arith}
-use lib.ListN.{getD, length}
+use lib.ListN.{getD}
 use borrow.Author.Tests.{ne-eqb}
 use Rattle.lex.specs.Kind.{kDoc, kImport, kExtern, kLet, kFn, kMatch}
 use Rattle.rules.specs.Tree.{State, ok}
 use Rattle.rules.specs.Combinators.{Rule, Readers, ControlFlow, break, failExpecting, byKind, choose, collectDocs, pure}
-use Rattle.rules.specs.Rules.{Powers, powers, stageOne, readers, itemByKind, parsePrefix, parseExpr, operand}
+use Rattle.rules.specs.Rules.{powers, stageOne, readers, itemByKind, parsePrefix, parseExpr, operand}
 use Rattle.rules.specs.declared.NodeId.{NodeId}
-use Rattle.parser_base.specs.Represents.{Code, going, ahead}
+use Rattle.parser_base.specs.Represents.{Code, going}
 use Rattle.parser_base.specs.Refines.{kept, Refines, Refuses, deeper}
 use Rattle.parser_base.proofs.Steps.{either, at-kind, refused, then, enough, current-represents, ifKind-no}
 use Rattle.parser_base.proofs.Docs.{docs-none, require-then}

@@ -1,23 +1,21 @@
 -- The laws of the loops over an expression.
 use mathlib.Core.Path.{_≡_, refl, sym, ap, subst, _∙_}
-use mathlib.Core.Bool.{Bool, true, false, not}
+use mathlib.Core.Bool.{Bool, true, false}
 use mathlib.Core.Option.{Option, none, some}
 use mathlib.Core.List.{List}
 use Prim.Native.Nat.{ℕ}
-use native.Mathlib.Omega.{arith}
 use lib.Dec.{eqb, ltb}
-use lib.ListN.{getD}
-use borrow.Author.Tests.{eqb-true, eqb-false, eq-eqb, not-true, not-false}
+use borrow.Author.Tests.{eqb-true, not-true, not-false}
 use Rattle.lex.specs.Kind.{kDot, kBraceLeft, kAs}
 use Rattle.lex.specs.declared.tok.Token.{Token}
-use Rattle.rules.specs.Tree.{State, Result, ok, err}
-use Rattle.rules.specs.Combinators.{Rule, Readers, _>>=_, pure, cur, current, ifKind, ControlFlow, break}
-use Rattle.rules.specs.Rules.{Powers, stageOne, breaksOff, isCallableTarget, callable, call, callStep, fieldAccess, postfixStep, cast, binary, signStep, infixStep}
+use Rattle.rules.specs.Tree.{State, ok}
+use Rattle.rules.specs.Combinators.{Rule, Readers, _>>=_, pure, cur, current, ControlFlow, break}
+use Rattle.rules.specs.Rules.{Powers, stageOne, breaksOff, callable, call, callStep, postfixStep, binary, signStep, infixStep}
 use Rattle.rules.specs.declared.NodeId.{NodeId}
-use Rattle.parser_base.specs.Represents.{Code, code, going, isGoing, Represents}
+use Rattle.parser_base.specs.Represents.{Code, isGoing, Represents}
 use Rattle.parser_base.specs.Refines.{Ends, kept, Refines}
 use Rattle.parser_base.specs.declared.Parser.{Parser}
-use Rattle.parser_base.proofs.Steps.{either, true≢false, current-represents, represents-going, seq, looks, ifKind-yes, ifKind-no, enough}
+use Rattle.parser_base.proofs.Steps.{either, true≢false, current-represents, represents-going, seq, looks, ifKind-yes, ifKind-no}
 use Rattle.parser_base.proofs.Rounds.{ifKind-is-yes, ifKind-is-no}
 use Rattle.parser_leaves.specs.Tests.{callAt, postfixFollows, postfixBy, infixFollows, infixBy, signFollows}
 use Rattle.parser_leaves.proofs.Calls.{call-at}

@@ -16,11 +16,11 @@ use Rattle.rules.specs.Rules.{Cases, noteAfterDefault, defaultCase, conditionCa
 use Rattle.rules.specs.declared.Run.{Run}
 use Rattle.rules.specs.declared.NodeId.{NodeId}
 use Rattle.parser_base.specs.Represents.{Code, going, ahead, lowToken, Represents, FailedAt}
-use Rattle.parser_base.specs.Refines.{Ends, kept, grown, Collected, Refines, ReadsMember, Lists, failAt, memberFollows, closed}
-use Rattle.parser_base.proofs.Steps.{either, true≢false, represents-less, represents-going, failed-less, failed-fails, represents-noted, noted, current-represents, low-near, seq, read, looks, done, enough, ifKind-yes}
+use Rattle.parser_base.specs.Refines.{Ends, kept, grown, Refines, ReadsMember, Lists, failAt, memberFollows, closed}
+use Rattle.parser_base.proofs.Steps.{either, represents-less, represents-going, failed-fails, represents-noted, noted, current-represents, seq, read, looks, done, enough, ifKind-yes}
 use Rattle.parser_base.proofs.Cells.{flatten-snoc}
 use Rattle.parser_base.proofs.Rounds.{Again, Turned, LoopInvariant, round-out, ifKind-is-yes, ifKind-is-no}
-use Rattle.parser_base.proofs.Loops.{member-going, member-eof, member-stop, no-member}
+use Rattle.parser_base.proofs.Loops.{member-eof, member-stop, no-member}
 use Rattle.parser_leaves.specs.Matches.{defaultOf, casesGrown, CasesAre, caseCells, matchNode, matchEnd, matchRest}
 use Rattle.parser_leaves.specs.declared.Default.{Default}
 

@@ -1,8 +1,8 @@
 -- Tables by kind, as the code keeps them.
 use mathlib.Core.Path.{_≡_, refl, sym, ap, subst, _∙_}
 use mathlib.Core.Bool.{Bool, true, false, not, _&&_, _||_}
-use mathlib.Core.Option.{Option, none, some}
-use mathlib.Core.List.{List, [], _∷_, map}
+use mathlib.Core.Option.{Option, none}
+use mathlib.Core.List.{List, [], _∷_}
 use Prim.Native.Nat.{ℕ, _≤_, _<_}
 use native.Mathlib.Omega.{arith}
 use lib.Dec.{T, eqb, ltb, leb, leb→le}
@@ -11,8 +11,7 @@ use borrow.Author.Tests.{eqb-true, eq-eqb, ne-eqb, ltb-true, ltb-false, lt-ltb, 
 use Rattle.lex.specs.Kind.{kDoc, kMatch}
 use Rattle.rules.specs.Combinators.{Rule, Readers, choose}
 use Rattle.rules.specs.Rules.{Powers, stageOne, operandByKind, powers}
-use Rattle.rules.specs.declared.NodeId.{NodeId}
-use Rattle.parser_base.specs.Represents.{Code, isGoing}
+use Rattle.parser_base.specs.Represents.{Code}
 use Rattle.parser_base.specs.Refines.{Refines}
 use Rattle.parser_base.specs.declared.Parser.{Parser}
 use Rattle.parser_base.proofs.Steps.{either, true≢false}

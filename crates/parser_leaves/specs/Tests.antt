@@ -6,7 +6,6 @@ use Prim.Native.Nat.{ℕ, _*_}
 use lib.Dec.{eqb, ltb}
 use lib.ListN.{getD}
 use Rattle.lex.specs.Kind.{kPlus, kMinus, kAsteriks, kSlash, kPercent, kDoubleEqual, kLessThan, kGreaterThan, kDot, kBraceLeft, kBraketLeft, kCurlyLeft, kS, kD, kI, kIdent, kDoc, kMatch, kAs, kTrue, kFalse}
-use Rattle.lex.specs.declared.tok.Token.{Token}
 use Rattle.rules.specs.Combinators.{Rule, Readers, choose, fail}
 use Rattle.rules.specs.Rules.{Powers, powers, stageOne, breaksOff, recordLiteral, arrayLiteral, atom, ident, group, unary}
 use Rattle.rules.specs.declared.NodeId.{NodeId}

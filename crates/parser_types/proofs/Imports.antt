@@ -7,7 +7,7 @@ use lib.ListN.{length}
 use Rattle.rules.specs.Tree.{State, Result, ok, err}
 use Rattle.rules.specs.Combinators.{Rule}
 use Rattle.rules.specs.Rules.{strikeSingle}
-use Rattle.parser_base.specs.Represents.{Code, Represents}
+use Rattle.parser_base.specs.Represents.{Code}
 use Rattle.parser_base.specs.Refines.{Ends, Refines}
 use Rattle.parser_base.proofs.Steps.{noted, represents-noted}
 

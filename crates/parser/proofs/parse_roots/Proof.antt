@@ -4,7 +4,6 @@ use Rattle.parser_base.specs.Represents.{parserOf}
 use native.Mathlib.Omega.{arith}
 use mathlib.Core.Path.{_≡_, refl, sym, _∙_}
 use mathlib.Core.List.{[]}
-use Prim.Native.Nat.{ℕ, _≤_}
 use lib.ListN.{length}
 use Rattle.lex.specs.Kind.{kEof}
 use Rattle.parser_base.specs.Represents.{code}

@@ -2,7 +2,7 @@
 use borrow.Author.Needs.{needs}
 use native.Mathlib.Omega.{arith}
 use mathlib.Core.Path.{refl, sym, _∙_}
-use borrow.Author.Tests.{not-true, not-false}
+use borrow.Author.Tests.{not-true}
 use Rattle.parser_base.proofs.Steps.{true≢false}
 use Rattle.parser.proofs.push_root.Statement.{statement}
 use Rattle.parser.proofs.push_root.Tie as tie

@@ -3,7 +3,7 @@ use borrow.Author.Needs.{needs}
 use Rattle.parser.specs.Collect.{collected}
 use Rattle.parser_base.specs.Represents.{parserOf}
 use native.Mathlib.Omega.{arith}
-use mathlib.Core.Path.{refl, sym, ap, _∙_}
+use mathlib.Core.Path.{sym, ap, _∙_}
 use borrow.Author.Tests.{eq-eqb, ne-eqb}
 use Rattle.parser_base.specs.Represents.{isGoing}
 use Rattle.parser_base.proofs.Steps.{true≢false}

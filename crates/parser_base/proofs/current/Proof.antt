@@ -1,6 +1,5 @@
 -- `parser_base::current` meets its contract.
 use borrow.Author.Needs.{needs}
-use mathlib.Core.Path.{refl}
 use Rattle.parser_base.specs.Represents.{parserOf}
 use Rattle.parser_base.proofs.current.Statement.{statement}
 use Rattle.parser_base.proofs.current.Tie as tie

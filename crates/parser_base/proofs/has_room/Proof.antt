@@ -1,7 +1,6 @@
 -- `parser_base::has_room` meets its contract.
 use borrow.Author.Needs.{needs}
 use mathlib.Core.Path.{refl, sym, _∙_}
-use native.Mathlib.Omega.{arith}
 use borrow.Author.Tests.{not-true, not-false, lt-ltb, le-ltb, le-leb, lt-leb}
 use Rattle.parser_base.specs.Refines.{hasRoom}
 use Rattle.parser_base.proofs.has_room.Statement.{statement}

@@ -1,7 +1,6 @@
 -- `parser_leaves::breaks_off` meets its contract.
 use borrow.Author.Needs.{needs}
 use mathlib.Core.Path.{sym, _∙_}
-use Rattle.rules.specs.Combinators.{choose}
 use Rattle.rules.specs.Rules.{breaksOff}
 use Rattle.parser_leaves.proofs.Tables.{here, past, past-all}
 use Rattle.parser_leaves.proofs.breaks_off.Statement.{statement}

@@ -1,6 +1,6 @@
 -- `parser_leaves::infix_follows` meets its contract.
 use borrow.Author.Needs.{needs}
-use mathlib.Core.Path.{refl, sym, ap, _∙_}
+use mathlib.Core.Path.{refl, sym, _∙_}
 use borrow.Author.Tests.{not-true, not-false, eq-eqb, ne-eqb}
 use Rattle.lex.specs.Kind.{kAs}
 use Rattle.parser_leaves.specs.Tests.{infixBy, signFollows}

@@ -3,7 +3,7 @@ use borrow.Author.Needs.{needs}
 use Rattle.rules.specs.declared.Node.the-variants as N
 use Rattle.parser_base.specs.Represents.{lowToken}
 use Rattle.parser_base.specs.declared.Used.{Used}
-use Rattle.parser_base.proofs.Steps.{as-rule, enough}
+use Rattle.parser_base.proofs.Steps.{enough}
 use mathlib.Core.Path.{ap}
 use native.Mathlib.Omega.{arith}
 use Rattle.parser_base.specs.Refines.{failAt}

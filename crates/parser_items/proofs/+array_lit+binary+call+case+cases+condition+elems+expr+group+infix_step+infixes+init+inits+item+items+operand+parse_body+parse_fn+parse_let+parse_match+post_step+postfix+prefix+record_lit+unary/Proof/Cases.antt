@@ -12,12 +12,12 @@ use Rattle.parser_leaves.proofs.match_node.Reads as match-node-reads
 use Rattle.parser_items.proofs.+array_lit+binary+call+case+cases+condition+elems+expr+group+infix_step+infixes+init+inits+item+items+operand+parse_body+parse_fn+parse_let+parse_match+post_step+postfix+prefix+record_lit+unary.Lts-cases as lts
 use Rattle.parser_items.proofs.+array_lit+binary+call+case+cases+condition+elems+expr+group+infix_step+infixes+init+inits+item+items+operand+parse_body+parse_fn+parse_let+parse_match+post_step+postfix+prefix+record_lit+unary.Proof.Measures.{cases-at, case-below}
 use Rattle.parser_base.proofs.Steps.{lists-seq}
-use Rattle.parser_base.proofs.Rounds.{LoopInvariant, Again, round-start-at, round-again, weight}
+use Rattle.parser_base.proofs.Rounds.{LoopInvariant, round-start-at, round-again, weight}
 use Rattle.parser_base.proofs.Loops.{member-going}
 use Rattle.parser_base.specs.Represents.{parserOf, code}
 use Rattle.parser_base.specs.Refines.{deeper}
-use Rattle.rules.specs.Rules.{Cases, nextCase}
-use Rattle.parser_leaves.specs.Matches.{casesGrown, CasesAre, matchEnd, matchNode, defaultOf}
+use Rattle.rules.specs.Rules.{nextCase}
+use Rattle.parser_leaves.specs.Matches.{casesGrown, CasesAre, matchEnd}
 use Rattle.parser_leaves.proofs.Matches.{match-end, default-none}
 use Rattle.parser_items.proofs.Levels.{again-lighter}
 use mathlib.Core.Path.{_≡_, refl, sym, ap, _∙_}

@@ -14,7 +14,7 @@ use Rattle.parser_items.proofs.+array_lit+binary+call+case+cases+condit
 use Rattle.parser_items.proofs.+array_lit+binary+call+case+cases+condition+elems+expr+group+infix_step+infixes+init+inits+item+items+operand+parse_body+parse_fn+parse_let+parse_match+post_step+postfix+prefix+record_lit+unary.Proof.Measures.{infix-step-at, binary-below}
 use Rattle.parser_base.proofs.Steps.{ifKind-yes}
 use Rattle.parser_leaves.proofs.Exprs.{no-sign, infix-sign}
-use Rattle.parser_leaves.proofs.Tables.{no-powers, powers-some}
+use Rattle.parser_leaves.proofs.Tables.{no-powers}
 use Rattle.parser_items.proofs.Levels.{infix-kind, right-is}
 use mathlib.Core.Path.{sym, _∙_, ap}
 

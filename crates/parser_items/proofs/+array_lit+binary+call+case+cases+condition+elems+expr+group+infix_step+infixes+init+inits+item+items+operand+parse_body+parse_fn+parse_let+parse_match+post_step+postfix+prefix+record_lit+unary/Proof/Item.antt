@@ -16,7 +16,7 @@ use Rattle.parser_items.proofs.+array_lit+binary+call+case+cases+condit
 use Rattle.parser_base.proofs.Steps.{at-kind, then, enough, ifKind-yes, ifKind-no}
 use Rattle.parser_base.proofs.Docs.{require-then}
 use Rattle.parser_leaves.proofs.Tables.{entry-here, entry-past, entry-other}
-use mathlib.Core.Path.{refl, sym, _∙_}
+use mathlib.Core.Path.{sym, _∙_}
 
 abbrev claims : ℕ → lts.Claims
 claims t = (kind-reads.Asked, kind-reads.Learnt, parse-import-reads.Asked, parse-import-reads.Learnt, parse-let-below t, parse-let.Post, parse-fn-below t, parse-fn.Post, parse-extern-reads.Asked, parse-extern-reads.Learnt, require-no-docs-reads.Asked, require-no-docs-reads.Learnt, parse-match-below t, parse-match.Post, expr-below t, expr.Post)

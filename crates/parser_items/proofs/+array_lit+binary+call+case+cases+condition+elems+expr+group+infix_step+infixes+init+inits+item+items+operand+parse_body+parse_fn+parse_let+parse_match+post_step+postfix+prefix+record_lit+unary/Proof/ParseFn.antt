@@ -19,7 +19,7 @@ use Rattle.parser_items.proofs.+array_lit+binary+call+case+cases+condit
 use Rattle.parser_items.proofs.+array_lit+binary+call+case+cases+condition+elems+expr+group+infix_step+infixes+init+inits+item+items+operand+parse_body+parse_fn+parse_let+parse_match+post_step+postfix+prefix+record_lit+unary.Proof.Measures.{parse-fn-at, parse-body-below}
 use Rattle.parser_base.proofs.Steps.{seq, then, read, enough}
 use Rattle.rules.specs.Rules.{parseFn}
-use mathlib.Core.Path.{_≡_, refl, sym, subst, ap}
+use mathlib.Core.Path.{_≡_, sym, subst, ap}
 use Rattle.lex.specs.declared.tok.Token.{Token}
 
 abbrev claims : ℕ → lts.Claims

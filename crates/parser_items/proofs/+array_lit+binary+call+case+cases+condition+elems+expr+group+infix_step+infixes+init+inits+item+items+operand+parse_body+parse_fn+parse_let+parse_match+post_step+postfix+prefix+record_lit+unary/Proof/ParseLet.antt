@@ -13,7 +13,6 @@ use Rattle.parser_items.proofs.+array_lit+binary+call+case+cases+condit
 use Rattle.parser_items.proofs.+array_lit+binary+call+case+cases+condition+elems+expr+group+infix_step+infixes+init+inits+item+items+operand+parse_body+parse_fn+parse_let+parse_match+post_step+postfix+prefix+record_lit+unary.Proof.Measures.{parse-let-at, prefix-below}
 use Rattle.parser_base.proofs.Steps.{seq, then, read, enough}
 use Rattle.rules.specs.Rules.{parseLet}
-use mathlib.Core.Path.{refl}
 
 abbrev claims : ℕ → lts.Claims
 claims t = (take-docs-reads.Asked, take-docs-reads.Learnt, expect-reads.Asked, expect-reads.Learnt, current-reads.Asked, current-reads.Learnt, expect-ident-reads.Asked, expect-ident-reads.Learnt, prefix-below t, prefix.Post, push-let-reads.Asked, push-let-reads.Learnt)

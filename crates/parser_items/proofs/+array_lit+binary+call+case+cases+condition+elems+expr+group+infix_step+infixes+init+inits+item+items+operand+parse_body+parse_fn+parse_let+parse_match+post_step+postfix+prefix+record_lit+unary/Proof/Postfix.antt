@@ -13,7 +13,7 @@ use Rattle.parser_base.specs.Represents.{parserOf, code}
 use Rattle.parser_base.specs.Refines.{kept, deeper}
 use Rattle.parser_leaves.proofs.Exprs.{postfix-goes, post-out}
 use Rattle.parser_items.proofs.Levels.{out-at}
-use mathlib.Core.Path.{_≡_, refl, sym, subst, _∙_}
+use mathlib.Core.Path.{_≡_, refl, sym, _∙_}
 use lib.ListN.{length}
 
 abbrev claims : ℕ → lts.Claims
