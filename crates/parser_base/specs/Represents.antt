@@ -73,7 +73,7 @@ Failed e = record { failed = 1; error = e }
 -- what the seventeen cells of a parser say
 unfoldable pub parserOf : List ℕ → Parser
 parserOf c = record {
-  cur = record { kind = getD c 0 0; start = getD c 1 0; len = getD c 2 0 };
+  cur = record { kind = getD c 1 0; start = getD c 0 0; len = getD c 2 0 };
   pos = getD c 3 0 + 4294967296 * getD c 4 0;
   used = record { nodes = getD c 5 0; values = getD c 6 0; types = getD c 7 0; docs = getD c 8 0; cells = getD c 9 0; scratch = getD c 10 0 };
   status = record { failed = getD c 11 0; error = record { number = getD c 12 0; start = getD c 13 0; len = getD c 14 0; wanted = getD c 15 0; seen = getD c 16 0 } };

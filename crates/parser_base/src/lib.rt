@@ -40,7 +40,7 @@ pub struct Used {
 }
 
 // The token being read and the position after it, what is used of the arrays, and whether the reading has failed.
-// Its numbers lie in seventeen cells that are lent from call to call, since a struct by value would be copied whole at each: the token's kind, start and length, the low and the high 32 bits of the position, the six counts, whether the reading has failed, and the five numbers of the error.
+// Its numbers lie in seventeen cells that are lent from call to call, since a struct by value would be copied whole at each: the token's start, kind and length, the low and the high 32 bits of the position, the six counts, whether the reading has failed, and the five numbers of the error.
 pub struct Parser {
     pub cur: Token,
     pub pos: usize,
@@ -73,7 +73,7 @@ fn wide(n: u32) -> usize
 pub fn kind(p: &[u32; 17]) -> u32
     ensures { λ r. ⌜ r ≡ parserOf (now (p .entry)) .cur .kind ⌝ }
 {
-    p[0]
+    p[1]
 }
 
 // The token being read.
@@ -81,8 +81,8 @@ pub fn current(p: &[u32; 17]) -> Token
     ensures { λ r. ⌜ r ≡ parserOf (now (p .entry)) .cur ⌝ }
 {
     Token {
-        kind: p[0],
-        start: wide(p[1]),
+        kind: p[1],
+        start: wide(p[0]),
         len: wide(p[2]),
     }
 }
@@ -128,13 +128,13 @@ fn low(n: usize) -> u32
     (n % 16777216) as u32
 }
 
-// The next token is the one being read.
+// The next token is the one being read. Its start and length lie apart: side by side they would be loaded together, at once after each was stored for itself, and that stalls.
 pub fn set_next(p: &mut [u32; 17], n: Next)
     ensures { λ r. ⌜ parserOf (now (p .exit)) ≡ withNext (parserOf (now (p .entry))) n ⌝ }
 {
     *p = [
-        n.token.kind,
         low(n.token.start),
+        n.token.kind,
         low(n.token.len),
         (n.next % 4294967296) as u32,
         (n.next / 4294967296) as u32,
