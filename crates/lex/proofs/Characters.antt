@@ -9,12 +9,12 @@ use native.Mathlib.Omega.{arith}
 use lib.Dec.{leb, ltb, eqb}
 use lib.ListN.{length, getD, take, drop}
 use lib.Seq.{getD-drop, drop-drop}
-use borrow.Author.Tests.{eqb-true, eqb-false}
+use borrow.Author.Tests.{eqb-true, eqb-false, le-ltb, lt-ltb}
 use Rattle.lex.specs.declared.utf8.Utf8State.{Utf8State}
 use Rattle.lex.specs.declared.utf8.Utf8State.the-variants.{Boundary, Expecting, Invalid}
-use Rattle.lex.specs.Bytes.{between, inSet, countWhile}
+use Rattle.lex.specs.Bytes.{between, inSet, isPlain, differsFrom, countWhile}
 use Rattle.lex.specs.Utf8.{leastSecond, greatestSecond, afterLead, afterContinuation, nextState, isBoundary, stateAfter, utf8}
-use Rattle.lex.proofs.Bits.{below}
+use Rattle.lex.proofs.Bits.{below, from-low, to-high}
 use Rattle.lex.proofs.Laws.{cases, run-le, place-more, place-end}
 
 -- ---- one byte
@@ -176,6 +176,14 @@ lead-asks b m l h =
     (λ t. cases P (ltb b 0xf0) (λ t e. some 2 (leastSecond b) (greatestSecond b) m l h (omega arith) (omega arith) (least-pos b) e)
     (λ t. cases P (ltb b 0xf5) (λ t e. some 3 (leastSecond b) (greatestSecond b) m l h (omega arith) (omega arith) (least-pos b) e) (λ t. never)))))
 
+-- those of two bytes
+pub lead-two : (b : ℕ) → between 0xc2 0xdf b ≡ true → afterLead b ≡ Expecting 1 0x80 0xbf
+unfolding afterLead
+lead-two b e =
+    let low = from-low 0xc2 0xdf b e in
+    let high = to-high 0xc2 0xdf b e in
+    rw (le-ltb b 0x80 (omega arith), le-ltb b 0xc2 low, lt-ltb b 0xe0 (omega arith), afterLead)
+
 -- ---- a script, read from place to place: `isBoundary (stateAfter Boundary (drop i s))` stays what it is
 
 -- behind the bytes in front that are ASCII
@@ -188,6 +196,22 @@ ascii-run (b ∷ bs) = go (ltb b 0x80) refl (ascii-run bs)
         → stateAfter Boundary (drop (countWhile (inSet 2 0) (b ∷ bs)) (b ∷ bs)) ≡ stateAfter Boundary (b ∷ bs)
     go true e more = simp (e, countWhile) (more ∙ ap (λ (q : Utf8State). stateAfter q bs) (rw (e, afterLead)))
     go false e more = simp (e, countWhile)
+
+-- plain bytes are whole characters
+plain-run : (except : ℕ) (s : List ℕ) → stateAfter Boundary (take (countWhile (isPlain except) s) s) ≡ Boundary
+unfolding countWhile isPlain stateAfter nextState afterLead
+plain-run except [] = refl
+plain-run except (b ∷ bs) = go (ltb b 0x80) refl (differsFrom except b) refl (plain-run except bs)
+  where
+    go : (t : Bool) → ltb b 0x80 ≡ t → (u : Bool) → differsFrom except b ≡ u → stateAfter Boundary (take (countWhile (isPlain except) bs) bs) ≡ Boundary
+        → stateAfter Boundary (take (countWhile (isPlain except) (b ∷ bs)) (b ∷ bs)) ≡ Boundary
+    go true e true f h = simp (e, f, isPlain, countWhile) (rw (e, afterLead) h)
+    go true e false f h = simp (e, f, isPlain, countWhile)
+    go false e u f h = simp (e, isPlain, countWhile)
+
+pub plain-utf8 : (except : ℕ) (s : List ℕ) (n : ℕ) → n ≡ countWhile (isPlain except) s → utf8 (take n s) ≡ true
+unfolding utf8
+plain-utf8 except s n e = rw e (ap isBoundary (plain-run except s))
 
 pub ascii-front : (s : List ℕ) (n : ℕ) → n ≡ 0 + countWhile (inSet 2 0) (drop 0 s) → (n ≤ length s) × (isBoundary (stateAfter Boundary (drop n s)) ≡ utf8 s)
 unfolding utf8

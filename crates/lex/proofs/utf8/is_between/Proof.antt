@@ -1,9 +1,9 @@
--- `is_continuation` meets its contract.
+-- `is_between` meets its contract.
 -- Assumes nothing.
 use borrow.Author.Tests.{le-leb, lt-leb}
 use Rattle.lex.specs.Bytes.{between}
-use Rattle.lex.proofs.utf8.is_continuation.Statement.{statement}
-use Rattle.lex.proofs.utf8.is_continuation.Tie as tie
+use Rattle.lex.proofs.utf8.is_between.Statement.{statement}
+use Rattle.lex.proofs.utf8.is_between.Tie as tie
 
 returns : tie.Need-returns
 unfolding between
@@ -13,5 +13,5 @@ returns-2 : tie.Need-returns-2
 unfolding between
 returns-2 c = rw (le-leb _ _ (c .if1 .left), between)
 
-pub is-continuation-spec : {M : Type 1} → statement M
-is-continuation-spec = tie.close (tie.spec returns returns-2)
+pub is-between-spec : {M : Type 1} → statement M
+is-between-spec = tie.close (tie.spec returns returns-2)
