@@ -119,22 +119,22 @@ module _ (script ns ts ls rs ds ns′ ts′ ls′ rs′ : List ℕ) (r : RootsRe
       go (ok xs m) e h = tree-promised (parse stageOne) script ns ts ls rs ds ns′ ts′ ls′ rs′ ds′ taken r [] 0 e h n t c o refl (blank ∙ ap zeros {x = length ds} {y = length ds - 0} (omega arith))
       go (err x m) e h = absurd (true≢false g (ap isGoing (h .0)))
 
-  pub strict-error : (ns″ ts″ ls″ rs″ ds′ : List ℕ) {d₀ : Diagnostic} → (LeftBehind ns′ ts′ ls′ (r .parser .used) → (ns″ ≡ zeros (length ns′)) × (ts″ ≡ zeros (length ts′)) × (ls″ ≡ zeros (length ls′))) → rs″ ≡ zeros (length rs′) → ds′ ≡ zeros (length ds) → isGoing (r .parser .status) ≡ false → d₀ ≡ r .parser .status .error
+  pub strict-error : (ns″ ts″ ls″ rs″ ds′ : List ℕ) {d₀ : Diagnostic} → (LeftBehind ns′ ts′ ls′ rs′ (r .parser .used) (r .members) → (ns″ ≡ zeros (length ns′)) × (ts″ ≡ zeros (length ts′)) × (ls″ ≡ zeros (length ls′)) × (rs″ ≡ zeros (length rs′))) → ds′ ≡ zeros (length ds) → isGoing (r .parser .status) ≡ false → d₀ ≡ r .parser .status .error
       → promised (parse stageOne) script (arrays ns ts ls rs ds) ≡ record { answer = P.Error d₀; arrays = arrays ns″ ts″ ls″ rs″ ds′ }
   unfolding ending
-  strict-error ns″ ts″ ls″ rs″ ds′ a d z g same = subst (λ (x : Diagnostic). promised (parse stageOne) script (arrays ns ts ls rs ds) ≡ record { answer = P.Error x; arrays = arrays ns″ ts″ ls″ rs″ ds′ }) (sym same)
+  strict-error ns″ ts″ ls″ rs″ ds′ a z g same = subst (λ (x : Diagnostic). promised (parse stageOne) script (arrays ns ts ls rs ds) ≡ record { answer = P.Error x; arrays = arrays ns″ ts″ ls″ rs″ ds′ }) (sym same)
       (go (parseRoots stageOne script (begin script)) (parse-ending script) ends)
     where
       go : (res : Result (List ℕ)) → parse stageOne script ≡ ending res → RootsEnd ns′ ts′ ls′ rs′ r res → promised (parse stageOne) script (arrays ns ts ls rs ds) ≡ record { answer = P.Error (r .parser .status .error); arrays = arrays ns″ ts″ ls″ rs″ ds′ }
       go (ok xs m) w h = absurd (true≢false (ap isGoing (h .going)) g)
       go (err x m) w h =
           let same : x ≡ r .parser .status .error = sym (ap (λ (s : Status). s .error) (h .0)) in
-          error-promised (parse stageOne) script ns ts ls rs ds ns″ ts″ ls″ rs″ ds′ taken (r .parser .status .error) (w ∙ ap ended same) (a (h .1) .0 ∙ ap zeros n) (a (h .1) .1 ∙ ap zeros t) (a (h .1) .2 ∙ ap zeros c) (d ∙ ap zeros o) z
+          error-promised (parse stageOne) script ns ts ls rs ds ns″ ts″ ls″ rs″ ds′ taken (r .parser .status .error) (w ∙ ap ended same) (a (h .1) .0 ∙ ap zeros n) (a (h .1) .1 ∙ ap zeros t) (a (h .1) .2 ∙ ap zeros c) (a (h .1) .3 ∙ ap zeros o) z
 
 -- what is cleared by the counts that were read
-pub left-cleared : {ns ts ls ns′ ts′ ls′ : List ℕ} {u v : Used} → u ≡ v → (Left ns (16 * u .nodes) 0 → ns′ ≡ zeros (length ns)) → (Left ts (8 * u .types) (3 * u .docs) → ts′ ≡ zeros (length ts)) → (Left ls (u .cells) (u .scratch) → ls′ ≡ zeros (length ls))
-    → LeftBehind ns ts ls v → (ns′ ≡ zeros (length ns)) × (ts′ ≡ zeros (length ts)) × (ls′ ≡ zeros (length ls))
-left-cleared {ns} {ts} {ls} e f g k h₀ = let h = subst (LeftBehind ns ts ls) (sym e) h₀ in (f (h .0), g (h .1), k (h .2))
+pub left-cleared : {ns ts ls rs ns′ ts′ ls′ rs′ : List ℕ} {u v : Used} {n : ℕ} → u ≡ v → (Left ns (16 * u .nodes) 0 → ns′ ≡ zeros (length ns)) → (Left ts (8 * u .types) (3 * u .docs) → ts′ ≡ zeros (length ts)) → (Left ls (u .cells) (u .scratch) → ls′ ≡ zeros (length ls)) → (Left rs n 0 → rs′ ≡ zeros (length rs))
+    → LeftBehind ns ts ls rs v n → (ns′ ≡ zeros (length ns)) × (ts′ ≡ zeros (length ts)) × (ls′ ≡ zeros (length ls)) × (rs′ ≡ zeros (length rs))
+left-cleared {ns} {ts} {ls} {rs} {n = n} e f g k o h₀ = let h = subst (λ (u : Used). LeftBehind ns ts ls rs u n) (sym e) h₀ in (f (h .0), g (h .1), k (h .2), o (h .3))
 
 -- ---- collecting
 
