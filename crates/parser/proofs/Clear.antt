@@ -67,8 +67,9 @@ ends-cleared {a} {a₁} {a₂} {front} {back} h e w =
 pub left-fits : {a : List ℕ} {front back : ℕ} → Left a front back → front + back ≤ length a
 left-fits h = omega (arith, ap length (h .laid) ∙ length-append (h .before) _, length-append (zeros (h .between)) (h .behind), h .inFront, h .atEnd)
 
+-- the same array and count, by other names
 pub left-as : {a a′ : List ℕ} {n n′ : ℕ} → a′ ≡ a → n′ ≡ n → Left a n 0 → Left a′ n′ 0
-left-as {a} {a′} {n} {n′} e f h = record { before = h .before; behind = h .behind; between = h .between; laid = e ∙ h .laid; inFront = h .inFront ∙ sym f; atEnd = h .atEnd }
+left-as e f h = record { before = h .before; behind = h .behind; between = h .between; laid = e ∙ h .laid; inFront = h .inFront ∙ sym f; atEnd = h .atEnd }
 
 -- the first zero behind the front is written
 pub left-more : {a : List ℕ} {n : ℕ} (x : ℕ) → Left a n 0 → n < length a → Left (set a n x) (n + 1) 0
@@ -85,6 +86,6 @@ left-more {a} {n} x h k =
       atEnd = h .atEnd;
     }
 
--- an array that is blank has nothing in front
-pub left-none : {a : List ℕ} → a ≡ zeros (length a) → Left a 0 0
-left-none {a} e = record { before = []; behind = []; between = length a; laid = e ∙ sym (append-nil (zeros (length a))); inFront = refl; atEnd = refl }
+-- an array that is zero behind its front
+pub left-front : {a : List ℕ} {n : ℕ} (k : ℕ) (xs : List ℕ) → a ≡ xs ++ zeros k → length xs ≡ n → Left a n 0
+left-front k xs e f = record { before = xs; behind = []; between = k; laid = e ∙ ap (λ (l : List ℕ). xs ++ l) (sym (append-nil (zeros k))); inFront = f; atEnd = refl }

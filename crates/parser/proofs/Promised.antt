@@ -1,11 +1,11 @@
 -- What a reading promises, from how the roots end.
 use mathlib.Core.Path.{_≡_, refl, sym, ap, subst, _∙_}
 use mathlib.Core.Bool.{Bool, true, false}
-use mathlib.Core.List.{List, [], _++_, map, flatten}
+use mathlib.Core.List.{List, [], map, flatten}
 use Prim.Native.Nat.{ℕ, _*_, _-_, _≤_}
 use native.Mathlib.Omega.{arith}
 use lib.Dec.{ltb}
-use lib.ListN.{length, take}
+use lib.ListN.{length}
 use borrow.Author.Tests.{ltb-false}
 use Rattle.lex.specs.Bytes.{or}
 use Rattle.lex.specs.declared.diagnostic.Diagnostic.{Diagnostic}
@@ -23,7 +23,6 @@ use Rattle.parser_base.proofs.Steps.{true≢false}
 use Rattle.parser_base.proofs.Cells.{zeros-length}
 use Rattle.parser.specs.Whole.{RootsRead, Left, LeftBehind, arrays, refusal, Blank, Holds, RootsEnd}
 use Rattle.parser.specs.Collect.{RootsCollected, inOrder, CollectEnds}
-use Rattle.parser.proofs.Clear.{cleared-all}
 
 -- ---- refusals
 
@@ -158,19 +157,19 @@ module _ (script ns ts ls rs ds ns′ ts′ ls′ rs′ ds′ : List ℕ) (r : R
     where
       go : (res : Result Gathered) → parseCollect stageOne script ≡ collectEnding script res → CollectEnds script ns′ ts′ ls′ rs′ ds′ r res → promised (parseCollect stageOne) script (arrays ns ts ls rs ds) ≡ record { answer = treeOf (r .parser .used) (r .members) (r .diagnostics); arrays = arrays ns′ ts′ ls′ rs′ ds′ }
       go (ok w m) e h = tree-promised (parseCollect stageOne) script ns ts ls rs ds ns′ ts′ ls′ rs′ ds′ taken roots (inOrder script w) (r .diagnostics) e (h .0) n t c o (h .2) (h .1 ∙ ap (λ (j : ℕ). padded j (flatten (map diagnosticCells (inOrder script w)))) k)
-      go (err x m) e h = absurd (true≢false g (ap isGoing h))
+      go (err x m) e h = absurd (true≢false g (ap isGoing (h .0)))
 
-  pub collect-error : (ns″ ts″ ls″ rs″ ds″ : List ℕ) {d₀ : Diagnostic} → ns″ ≡ zeros (length ns′) → ts″ ≡ zeros (length ts′) → ls″ ≡ zeros (length ls′) → rs″ ≡ zeros (length rs′) → ds″ ≡ take 0 ds′ ++ zeros (length ds′ - 0) → isGoing (r .parser .status) ≡ false → d₀ ≡ r .parser .status .error
+  pub collect-error : (ns″ ts″ ls″ rs″ ds″ : List ℕ) {d₀ : Diagnostic} → (LeftBehind ns′ ts′ ls′ rs′ (r .parser .used) (r .members) → (ns″ ≡ zeros (length ns′)) × (ts″ ≡ zeros (length ts′)) × (ls″ ≡ zeros (length ls′)) × (rs″ ≡ zeros (length rs′))) → (Left ds′ (5 * r .diagnostics) 0 → ds″ ≡ zeros (length ds′)) → isGoing (r .parser .status) ≡ false → d₀ ≡ r .parser .status .error
       → promised (parseCollect stageOne) script (arrays ns ts ls rs ds) ≡ record { answer = P.Error d₀; arrays = arrays ns″ ts″ ls″ rs″ ds″ }
   unfolding collectEnding
-  collect-error ns″ ts″ ls″ rs″ ds″ a b l d z g same = subst (λ (x : Diagnostic). promised (parseCollect stageOne) script (arrays ns ts ls rs ds) ≡ record { answer = P.Error x; arrays = arrays ns″ ts″ ls″ rs″ ds″ }) (sym same)
+  collect-error ns″ ts″ ls″ rs″ ds″ a z g same = subst (λ (x : Diagnostic). promised (parseCollect stageOne) script (arrays ns ts ls rs ds) ≡ record { answer = P.Error x; arrays = arrays ns″ ts″ ls″ rs″ ds″ }) (sym same)
       (go (parseRootsCollect stageOne script (begin script)) (collect-ending script) ends)
     where
       go : (res : Result Gathered) → parseCollect stageOne script ≡ collectEnding script res → CollectEnds script ns′ ts′ ls′ rs′ ds′ r res → promised (parseCollect stageOne) script (arrays ns ts ls rs ds) ≡ record { answer = P.Error (r .parser .status .error); arrays = arrays ns″ ts″ ls″ rs″ ds″ }
       go (ok w m) v h = absurd (true≢false (ap isGoing (h .0 .going)) g)
       go (err x m) v h =
-          let same : x ≡ r .parser .status .error = sym (ap (λ (s : Status). s .error) h) in
-          error-promised (parseCollect stageOne) script ns ts ls rs ds ns″ ts″ ls″ rs″ ds″ taken (r .parser .status .error) (v ∙ ap ended same) (a ∙ ap zeros n) (b ∙ ap zeros t) (l ∙ ap zeros c) (d ∙ ap zeros o) (cleared-all ds′ z ∙ ap zeros k)
+          let same : x ≡ r .parser .status .error = sym (ap (λ (s : Status). s .error) (h .0)) in
+          error-promised (parseCollect stageOne) script ns ts ls rs ds ns″ ts″ ls″ rs″ ds″ taken (r .parser .status .error) (v ∙ ap ended same) (a (h .1) .0 ∙ ap zeros n) (a (h .1) .1 ∙ ap zeros t) (a (h .1) .2 ∙ ap zeros c) (a (h .1) .3 ∙ ap zeros o) (z (h .2) ∙ ap zeros k)
 
 -- ---- what is cleared is blank, and enough of it
 

@@ -30,7 +30,7 @@ use Rattle.parser_base.proofs.Docs.{docs-length}
 use Rattle.parser_base.proofs.Rounds.{Again, Turned, LoopInvariant, round-start-at, round-out, ifKind-is-yes, ifKind-is-no}
 use Rattle.parser_base.proofs.Loops.{member-eof, no-member}
 use Rattle.parser.specs.Whole.{RootsRead, Left, LeftBehind, hasCell, RootPushed, Blank, fresh, rootStep, RootsAre, dropDocs, Holds, RootsEnd}
-use Rattle.parser.proofs.Clear.{end-cleared, left-as, left-more, left-none}
+use Rattle.parser.proofs.Clear.{end-cleared, left-as, left-more, left-front}
 
 -- ---- docs that are dropped
 
@@ -229,7 +229,7 @@ module _ {script nodes types lists roots : List ℕ} (p : Parser) (h : Blank scr
 
   -- no root is there
   pub roots-none : Left roots 0 0
-  roots-none = left-none (h .blankRoots)
+  roots-none = left-front (length roots) [] (h .blankRoots) refl
 
   pub roots-start : LoopInvariant script (rootStep script) kept [] (RootsAre script roots 0 (code nodes types lists p)) (code nodes types lists p) (code nodes types lists p)
   roots-start = round-start-at (λ R L stack m k. (h .blankRoots ∙ ap zeros {x = length roots} {y = length roots - 0} (omega arith), refl, omega (arith, k .related .credit .records, ap length (k .related .left))))

@@ -76,7 +76,14 @@ fn clear_ends(a: &mut [u32], front: usize, back: usize)
 }
 
 // What a failed reading has left in the four arrays is cleared.
-fn clear_left(nodes: &mut [u32], types: &mut [u32], lists: &mut [u32], roots: &mut [u32], u: Used, members: u32)
+fn clear_left(
+    nodes: &mut [u32],
+    types: &mut [u32],
+    lists: &mut [u32],
+    roots: &mut [u32],
+    u: Used,
+    members: u32,
+)
     ensures { λ r. ⌜ (Left (now (nodes .entry)) (16 * u .nodes) 0 → now (nodes .exit) ≡ zeros (length (now (nodes .entry)))) × (Left (now (types .entry)) (8 * u .types) (3 * u .docs) → now (types .exit) ≡ zeros (length (now (types .entry)))) × (Left (now (lists .entry)) (u .cells) (u .scratch) → now (lists .exit) ≡ zeros (length (now (lists .entry)))) × (Left (now (roots .entry)) members 0 → now (roots .exit) ≡ zeros (length (now (roots .entry)))) ⌝ }
 {
     clear_ends(nodes, 16 * u.nodes as usize, 0);
@@ -385,7 +392,7 @@ pub fn parse_collect(
             diagnostics: c.diagnostics,
         });
     }
-    clear_tree(nodes, types, lists, roots);
-    clear_from(diagnostics, 0); // what was gathered before 10 goes too
+    clear_left(nodes, types, lists, roots, get_used(&p), c.members);
+    clear_ends(diagnostics, 5 * c.diagnostics as usize, 0); // what was gathered before 10 goes too
     Parsed::Error(error(&p))
 }
