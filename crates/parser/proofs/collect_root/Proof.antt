@@ -4,6 +4,7 @@ use borrow.Author.Needs.{needs}
 use mathlib.Core.Path.{sym, _∙_}
 use Rattle.parser_base.proofs.Steps.{true≢false, represents-going, failed-fails}
 use Rattle.parser.proofs.Collect.{collect-turn, gathered-root, gathers-on}
+use Rattle.parser.proofs.Roots.{root-there}
 use Rattle.parser.proofs.collect_root.Statement.{statement}
 use Rattle.parser.proofs.collect_root.Tie as tie
 
@@ -14,7 +15,7 @@ returns c =
     let push-root = c .before .before .push-root in
     let going = c .before .before .before .before .before .before .going in
     let if1 = c .before .before .before .before .before .if1 in
-    λ g m room h z. collect-turn _ g m (pre) h (prefix .ensures) (λ a m₁ e k. gathered-root g a m₁ e room h z (prefix .ensures) k (push-root .ensures (represents-going k))) (λ e m₁ k. absurd (true≢false (sym (going .ensures) ∙ if1 .taken) (failed-fails k)))
+    λ g m room h z. collect-turn _ g m (pre) h (prefix .ensures) (λ a m₁ e k. gathered-root g a m₁ e room h z (prefix .ensures) k (root-there (push-root .ensures) (represents-going k))) (λ e m₁ k. absurd (true≢false (sym (going .ensures) ∙ if1 .taken) (failed-fails k)))
 
 returns-2 : tie.Need-returns-2
 returns-2 c =
