@@ -16,7 +16,7 @@ use parser_base::member_follows;
 use parser_base::position;
 use parser_base::set_next;
 use parser_base::set_used;
-use parser_items::prefix;
+use parser_items::member;
 use rules::Counts;
 use rules::NodeId;
 use rules::Parsed;
@@ -206,7 +206,7 @@ fn parse_roots(
     first(script, p);
     let mut members: u32 = 0;
     while member_follows(p, Type::EOF) {
-        let n = prefix(script, nodes, types, lists, p, Parser::MAX_LEVELS);
+        let n = member(script, nodes, types, lists, p, Parser::MAX_LEVELS);
         members = push_root(roots, p, members, n);
     }
     drop_docs(types, p);
@@ -266,7 +266,7 @@ fn collect_root(
     requires { ⌜ memberFollows (parserOf (now p)) kEof ≡ true ⌝ }
     ensures { λ r. ⌜ ((g : Gathered) (m : State) → Room (now (script .entry)) (now (roots .entry)) (now (diagnostics .entry)) g → Represents (now (script .entry)) (code (now (nodes .entry)) (now (types .entry)) (now (lists .entry)) (parserOf (now (p .entry)))) 0 0 [] m → Gathers (now (script .entry)) (now (nodes .entry)) (now (types .entry)) (now (lists .entry)) (now (roots .entry)) (now (diagnostics .entry)) (collected (parserOf (now (p .entry))) c) g → TurnEnds (now (script .entry)) (now (nodes .exit)) (now (types .exit)) (now (lists .exit)) (now (roots .exit)) (now (diagnostics .exit)) (collected (parserOf (now (p .exit))) r) (collectStep (now (script .entry)) g m)) ⌝ }
 {
-    let n = prefix(script, nodes, types, lists, p, Parser::MAX_LEVELS);
+    let n = member(script, nodes, types, lists, p, Parser::MAX_LEVELS);
     if going(p) {
         let members = push_root(roots, p, c.members, n);
         return Gathering {

@@ -1,7 +1,6 @@
 // The readers of items and expressions of parser.rs.
 use lex::Token;
 use lex::Type;
-use parser_base::Parser;
 use parser_base::advance;
 use parser_base::close;
 use parser_base::collect_docs;
@@ -48,7 +47,7 @@ ghost use mathlib.Core.Bool.{true};
 ghost use Prim.Native.Nat.{ℕ, _<_};
 ghost use Rattle.lex.specs.Kind.{kCurlyRight, kBraketRight};
 ghost use Rattle.rules.specs.Combinators.{listUntil, byKind};
-ghost use Rattle.rules.specs.Rules.{maxLevels, nodeMember, itemByKind, parseLet, parseFn, parseBody, parseMatch, nextCase, field, recordLiteral, arrayLiteral, group, unary, operand, call, postfixStep, postfix, binary, infixStep, infixes, stageOne};
+ghost use Rattle.rules.specs.Rules.{nodeMember, itemByKind, parseLet, parseFn, parseBody, parseMatch, nextCase, field, recordLiteral, arrayLiteral, group, unary, operand, call, postfixStep, postfix, binary, infixStep, infixes, stageOne};
 ghost use Rattle.parser_base.specs.Represents.{parserOf, code, lowToken};
 ghost use Rattle.parser_base.specs.Refines.{ReadsNode, ReadsStep, LoopsNode, ReadsList, ReadsMember, deeper, memberFollows};
 ghost use Rattle.parser_base.proofs.Rounds.{Again};
@@ -57,23 +56,26 @@ ghost use Rattle.parser_leaves.specs.Matches.{casesGrown, CasesAre, caseCells, 
 
 // ---- items
 
-// An item at the first level. Most are expressions: these are read without `prefix` in between, whose call takes a fourth of the time of a short one.
-pub fn root(
+// An item of the script or of a list. Most are expressions: these are read without `prefix` in between, whose call takes a fourth of the time of a short one.
+pub fn member(
     script: &[u8],
     nodes: &mut [u32],
     types: &mut [u32],
     lists: &mut [u32],
     p: &mut [u32; 17],
+    levels: usize,
 ) -> NodeId
-    ensures { λ r. ⌜ ReadsNode (now (script .entry)) ((deeper (now (script .entry)) maxLevels) .prefix) (code (now (nodes .entry)) (now (types .entry)) (now (lists .entry)) (parserOf (now (p .entry)))) (code (now (nodes .exit)) (now (types .exit)) (now (lists .exit)) (parserOf (now (p .exit)))) r ⌝ }
+    ensures { λ r. ⌜ ReadsNode (now (script .entry)) ((deeper (now (script .entry)) levels) .prefix) (code (now (nodes .entry)) (now (types .entry)) (now (lists .entry)) (parserOf (now (p .entry)))) (code (now (nodes .exit)) (now (types .exit)) (now (lists .exit)) (parserOf (now (p .exit)))) r ⌝ }
 {
-    if begins_expr(p) {
-        return expr(script, nodes, types, lists, p, 0, Parser::MAX_LEVELS - 1);
+    if levels != 0 {
+        if begins_expr(p) {
+            return expr(script, nodes, types, lists, p, 0, levels - 1);
+        }
     }
-    prefix(script, nodes, types, lists, p, Parser::MAX_LEVELS)
+    prefix(script, nodes, types, lists, p, levels)
 }
 
-pub fn prefix(
+fn prefix(
     script: &[u8],
     nodes: &mut [u32],
     types: &mut [u32],
@@ -208,7 +210,7 @@ fn items(
     let mark = get_used(p).scratch;
     let mut members: u32 = 0;
     while member_follows(p, stop) {
-        let n = prefix(script, nodes, types, lists, p, levels);
+        let n = member(script, nodes, types, lists, p, levels);
         push_cell(lists, p, n.0);
         members = std::num::wrapping_add_u32(members, 1);
     }
@@ -552,12 +554,12 @@ fn infixes(
 {
     let mut x = lhs;
     while infix_follows(script, p, least) {
-        x = infix_step(script, nodes, types, lists, p, x, least, levels);
+        x = climb(script, nodes, types, lists, p, x, least, levels);
     }
     x
 }
 
-fn infix_step(
+fn climb(
     script: &[u8],
     nodes: &mut [u32],
     types: &mut [u32],

@@ -32,8 +32,8 @@ loop-less c =
     let loop = c .before .before .before .before .before .before .before .before .before .before .before .before .before .before .before .before .before .before .before .loop in
     let member-follows = c .before .before .before .before .before .before .before .before .before .before .before .before .before .before .before .before .before .member-follows in
     let if1 = c .before .before .before .before .before .before .before .before .before .before .before .before .before .before .before .before .if1 in
-    let prefix = c .before .before .before .before .before .before .before .before .before .before .before .prefix in
-    lighter (member-going (parserOf (loop .p)) kEof (sym (member-follows .ensures) ∙ if1 .taken)) (prefix .ensures)
+    let member = c .before .before .before .before .before .before .before .before .before .before .before .member in
+    lighter (member-going (parserOf (loop .p)) kEof (sym (member-follows .ensures) ∙ if1 .taken)) (member .ensures)
 
 loop-again : tie.Need-loop-again Inv-loop μ-loop
 loop-again c =
@@ -41,9 +41,9 @@ loop-again c =
     let member-follows = c .before .before .before .before .before .before .before .before .before .before .before .before .before .before .before .before .before .member-follows in
     let if1 = c .before .before .before .before .before .before .before .before .before .before .before .before .before .before .before .before .if1 in
     let pre = c .before .before .before .before .before .before .before .before .before .before .before .before .before .before .before .before .before .before .before .before .before .before .before .before .before .before .before .pre in
-    let prefix = c .before .before .before .before .before .before .before .before .before .before .before .prefix in
+    let member = c .before .before .before .before .before .before .before .before .before .before .before .member in
     let push-root = c .before .before .push-root in
-    (omega arith, omega arith, omega arith, omega arith, root-front (push-root .ensures) (loop .inv .4), round-again (loop .inv .5) (member-going (parserOf (loop .p)) kEof (sym (member-follows .ensures) ∙ if1 .taken)) (root-again (sym (member-follows .ensures) ∙ if1 .taken) (omega (arith, pre .roots, loop .inv .3)) (prefix .ensures) (root-there (push-root .ensures))))
+    (omega arith, omega arith, omega arith, omega arith, root-front (push-root .ensures) (loop .inv .4), round-again (loop .inv .5) (member-going (parserOf (loop .p)) kEof (sym (member-follows .ensures) ∙ if1 .taken)) (root-again (sym (member-follows .ensures) ∙ if1 .taken) (omega (arith, pre .roots, loop .inv .3)) (member .ensures) (root-there (push-root .ensures))))
 
 returns : tie.Need-returns Inv-loop μ-loop
 returns c =

@@ -15,8 +15,8 @@ use Rattle.parser_types.proofs.fn_return.Reads as fn-return-reads
 use Rattle.parser_items.proofs.parse_body.Reads as parse-body
 use Rattle.parser_base.proofs.get_used.Reads as get-used-reads
 use Rattle.parser_base.proofs.push_node.Reads as push-node-reads
-use Rattle.parser_items.proofs.+array_lit+binary+call+case+cases+condition+elems+expr+group+infix_step+infixes+init+inits+item+items+operand+parse_body+parse_fn+parse_let+parse_match+post_step+postfix+prefix+record_lit+unary.Lts-parse_fn as lts
-use Rattle.parser_items.proofs.+array_lit+binary+call+case+cases+condition+elems+expr+group+infix_step+infixes+init+inits+item+items+operand+parse_body+parse_fn+parse_let+parse_match+post_step+postfix+prefix+record_lit+unary.Proof.Measures.{parse-fn-at, parse-body-below}
+use Rattle.parser_items.proofs.+array_lit+binary+call+case+cases+climb+condition+elems+expr+group+infixes+init+inits+item+items+member+operand+parse_body+parse_fn+parse_let+parse_match+post_step+postfix+prefix+record_lit+unary.Lts-parse_fn as lts
+use Rattle.parser_items.proofs.+array_lit+binary+call+case+cases+climb+condition+elems+expr+group+infixes+init+inits+item+items+member+operand+parse_body+parse_fn+parse_let+parse_match+post_step+postfix+prefix+record_lit+unary.Proof.Measures.{parse-fn-at, parse-body-below}
 use Rattle.parser_base.proofs.Steps.{seq, then, read, enough}
 use Rattle.rules.specs.Rules.{parseFn}
 use mathlib.Core.Path.{_≡_, sym, subst, ap}

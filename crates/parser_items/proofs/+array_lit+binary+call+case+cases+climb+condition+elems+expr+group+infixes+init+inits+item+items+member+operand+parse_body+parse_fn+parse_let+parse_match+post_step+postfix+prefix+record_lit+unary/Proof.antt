@@ -5,16 +5,17 @@ mod Binary
 mod Call
 mod Case
 mod Cases
+mod Climb
 mod Condition
 mod Elems
 mod Expr
 mod Group
-mod InfixStep
 mod Infixes
 mod Init
 mod Inits
 mod Item
 mod Items
+mod Member
 mod Operand
 mod ParseBody
 mod ParseFn
@@ -25,24 +26,25 @@ mod Postfix
 mod Prefix
 mod RecordLit
 mod Unary
-use Rattle.parser_items.proofs.+array_lit+binary+call+case+cases+condition+elems+expr+group+infix_step+infixes+init+inits+item+items+operand+parse_body+parse_fn+parse_let+parse_match+post_step+postfix+prefix+record_lit+unary.{statement}
-use Rattle.parser_items.proofs.+array_lit+binary+call+case+cases+condition+elems+expr+group+infix_step+infixes+init+inits+item+items+operand+parse_body+parse_fn+parse_let+parse_match+post_step+postfix+prefix+record_lit+unary.Tie.{close}
-use Measures.{μ-array-lit, μ-binary, μ-call, μ-case, μ-cases, μ-condition, μ-elems, μ-expr, μ-group, μ-infix-step, μ-infixes, μ-init, μ-inits, μ-item, μ-items, μ-operand, μ-parse-body, μ-parse-fn, μ-parse-let, μ-parse-match, μ-post-step, μ-postfix, μ-prefix, μ-record-lit, μ-unary}
+use Rattle.parser_items.proofs.+array_lit+binary+call+case+cases+climb+condition+elems+expr+group+infixes+init+inits+item+items+member+operand+parse_body+parse_fn+parse_let+parse_match+post_step+postfix+prefix+record_lit+unary.{statement}
+use Rattle.parser_items.proofs.+array_lit+binary+call+case+cases+climb+condition+elems+expr+group+infixes+init+inits+item+items+member+operand+parse_body+parse_fn+parse_let+parse_match+post_step+postfix+prefix+record_lit+unary.Tie.{close}
+use Measures.{μ-array-lit, μ-binary, μ-call, μ-case, μ-cases, μ-condition, μ-elems, μ-expr, μ-group, μ-climb, μ-infixes, μ-init, μ-inits, μ-item, μ-items, μ-member, μ-operand, μ-parse-body, μ-parse-fn, μ-parse-let, μ-parse-match, μ-post-step, μ-postfix, μ-prefix, μ-record-lit, μ-unary}
 use ArrayLit.{array-lit-meets}
 use Binary.{binary-meets}
 use Call.{call-meets}
 use Case.{case-meets}
 use Cases.{cases-meets}
+use Climb.{climb-meets}
 use Condition.{condition-meets}
 use Elems.{elems-meets}
 use Expr.{expr-meets}
 use Group.{group-meets}
-use InfixStep.{infix-step-meets}
 use Infixes.{infixes-meets}
 use Init.{init-meets}
 use Inits.{inits-meets}
 use Item.{item-meets}
 use Items.{items-meets}
+use Member.{member-meets}
 use Operand.{operand-meets}
 use ParseBody.{parse-body-meets}
 use ParseFn.{parse-fn-meets}
@@ -54,24 +56,25 @@ use Prefix.{prefix-meets}
 use RecordLit.{record-lit-meets}
 use Unary.{unary-meets}
 
-pub +array-lit+binary+call+case+cases+condition+elems+expr+group+infix-step+infixes+init+inits+item+items+operand+parse-body+parse-fn+parse-let+parse-match+post-step+postfix+prefix+record-lit+unary-spec : {M : Type 1} → statement M
-+array-lit+binary+call+case+cases+condition+elems+expr+group+infix-step+infixes+init+inits+item+items+operand+parse-body+parse-fn+parse-let+parse-match+post-step+postfix+prefix+record-lit+unary-spec =
+pub +array-lit+binary+call+case+cases+climb+condition+elems+expr+group+infixes+init+inits+item+items+member+operand+parse-body+parse-fn+parse-let+parse-match+post-step+postfix+prefix+record-lit+unary-spec : {M : Type 1} → statement M
++array-lit+binary+call+case+cases+climb+condition+elems+expr+group+infixes+init+inits+item+items+member+operand+parse-body+parse-fn+parse-let+parse-match+post-step+postfix+prefix+record-lit+unary-spec =
     close
     μ-array-lit
     μ-binary
     μ-call
     μ-case
     μ-cases
+    μ-climb
     μ-condition
     μ-elems
     μ-expr
     μ-group
-    μ-infix-step
     μ-infixes
     μ-init
     μ-inits
     μ-item
     μ-items
+    μ-member
     μ-operand
     μ-parse-body
     μ-parse-fn
@@ -87,16 +90,17 @@ pub +array-lit+binary+call+case+cases+condition+elems+expr+group+infix-step+infi
     call-meets
     case-meets
     cases-meets
+    climb-meets
     condition-meets
     elems-meets
     expr-meets
     group-meets
-    infix-step-meets
     infixes-meets
     init-meets
     inits-meets
     item-meets
     items-meets
+    member-meets
     operand-meets
     parse-body-meets
     parse-fn-meets

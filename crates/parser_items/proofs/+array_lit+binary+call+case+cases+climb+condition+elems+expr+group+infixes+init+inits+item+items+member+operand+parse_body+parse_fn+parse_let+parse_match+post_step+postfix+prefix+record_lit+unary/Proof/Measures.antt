@@ -10,12 +10,13 @@ use Rattle.parser_items.proofs.cases.Reads as cases
 use Rattle.parser_items.proofs.condition.Reads as condition
 use Rattle.parser_items.proofs.elems.Reads as elems
 use Rattle.parser_items.proofs.group.Reads as group
-use Rattle.parser_items.proofs.infix_step.Reads as infix-step
+use Rattle.parser_items.proofs.climb.Reads as climb
 use Rattle.parser_items.proofs.infixes.Reads as infixes
 use Rattle.parser_items.proofs.init.Reads as init
 use Rattle.parser_items.proofs.inits.Reads as inits
 use Rattle.parser_items.proofs.item.Reads as item
 use Rattle.parser_items.proofs.items.Reads as items
+use Rattle.parser_items.proofs.member.Reads as member
 use Rattle.parser_items.proofs.operand.Reads as operand
 use Rattle.parser_items.proofs.parse_body.Reads as parse-body
 use Rattle.parser_items.proofs.expr.Reads as expr
@@ -35,12 +36,13 @@ use Rattle.parser_items.proofs.cases.Kinds as cases-kinds
 use Rattle.parser_items.proofs.condition.Kinds as condition-kinds
 use Rattle.parser_items.proofs.elems.Kinds as elems-kinds
 use Rattle.parser_items.proofs.group.Kinds as group-kinds
-use Rattle.parser_items.proofs.infix_step.Kinds as infix-step-kinds
+use Rattle.parser_items.proofs.climb.Kinds as climb-kinds
 use Rattle.parser_items.proofs.infixes.Kinds as infixes-kinds
 use Rattle.parser_items.proofs.init.Kinds as init-kinds
 use Rattle.parser_items.proofs.inits.Kinds as inits-kinds
 use Rattle.parser_items.proofs.item.Kinds as item-kinds
 use Rattle.parser_items.proofs.items.Kinds as items-kinds
+use Rattle.parser_items.proofs.member.Kinds as member-kinds
 use Rattle.parser_items.proofs.operand.Kinds as operand-kinds
 use Rattle.parser_items.proofs.parse_body.Kinds as parse-body-kinds
 use Rattle.parser_items.proofs.expr.Kinds as expr-kinds
@@ -54,79 +56,82 @@ use Rattle.parser_items.proofs.record_lit.Kinds as record-lit-kinds
 use Rattle.parser_items.proofs.unary.Kinds as unary-kinds
 
 abbrev pub μ-array-lit : Measures 5 array-lit-kinds.ps ℕ
-μ-array-lit κs a = 8 * a .1 .1 .1 .1 .1 .0 + 2
+μ-array-lit κs a = 16 * a .1 .1 .1 .1 .1 .0 + 2
 
 abbrev pub μ-binary : Measures 5 binary-kinds.ps ℕ
-μ-binary κs a = 8 * a .1 .1 .1 .1 .1 .1 .1 .0 + 1
+μ-binary κs a = 16 * a .1 .1 .1 .1 .1 .1 .1 .0 + 1
 
 abbrev pub μ-call : Measures 5 call-kinds.ps ℕ
-μ-call κs a = 8 * a .1 .1 .1 .1 .1 .1 .0 + 2
+μ-call κs a = 16 * a .1 .1 .1 .1 .1 .1 .0 + 3
 
 abbrev pub μ-case : Measures 5 case-kinds.ps ℕ
-μ-case κs a = 8 * a .1 .1 .1 .1 .1 .1 .1 .0 + 4
+μ-case κs a = 16 * a .1 .1 .1 .1 .1 .1 .1 .0 + 5
 
 abbrev pub μ-cases : Measures 5 cases-kinds.ps ℕ
-μ-cases κs a = 8 * a .1 .1 .1 .1 .1 .1 .0 + 5
+μ-cases κs a = 16 * a .1 .1 .1 .1 .1 .1 .0 + 6
 
 abbrev pub μ-condition : Measures 5 condition-kinds.ps ℕ
-μ-condition κs a = 8 * a .1 .1 .1 .1 .1 .0 + 3
+μ-condition κs a = 16 * a .1 .1 .1 .1 .1 .0 + 4
 
 abbrev pub μ-elems : Measures 5 elems-kinds.ps ℕ
-μ-elems κs a = 8 * a .1 .1 .1 .1 .1 .0 + 1
+μ-elems κs a = 16 * a .1 .1 .1 .1 .1 .0 + 1
 
 abbrev pub μ-group : Measures 5 group-kinds.ps ℕ
-μ-group κs a = 8 * a .1 .1 .1 .1 .1 .0 + 1
+μ-group κs a = 16 * a .1 .1 .1 .1 .1 .0 + 1
 
-abbrev pub μ-infix-step : Measures 5 infix-step-kinds.ps ℕ
-μ-infix-step κs a = 8 * a .1 .1 .1 .1 .1 .1 .1 .0 + 2
+abbrev pub μ-climb : Measures 5 climb-kinds.ps ℕ
+μ-climb κs a = 16 * a .1 .1 .1 .1 .1 .1 .1 .0 + 2
 
 abbrev pub μ-infixes : Measures 5 infixes-kinds.ps ℕ
-μ-infixes κs a = 8 * a .1 .1 .1 .1 .1 .1 .1 .0 + 3
+μ-infixes κs a = 16 * a .1 .1 .1 .1 .1 .1 .1 .0 + 3
 
 abbrev pub μ-init : Measures 5 init-kinds.ps ℕ
-μ-init κs a = 8 * a .1 .1 .1 .1 .1 .0 + 1
+μ-init κs a = 16 * a .1 .1 .1 .1 .1 .0 + 1
 
 abbrev pub μ-inits : Measures 5 inits-kinds.ps ℕ
-μ-inits κs a = 8 * a .1 .1 .1 .1 .1 .0 + 2
+μ-inits κs a = 16 * a .1 .1 .1 .1 .1 .0 + 2
 
 abbrev pub μ-item : Measures 5 item-kinds.ps ℕ
-μ-item κs a = 8 * a .1 .1 .1 .1 .1 .0 + 7
+μ-item κs a = 16 * a .1 .1 .1 .1 .1 .0 + 8
 
 abbrev pub μ-items : Measures 5 items-kinds.ps ℕ
-μ-items κs a = 8 * a .1 .1 .1 .1 .1 .1 .0 + 1
+μ-items κs a = 16 * a .1 .1 .1 .1 .1 .1 .0 + 2
+
+abbrev pub μ-member : Measures 5 member-kinds.ps ℕ
+μ-member κs a = 16 * a .1 .1 .1 .1 .1 .0 + 1
 
 abbrev pub μ-operand : Measures 5 operand-kinds.ps ℕ
-μ-operand κs a = 8 * a .1 .1 .1 .1 .1 .0 + 4
+μ-operand κs a = 16 * a .1 .1 .1 .1 .1 .0 + 4
 
 abbrev pub μ-parse-body : Measures 5 parse-body-kinds.ps ℕ
-μ-parse-body κs a = 8 * a .1 .1 .1 .1 .1 .0 + 2
+μ-parse-body κs a = 16 * a .1 .1 .1 .1 .1 .0 + 3
 
 abbrev pub μ-expr : Measures 5 expr-kinds.ps ℕ
-μ-expr κs a = 8 * a .1 .1 .1 .1 .1 .1 .0
+μ-expr κs a = 16 * a .1 .1 .1 .1 .1 .1 .0
 
 abbrev pub μ-parse-fn : Measures 5 parse-fn-kinds.ps ℕ
-μ-parse-fn κs a = 8 * a .1 .1 .1 .1 .1 .0 + 3
+μ-parse-fn κs a = 16 * a .1 .1 .1 .1 .1 .0 + 4
 
 abbrev pub μ-parse-let : Measures 5 parse-let-kinds.ps ℕ
-μ-parse-let κs a = 8 * a .1 .1 .1 .1 .1 .0 + 1
+μ-parse-let κs a = 16 * a .1 .1 .1 .1 .1 .0 + 1
 
 abbrev pub μ-parse-match : Measures 5 parse-match-kinds.ps ℕ
-μ-parse-match κs a = 8 * a .1 .1 .1 .1 .1 .0 + 6
+μ-parse-match κs a = 16 * a .1 .1 .1 .1 .1 .0 + 7
 
 abbrev pub μ-prefix : Measures 5 prefix-kinds.ps ℕ
-μ-prefix κs a = 8 * a .1 .1 .1 .1 .1 .0
+μ-prefix κs a = 16 * a .1 .1 .1 .1 .1 .0
 
 abbrev pub μ-post-step : Measures 5 post-step-kinds.ps ℕ
-μ-post-step κs a = 8 * a .1 .1 .1 .1 .1 .1 .0 + 3
+μ-post-step κs a = 16 * a .1 .1 .1 .1 .1 .1 .0 + 4
 
 abbrev pub μ-postfix : Measures 5 postfix-kinds.ps ℕ
-μ-postfix κs a = 8 * a .1 .1 .1 .1 .1 .1 .0 + 4
+μ-postfix κs a = 16 * a .1 .1 .1 .1 .1 .1 .0 + 5
 
 abbrev pub μ-record-lit : Measures 5 record-lit-kinds.ps ℕ
-μ-record-lit κs a = 8 * a .1 .1 .1 .1 .1 .0 + 3
+μ-record-lit κs a = 16 * a .1 .1 .1 .1 .1 .0 + 3
 
 abbrev pub μ-unary : Measures 5 unary-kinds.ps ℕ
-μ-unary κs a = 8 * a .1 .1 .1 .1 .1 .0 + 1
+μ-unary κs a = 16 * a .1 .1 .1 .1 .1 .0 + 1
 
 abbrev pub array-lit-at : ℕ → In 5 array-lit-kinds.ps
 array-lit-at t = and 5 array-lit-kinds.ps (is 5 array-lit-kinds.ps μ-array-lit t) array-lit.Pre
@@ -176,11 +181,11 @@ group-at t = and 5 group-kinds.ps (is 5 group-kinds.ps μ-group t) group.Pre
 abbrev pub group-below : ℕ → In 5 group-kinds.ps
 group-below t = and 5 group-kinds.ps (falls 5 group-kinds.ps _<_ μ-group t) group.Pre
 
-abbrev pub infix-step-at : ℕ → In 5 infix-step-kinds.ps
-infix-step-at t = and 5 infix-step-kinds.ps (is 5 infix-step-kinds.ps μ-infix-step t) infix-step.Pre
+abbrev pub climb-at : ℕ → In 5 climb-kinds.ps
+climb-at t = and 5 climb-kinds.ps (is 5 climb-kinds.ps μ-climb t) climb.Pre
 
-abbrev pub infix-step-below : ℕ → In 5 infix-step-kinds.ps
-infix-step-below t = and 5 infix-step-kinds.ps (falls 5 infix-step-kinds.ps _<_ μ-infix-step t) infix-step.Pre
+abbrev pub climb-below : ℕ → In 5 climb-kinds.ps
+climb-below t = and 5 climb-kinds.ps (falls 5 climb-kinds.ps _<_ μ-climb t) climb.Pre
 
 abbrev pub infixes-at : ℕ → In 5 infixes-kinds.ps
 infixes-at t = and 5 infixes-kinds.ps (is 5 infixes-kinds.ps μ-infixes t) infixes.Pre
@@ -211,6 +216,12 @@ items-at t = and 5 items-kinds.ps (is 5 items-kinds.ps μ-items t) items.Pre
 
 abbrev pub items-below : ℕ → In 5 items-kinds.ps
 items-below t = and 5 items-kinds.ps (falls 5 items-kinds.ps _<_ μ-items t) items.Pre
+
+abbrev pub member-at : ℕ → In 5 member-kinds.ps
+member-at t = and 5 member-kinds.ps (is 5 member-kinds.ps μ-member t) member.Pre
+
+abbrev pub member-below : ℕ → In 5 member-kinds.ps
+member-below t = and 5 member-kinds.ps (falls 5 member-kinds.ps _<_ μ-member t) member.Pre
 
 abbrev pub operand-at : ℕ → In 5 operand-kinds.ps
 operand-at t = and 5 operand-kinds.ps (is 5 operand-kinds.ps μ-operand t) operand.Pre

@@ -9,8 +9,8 @@ use Rattle.parser_base.proofs.member_follows.Reads as member-follows-reads
 use Rattle.parser_items.proofs.case.Reads as case
 use Rattle.parser_base.proofs.close.Reads as close-reads
 use Rattle.parser_leaves.proofs.match_node.Reads as match-node-reads
-use Rattle.parser_items.proofs.+array_lit+binary+call+case+cases+condition+elems+expr+group+infix_step+infixes+init+inits+item+items+operand+parse_body+parse_fn+parse_let+parse_match+post_step+postfix+prefix+record_lit+unary.Lts-cases as lts
-use Rattle.parser_items.proofs.+array_lit+binary+call+case+cases+condition+elems+expr+group+infix_step+infixes+init+inits+item+items+operand+parse_body+parse_fn+parse_let+parse_match+post_step+postfix+prefix+record_lit+unary.Proof.Measures.{cases-at, case-below}
+use Rattle.parser_items.proofs.+array_lit+binary+call+case+cases+climb+condition+elems+expr+group+infixes+init+inits+item+items+member+operand+parse_body+parse_fn+parse_let+parse_match+post_step+postfix+prefix+record_lit+unary.Lts-cases as lts
+use Rattle.parser_items.proofs.+array_lit+binary+call+case+cases+climb+condition+elems+expr+group+infixes+init+inits+item+items+member+operand+parse_body+parse_fn+parse_let+parse_match+post_step+postfix+prefix+record_lit+unary.Proof.Measures.{cases-at, case-below}
 use Rattle.parser_base.proofs.Steps.{lists-seq}
 use Rattle.parser_base.proofs.Rounds.{LoopInvariant, round-start-at, round-again, weight}
 use Rattle.parser_base.proofs.Loops.{member-going}

@@ -5,8 +5,8 @@ use Prim.Native.Nat.{ℕ}
 use Rattle.parser_items.proofs.postfix.Reads as postfix
 use Rattle.parser_leaves.proofs.postfix_follows.Reads as postfix-follows-reads
 use Rattle.parser_items.proofs.post_step.Reads as post-step
-use Rattle.parser_items.proofs.+array_lit+binary+call+case+cases+condition+elems+expr+group+infix_step+infixes+init+inits+item+items+operand+parse_body+parse_fn+parse_let+parse_match+post_step+postfix+prefix+record_lit+unary.Lts-postfix as lts
-use Rattle.parser_items.proofs.+array_lit+binary+call+case+cases+condition+elems+expr+group+infix_step+infixes+init+inits+item+items+operand+parse_body+parse_fn+parse_let+parse_match+post_step+postfix+prefix+record_lit+unary.Proof.Measures.{postfix-at, post-step-below}
+use Rattle.parser_items.proofs.+array_lit+binary+call+case+cases+climb+condition+elems+expr+group+infixes+init+inits+item+items+member+operand+parse_body+parse_fn+parse_let+parse_match+post_step+postfix+prefix+record_lit+unary.Lts-postfix as lts
+use Rattle.parser_items.proofs.+array_lit+binary+call+case+cases+climb+condition+elems+expr+group+infixes+init+inits+item+items+member+operand+parse_body+parse_fn+parse_let+parse_match+post_step+postfix+prefix+record_lit+unary.Proof.Measures.{postfix-at, post-step-below}
 use Rattle.rules.specs.Rules.{postfix, postfixStep}
 use Rattle.parser_base.proofs.Rounds.{LoopInvariant, round-start, round-again, round-out, again-of, weight, lighter}
 use Rattle.parser_base.specs.Represents.{parserOf, code}

@@ -9,8 +9,8 @@ use Rattle.parser_base.proofs.current.Reads as current-reads
 use Rattle.parser_base.proofs.expect_ident.Reads as expect-ident-reads
 use Rattle.parser_items.proofs.prefix.Reads as prefix
 use Rattle.parser_base.proofs.push_let.Reads as push-let-reads
-use Rattle.parser_items.proofs.+array_lit+binary+call+case+cases+condition+elems+expr+group+infix_step+infixes+init+inits+item+items+operand+parse_body+parse_fn+parse_let+parse_match+post_step+postfix+prefix+record_lit+unary.Lts-parse_let as lts
-use Rattle.parser_items.proofs.+array_lit+binary+call+case+cases+condition+elems+expr+group+infix_step+infixes+init+inits+item+items+operand+parse_body+parse_fn+parse_let+parse_match+post_step+postfix+prefix+record_lit+unary.Proof.Measures.{parse-let-at, prefix-below}
+use Rattle.parser_items.proofs.+array_lit+binary+call+case+cases+climb+condition+elems+expr+group+infixes+init+inits+item+items+member+operand+parse_body+parse_fn+parse_let+parse_match+post_step+postfix+prefix+record_lit+unary.Lts-parse_let as lts
+use Rattle.parser_items.proofs.+array_lit+binary+call+case+cases+climb+condition+elems+expr+group+infixes+init+inits+item+items+member+operand+parse_body+parse_fn+parse_let+parse_match+post_step+postfix+prefix+record_lit+unary.Proof.Measures.{parse-let-at, prefix-below}
 use Rattle.parser_base.proofs.Steps.{seq, then, read, enough}
 use Rattle.rules.specs.Rules.{parseLet}
 

@@ -14,8 +14,8 @@ use Rattle.parser_leaves.proofs.ident.Reads as ident-reads
 use Rattle.parser_items.proofs.group.Reads as group
 use Rattle.parser_items.proofs.unary.Reads as unary
 use Rattle.parser_base.proofs.fail_expecting.Reads as fail-expecting-reads
-use Rattle.parser_items.proofs.+array_lit+binary+call+case+cases+condition+elems+expr+group+infix_step+infixes+init+inits+item+items+operand+parse_body+parse_fn+parse_let+parse_match+post_step+postfix+prefix+record_lit+unary.Lts-operand as lts
-use Rattle.parser_items.proofs.+array_lit+binary+call+case+cases+condition+elems+expr+group+infix_step+infixes+init+inits+item+items+operand+parse_body+parse_fn+parse_let+parse_match+post_step+postfix+prefix+record_lit+unary.Proof.Measures.{operand-at, array-lit-below, group-below, record-lit-below, unary-below}
+use Rattle.parser_items.proofs.+array_lit+binary+call+case+cases+climb+condition+elems+expr+group+infixes+init+inits+item+items+member+operand+parse_body+parse_fn+parse_let+parse_match+post_step+postfix+prefix+record_lit+unary.Lts-operand as lts
+use Rattle.parser_items.proofs.+array_lit+binary+call+case+cases+climb+condition+elems+expr+group+infixes+init+inits+item+items+member+operand+parse_body+parse_fn+parse_let+parse_match+post_step+postfix+prefix+record_lit+unary.Proof.Measures.{operand-at, array-lit-below, group-below, record-lit-below, unary-below}
 use Rattle.parser_leaves.specs.Tests.{operandOf}
 use Rattle.parser_leaves.proofs.Tables.{entry-here, entry-past, entry-other}
 use Rattle.parser_base.proofs.Steps.{refused}

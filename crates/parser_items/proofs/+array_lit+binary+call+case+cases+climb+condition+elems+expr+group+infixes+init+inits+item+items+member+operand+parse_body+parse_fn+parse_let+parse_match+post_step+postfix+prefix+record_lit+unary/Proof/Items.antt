@@ -6,12 +6,12 @@ use Prim.Native.Nat.{ℕ}
 use Rattle.parser_items.proofs.items.Reads as items
 use Rattle.parser_base.proofs.get_used.Reads as get-used-reads
 use Rattle.parser_base.proofs.member_follows.Reads as member-follows-reads
-use Rattle.parser_items.proofs.prefix.Reads as prefix
+use Rattle.parser_items.proofs.member.Reads as member
 use Rattle.parser_base.proofs.push_cell.Reads as push-cell-reads
 use Rattle.std.proofs.num.wrapping_add_u32.Reads as wrapping-add-u32-reads
 use Rattle.parser_base.proofs.close.Reads as close-reads
-use Rattle.parser_items.proofs.+array_lit+binary+call+case+cases+condition+elems+expr+group+infix_step+infixes+init+inits+item+items+operand+parse_body+parse_fn+parse_let+parse_match+post_step+postfix+prefix+record_lit+unary.Lts-items as lts
-use Rattle.parser_items.proofs.+array_lit+binary+call+case+cases+condition+elems+expr+group+infix_step+infixes+init+inits+item+items+operand+parse_body+parse_fn+parse_let+parse_match+post_step+postfix+prefix+record_lit+unary.Proof.Measures.{items-at, prefix-below}
+use Rattle.parser_items.proofs.+array_lit+binary+call+case+cases+climb+condition+elems+expr+group+infixes+init+inits+item+items+member+operand+parse_body+parse_fn+parse_let+parse_match+post_step+postfix+prefix+record_lit+unary.Lts-items as lts
+use Rattle.parser_items.proofs.+array_lit+binary+call+case+cases+climb+condition+elems+expr+group+infixes+init+inits+item+items+member+operand+parse_body+parse_fn+parse_let+parse_match+post_step+postfix+prefix+record_lit+unary.Proof.Measures.{items-at, member-below}
 use Rattle.parser_base.proofs.Loops.{MembersInvariant, midway-start, midway-turn, midway-end, falls}
 use Rattle.parser_base.proofs.Rounds.{weight}
 use Rattle.parser_base.specs.Represents.{parserOf, code}
@@ -25,7 +25,7 @@ use Rattle.rules.specs.declared.NodeId.{NodeId}
 use mathlib.Core.List.{[], _∷_}
 
 abbrev claims : ℕ → lts.Claims
-claims t = (get-used-reads.Asked, get-used-reads.Learnt, member-follows-reads.Asked, member-follows-reads.Learnt, prefix-below t, prefix.Post, push-cell-reads.Asked, push-cell-reads.Learnt, wrapping-add-u32-reads.Asked, wrapping-add-u32-reads.Learnt, close-reads.Asked, close-reads.Learnt)
+claims t = (get-used-reads.Asked, get-used-reads.Learnt, member-follows-reads.Asked, member-follows-reads.Learnt, member-below t, member.Post, push-cell-reads.Asked, push-cell-reads.Learnt, wrapping-add-u32-reads.Asked, wrapping-add-u32-reads.Learnt, close-reads.Asked, close-reads.Learnt)
 
 abbrev Inv-loop : lts.InvT-loop
 Inv-loop script nodes₀ types₀ lists₀ p₀ stop levels mark members₀ nodes types lists p members = (length nodes ≡ length nodes₀) × (length types ≡ length types₀) × (length lists ≡ length lists₀) × MembersInvariant script stop (nodeMember (deeper script levels .prefix)) (code nodes₀ types₀ lists₀ (parserOf p₀)) (code nodes types lists (parserOf p)) members
@@ -41,9 +41,9 @@ unfolding nodeMember
 loop-less t c =
     let member-follows = c .before .before .before .before .before .before .before .before .before .before .before .before .before .before .before .before .before .before .member-follows in
     let if1 = c .before .before .before .before .before .before .before .before .before .before .before .before .before .before .before .before .before .if1 in
-    let prefix = c .before .before .before .before .before .before .before .before .before .before .before .before .prefix in
+    let member = c .before .before .before .before .before .before .before .before .before .before .before .before .member in
     let push-cell = c .before .before .before .push-cell in
-    falls _ (sym (member-follows .ensures) ∙ if1 .taken) (enough (seq (λ (n : NodeId). pure (n .0 ∷ [])) (prefix .ensures) (push-cell .ensures _ _ _)) tt)
+    falls _ (sym (member-follows .ensures) ∙ if1 .taken) (enough (seq (λ (n : NodeId). pure (n .0 ∷ [])) (member .ensures) (push-cell .ensures _ _ _)) tt)
 
 loop-again : (t : ℕ) → lts.Need-loop-again (claims t) (items-at t) items.Post Inv-loop μ-loop
 unfolding nodeMember
@@ -51,10 +51,10 @@ loop-again t c =
     let loop = c .before .before .before .before .before .before .before .before .before .before .before .before .before .before .before .before .before .before .before .before .loop in
     let member-follows = c .before .before .before .before .before .before .before .before .before .before .before .before .before .before .before .before .before .before .member-follows in
     let if1 = c .before .before .before .before .before .before .before .before .before .before .before .before .before .before .before .before .before .if1 in
-    let prefix = c .before .before .before .before .before .before .before .before .before .before .before .before .prefix in
+    let member = c .before .before .before .before .before .before .before .before .before .before .before .before .member in
     let push-cell = c .before .before .before .push-cell in
     let wrapping-add-u32 = c .wrapping-add-u32 in
-    (omega (arith, c .before .before .before .push-cell .kept, c .before .before .before .before .before .before .before .before .before .before .before .before .prefix .kept), omega (arith, c .before .before .before .push-cell .kept, c .before .before .before .before .before .before .before .before .before .before .before .before .prefix .kept), omega (arith, c .before .before .before .push-cell .kept, c .before .before .before .before .before .before .before .before .before .before .before .before .prefix .kept), midway-turn (loop .inv .3) (sym (member-follows .ensures) ∙ if1 .taken) (enough (seq _ (prefix .ensures) (push-cell .ensures _ _ _)) tt) (wrapping-add-u32 .ensures))
+    (omega (arith, c .before .before .before .push-cell .kept, c .before .before .before .before .before .before .before .before .before .before .before .before .member .kept), omega (arith, c .before .before .before .push-cell .kept, c .before .before .before .before .before .before .before .before .before .before .before .before .member .kept), omega (arith, c .before .before .before .push-cell .kept, c .before .before .before .before .before .before .before .before .before .before .before .before .member .kept), midway-turn (loop .inv .3) (sym (member-follows .ensures) ∙ if1 .taken) (enough (seq _ (member .ensures) (push-cell .ensures _ _ _)) tt) (wrapping-add-u32 .ensures))
 
 returns : (t : ℕ) → lts.Need-returns (claims t) (items-at t) items.Post Inv-loop μ-loop
 returns t c =
@@ -70,7 +70,7 @@ items-meets t = lts.spec (claims t) (items-at t) items.Post Inv-loop μ-loop
     (λ c κs. search needs)  -- get-used-requires
     (loop-holds t)
     (λ c κs. search needs)  -- member-follows-requires
-    (λ c κs. (omega (arith, c .before .before .before .before .before .before .before .before .before .before .before .before .before .before .pre .0), search needs))  -- prefix-requires
+    (λ c κs. (omega (arith, c .before .before .before .before .before .before .before .before .before .before .before .before .before .before .pre .0), search needs))  -- member-requires
     (λ c κs. search needs)  -- push-cell-requires
     (λ c κs. search needs)  -- wrapping-add-u32-requires
     (loop-less t)

@@ -7,8 +7,8 @@ use Rattle.parser_base.proofs.advance.Reads as advance-reads
 use Rattle.parser_base.proofs.current.Reads as current-reads
 use Rattle.parser_base.proofs.expect.Reads as expect-reads
 use Rattle.parser_items.proofs.cases.Reads as cases
-use Rattle.parser_items.proofs.+array_lit+binary+call+case+cases+condition+elems+expr+group+infix_step+infixes+init+inits+item+items+operand+parse_body+parse_fn+parse_let+parse_match+post_step+postfix+prefix+record_lit+unary.Lts-parse_match as lts
-use Rattle.parser_items.proofs.+array_lit+binary+call+case+cases+condition+elems+expr+group+infix_step+infixes+init+inits+item+items+operand+parse_body+parse_fn+parse_let+parse_match+post_step+postfix+prefix+record_lit+unary.Proof.Measures.{parse-match-at, cases-below}
+use Rattle.parser_items.proofs.+array_lit+binary+call+case+cases+climb+condition+elems+expr+group+infixes+init+inits+item+items+member+operand+parse_body+parse_fn+parse_let+parse_match+post_step+postfix+prefix+record_lit+unary.Lts-parse_match as lts
+use Rattle.parser_items.proofs.+array_lit+binary+call+case+cases+climb+condition+elems+expr+group+infixes+init+inits+item+items+member+operand+parse_body+parse_fn+parse_let+parse_match+post_step+postfix+prefix+record_lit+unary.Proof.Measures.{parse-match-at, cases-below}
 use Rattle.parser_base.proofs.Steps.{then, read, looks, as-rule, enough}
 use Rattle.rules.specs.Rules.{parseMatch}
 use Rattle.parser_leaves.specs.Matches.{matchNode}

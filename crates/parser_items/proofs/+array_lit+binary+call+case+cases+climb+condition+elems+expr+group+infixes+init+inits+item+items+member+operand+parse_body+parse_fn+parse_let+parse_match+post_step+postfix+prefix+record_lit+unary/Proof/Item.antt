@@ -11,8 +11,8 @@ use Rattle.parser_types.proofs.parse_extern.Reads as parse-extern-reads
 use Rattle.parser_base.proofs.require_no_docs.Reads as require-no-docs-reads
 use Rattle.parser_items.proofs.parse_match.Reads as parse-match
 use Rattle.parser_items.proofs.expr.Reads as expr
-use Rattle.parser_items.proofs.+array_lit+binary+call+case+cases+condition+elems+expr+group+infix_step+infixes+init+inits+item+items+operand+parse_body+parse_fn+parse_let+parse_match+post_step+postfix+prefix+record_lit+unary.Lts-item as lts
-use Rattle.parser_items.proofs.+array_lit+binary+call+case+cases+condition+elems+expr+group+infix_step+infixes+init+inits+item+items+operand+parse_body+parse_fn+parse_let+parse_match+post_step+postfix+prefix+record_lit+unary.Proof.Measures.{item-at, expr-below, parse-fn-below, parse-let-below, parse-match-below}
+use Rattle.parser_items.proofs.+array_lit+binary+call+case+cases+climb+condition+elems+expr+group+infixes+init+inits+item+items+member+operand+parse_body+parse_fn+parse_let+parse_match+post_step+postfix+prefix+record_lit+unary.Lts-item as lts
+use Rattle.parser_items.proofs.+array_lit+binary+call+case+cases+climb+condition+elems+expr+group+infixes+init+inits+item+items+member+operand+parse_body+parse_fn+parse_let+parse_match+post_step+postfix+prefix+record_lit+unary.Proof.Measures.{item-at, expr-below, parse-fn-below, parse-let-below, parse-match-below}
 use Rattle.parser_base.proofs.Steps.{at-kind, then, enough, ifKind-yes, ifKind-no}
 use Rattle.parser_base.proofs.Docs.{require-then}
 use Rattle.parser_leaves.proofs.Tables.{entry-here, entry-past, entry-other}

@@ -8,8 +8,8 @@ use Rattle.parser_items.proofs.post_step.Reads as post-step
 use Rattle.parser_base.proofs.kind.Reads as kind-reads
 use Rattle.parser_leaves.proofs.field_access.Reads as field-access-reads
 use Rattle.parser_items.proofs.call.Reads as call
-use Rattle.parser_items.proofs.+array_lit+binary+call+case+cases+condition+elems+expr+group+infix_step+infixes+init+inits+item+items+operand+parse_body+parse_fn+parse_let+parse_match+post_step+postfix+prefix+record_lit+unary.Lts-post_step as lts
-use Rattle.parser_items.proofs.+array_lit+binary+call+case+cases+condition+elems+expr+group+infix_step+infixes+init+inits+item+items+operand+parse_body+parse_fn+parse_let+parse_match+post_step+postfix+prefix+record_lit+unary.Proof.Measures.{post-step-at, call-below}
+use Rattle.parser_items.proofs.+array_lit+binary+call+case+cases+climb+condition+elems+expr+group+infixes+init+inits+item+items+member+operand+parse_body+parse_fn+parse_let+parse_match+post_step+postfix+prefix+record_lit+unary.Lts-post_step as lts
+use Rattle.parser_items.proofs.+array_lit+binary+call+case+cases+climb+condition+elems+expr+group+infixes+init+inits+item+items+member+operand+parse_body+parse_fn+parse_let+parse_match+post_step+postfix+prefix+record_lit+unary.Proof.Measures.{post-step-at, call-below}
 use Rattle.parser_base.proofs.Steps.{ifKind-yes}
 use Rattle.parser_leaves.proofs.Exprs.{postfix-brace, post-call}
 

@@ -7,8 +7,8 @@ use Rattle.parser_base.proofs.current.Reads as current-reads
 use Rattle.parser_items.proofs.expr.Reads as expr
 use Rattle.parser_items.proofs.parse_body.Reads as parse-body
 use Rattle.parser_leaves.proofs.push_case.Reads as push-case-reads
-use Rattle.parser_items.proofs.+array_lit+binary+call+case+cases+condition+elems+expr+group+infix_step+infixes+init+inits+item+items+operand+parse_body+parse_fn+parse_let+parse_match+post_step+postfix+prefix+record_lit+unary.Lts-condition as lts
-use Rattle.parser_items.proofs.+array_lit+binary+call+case+cases+condition+elems+expr+group+infix_step+infixes+init+inits+item+items+operand+parse_body+parse_fn+parse_let+parse_match+post_step+postfix+prefix+record_lit+unary.Proof.Measures.{condition-at, expr-below, parse-body-below}
+use Rattle.parser_items.proofs.+array_lit+binary+call+case+cases+climb+condition+elems+expr+group+infixes+init+inits+item+items+member+operand+parse_body+parse_fn+parse_let+parse_match+post_step+postfix+prefix+record_lit+unary.Lts-condition as lts
+use Rattle.parser_items.proofs.+array_lit+binary+call+case+cases+climb+condition+elems+expr+group+infixes+init+inits+item+items+member+operand+parse_body+parse_fn+parse_let+parse_match+post_step+postfix+prefix+record_lit+unary.Proof.Measures.{condition-at, expr-below, parse-body-below}
 use Rattle.parser_base.proofs.Steps.{read, seq, looks, enough}
 use Rattle.parser_leaves.specs.Matches.{caseCells}
 

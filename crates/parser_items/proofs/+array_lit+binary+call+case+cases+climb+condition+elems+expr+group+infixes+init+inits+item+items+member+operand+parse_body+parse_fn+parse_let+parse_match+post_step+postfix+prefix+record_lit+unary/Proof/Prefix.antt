@@ -8,8 +8,8 @@ use Rattle.parser_leaves.proofs.begins_expr.Reads as begins-expr-reads
 use Rattle.parser_items.proofs.expr.Reads as expr
 use Rattle.parser_base.proofs.collect_docs.Reads as collect-docs-reads
 use Rattle.parser_items.proofs.item.Reads as item
-use Rattle.parser_items.proofs.+array_lit+binary+call+case+cases+condition+elems+expr+group+infix_step+infixes+init+inits+item+items+operand+parse_body+parse_fn+parse_let+parse_match+post_step+postfix+prefix+record_lit+unary.Lts-prefix as lts
-use Rattle.parser_items.proofs.+array_lit+binary+call+case+cases+condition+elems+expr+group+infix_step+infixes+init+inits+item+items+operand+parse_body+parse_fn+parse_let+parse_match+post_step+postfix+prefix+record_lit+unary.Proof.Measures.{prefix-at, expr-below, item-below}
+use Rattle.parser_items.proofs.+array_lit+binary+call+case+cases+climb+condition+elems+expr+group+infixes+init+inits+item+items+member+operand+parse_body+parse_fn+parse_let+parse_match+post_step+postfix+prefix+record_lit+unary.Lts-prefix as lts
+use Rattle.parser_items.proofs.+array_lit+binary+call+case+cases+climb+condition+elems+expr+group+infixes+init+inits+item+items+member+operand+parse_body+parse_fn+parse_let+parse_match+post_step+postfix+prefix+record_lit+unary.Proof.Measures.{prefix-at, expr-below, item-below}
 use mathlib.Core.Path.{sym, _∙_}
 use Rattle.parser_base.proofs.Steps.{then, enough}
 use Rattle.rules.specs.Rules.{parsePrefix}
