@@ -12,7 +12,7 @@ use lib.Seq.{getD-drop, drop-drop}
 use borrow.Author.Tests.{eqb-true, eqb-false, le-ltb, lt-ltb}
 use Rattle.lex.specs.declared.utf8.Utf8State.{Utf8State}
 use Rattle.lex.specs.declared.utf8.Utf8State.the-variants.{Boundary, Expecting, Invalid}
-use Rattle.lex.specs.Bytes.{between, inSet, isPlain, differsFrom, countWhile}
+use Rattle.lex.specs.Bytes.{between, isPlain, differsFrom, countWhile}
 use Rattle.lex.specs.Utf8.{leastSecond, greatestSecond, afterLead, afterContinuation, nextState, isBoundary, stateAfter, utf8}
 use Rattle.lex.proofs.Bits.{below, from-low, to-high}
 use Rattle.lex.proofs.Laws.{cases, run-le, place-more, place-end}
@@ -186,17 +186,6 @@ lead-two b e =
 
 -- ---- a script, read from place to place: `isBoundary (stateAfter Boundary (drop i s))` stays what it is
 
--- behind the bytes in front that are ASCII
-ascii-run : (s : List ℕ) → stateAfter Boundary (drop (countWhile (inSet 2 0) s) s) ≡ stateAfter Boundary s
-unfolding countWhile inSet stateAfter nextState afterLead
-ascii-run [] = refl
-ascii-run (b ∷ bs) = go (ltb b 0x80) refl (ascii-run bs)
-  where
-    go : (t : Bool) → ltb b 0x80 ≡ t → stateAfter Boundary (drop (countWhile (inSet 2 0) bs) bs) ≡ stateAfter Boundary bs
-        → stateAfter Boundary (drop (countWhile (inSet 2 0) (b ∷ bs)) (b ∷ bs)) ≡ stateAfter Boundary (b ∷ bs)
-    go true e more = simp (e, countWhile) (more ∙ ap (λ (q : Utf8State). stateAfter q bs) (rw (e, afterLead)))
-    go false e more = simp (e, countWhile)
-
 -- plain bytes are whole characters
 plain-run : (except : ℕ) (s : List ℕ) → stateAfter Boundary (take (countWhile (isPlain except) s) s) ≡ Boundary
 unfolding countWhile isPlain stateAfter nextState afterLead
@@ -213,11 +202,12 @@ pub plain-utf8 : (except : ℕ) (s : List ℕ) (n : ℕ) → n ≡ countWhile (i
 unfolding utf8
 plain-utf8 except s n e = rw e (ap isBoundary (plain-run except s))
 
-pub ascii-front : (s : List ℕ) (n : ℕ) → n ≡ 0 + countWhile (inSet 2 0) (drop 0 s) → (n ≤ length s) × (isBoundary (stateAfter Boundary (drop n s)) ≡ utf8 s)
+pub plain-front : (except : ℕ) (s : List ℕ) (n : ℕ) → n ≡ 0 + countWhile (isPlain except) (drop 0 s) → (n ≤ length s) × (isBoundary (stateAfter Boundary (drop n s)) ≡ utf8 s)
 unfolding utf8
-ascii-front s n e =
-    let run : n ≡ countWhile (inSet 2 0) s = e ∙ zero-add _ in
-    (rw run (run-le (inSet 2 0) s), rw run (ap isBoundary (ascii-run s)))
+plain-front except s n e =
+    let run : n ≡ countWhile (isPlain except) s = e ∙ zero-add _ in
+    let whole : stateAfter Boundary (take n s) ≡ Boundary = rw run (plain-run except s) in
+    (rw run (run-le (isPlain except) s), ap isBoundary (sym (split Boundary n s ∙ ap (λ (q : Utf8State). stateAfter q (drop n s)) whole)))
 
 module _ (s : List ℕ) (i : ℕ) (t : Bool) (reached : isBoundary (stateAfter Boundary (drop i s)) ≡ t) (h : i < length s) where
   behind : isBoundary (stateAfter (afterLead (getD s i 0)) (drop (i + 1) s)) ≡ t

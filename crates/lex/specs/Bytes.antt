@@ -62,10 +62,7 @@ inSet set except b =
       | false ↦
           elim (eqb set 1) [
             | true ↦ isDigit b
-            | false ↦ elim (eqb set 2) [
-              | true ↦ ltb b 0x80
-              | false ↦ elim (eqb set 3) [ true ↦ isPlain except b | false ↦ differsFrom except b ]
-            ]
+            | false ↦ elim (eqb set 2) [ true ↦ isPlain except b | false ↦ differsFrom except b ]
           ]
     ]
 

@@ -23,11 +23,9 @@ impl ByteSet {
 
     pub(crate) const DIGIT: u8 = 1;
 
-    pub(crate) const ASCII: u8 = 2;
+    pub(crate) const PLAIN: u8 = 2; // those of ASCII but one, which is given
 
-    pub(crate) const PLAIN: u8 = 3; // those of ASCII but one, which is given
-
-    pub(crate) const EXCEPT: u8 = 4; // all bytes but one, which is given
+    pub(crate) const EXCEPT: u8 = 3; // all bytes but one, which is given
 }
 
 // Whether the byte is in the set.
@@ -37,7 +35,6 @@ fn in_set(set: u8, except: u8, b: u8) -> bool
     match set {
         ByteSet::IDENT_CONT => is_ident_cont(b),
         ByteSet::DIGIT => is_digit(b),
-        ByteSet::ASCII => b < 0x80,
         ByteSet::PLAIN => (b < 0x80) & (b != except),
         _ => b != except,
     }

@@ -117,7 +117,7 @@ fn completes(bytes: &[u8], at: usize, more: u8, low: u8, high: u8) -> bool
 pub fn is_utf8(bytes: &[u8]) -> bool
     ensures { λ r. ⌜ r ≡ utf8 (now (bytes .entry)) ⌝ }
 {
-    let mut i = skip_set(ByteSet::ASCII, 0, bytes, 0);
+    let mut i = skip_set(ByteSet::PLAIN, 0x80, bytes, 0);
     while i < bytes.len() {
         let b = bytes[i];
         if is_between(0xc2, 0xdf, b) {

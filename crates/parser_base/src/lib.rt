@@ -49,8 +49,6 @@ pub struct Parser {
 }
 
 impl Parser {
-    pub const MAX_BYTES: usize = 65536;
-
     pub const MAX_LEVELS: usize = 128;
 }
 

@@ -15,18 +15,14 @@ unfolding inSet
 returns-2 c = rw (c .before .match .keys2) (c .is-digit .ensures)
 
 returns-3 : tie.Need-returns-3
-unfolding inSet
+unfolding inSet isPlain differsFrom
 returns-3 c = rw (c .match .keys3)
 
 returns-4 : tie.Need-returns-4
-unfolding inSet isPlain differsFrom
-returns-4 c = rw (c .match .keys4)
-
-returns-5 : tie.Need-returns-5
 unfolding inSet differsFrom
-returns-5 c =
+returns-4 c =
     let others = c .match .rest in
-    rw (ne-eqb _ 0 (others .0 .0 .0 .1), ne-eqb _ 1 (others .0 .0 .1), ne-eqb _ 2 (others .0 .1), ne-eqb _ 3 (others .1), inSet)
+    rw (ne-eqb _ 0 (others .0 .0 .1), ne-eqb _ 1 (others .0 .1), ne-eqb _ 2 (others .1), inSet)
 
 pub in-set-spec : {M : Type 1} → statement M
-in-set-spec = tie.close (tie.spec (λ c κs. search needs) (λ c κs. search needs) returns returns-2 returns-3 returns-4 returns-5)
+in-set-spec = tie.close (tie.spec (λ c κs. search needs) (λ c κs. search needs) returns returns-2 returns-3 returns-4)

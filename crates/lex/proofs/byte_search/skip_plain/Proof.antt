@@ -18,7 +18,7 @@ abbrev μ-loop : tie.MeasureT-loop
 
 returns : tie.Need-returns Inv-loop μ-loop
 unfolding inSet
-returns c = run-all _ (inSet 3 _) (λ b. refl) _ _ (c .skip-set .ensures)
+returns c = run-all _ (inSet 2 _) (λ b. refl) _ _ (c .skip-set .ensures)
 
 returns-2 : tie.Need-returns-2 Inv-loop μ-loop
 unfolding inSet
@@ -36,7 +36,7 @@ returns-3 : tie.Need-returns-3 Inv-loop μ-loop
 unfolding inSet
 returns-3 c =
     let c5 = c .before .before .before .before .before in
-    run-rest (isPlain _) (c5 .args .haystack .now) _ _ (c .before .before .loop .inv .2) (inSet 3 _) (λ b. refl) _ (c .skip-set2 .ensures)
+    run-rest (isPlain _) (c5 .args .haystack .now) _ _ (c .before .before .loop .inv .2) (inSet 2 _) (λ b. refl) _ (c .skip-set2 .ensures)
 
 pub skip-plain-spec : {M : Type 1} → statement M
 skip-plain-spec =

@@ -6,9 +6,10 @@ use native.Mathlib.Omega.{arith}
 use lib.ListN.{length, drop}
 use borrow.Author.Needs.{needs}
 use borrow.Author.Tests.{not-true, not-false}
+use Rattle.lex.specs.Bytes.{inSet}
 use Rattle.lex.specs.Utf8.{stateAfter, isBoundary, utf8}
 use Rattle.lex.specs.declared.utf8.Utf8State.the-variants.{Boundary}
-use Rattle.lex.proofs.Characters.{ascii-front, lead-asks, lead-two, char-single, char-invalid, char-whole, char-cut, char-end}
+use Rattle.lex.proofs.Characters.{plain-front, lead-asks, lead-two, char-single, char-invalid, char-whole, char-cut, char-end}
 use Rattle.lex.proofs.utf8.is_utf8.Statement.{statement}
 use Rattle.lex.proofs.utf8.is_utf8.Tie as tie
 
@@ -19,7 +20,8 @@ abbrev μ-loop : tie.MeasureT-loop
 μ-loop bytes i₀ i = length bytes - i
 
 loop-holds : tie.Need-loop-holds Inv-loop μ-loop
-loop-holds c = ascii-front (c .before .before .args .bytes .now) _ (c .skip-set .ensures)
+unfolding inSet
+loop-holds c = plain-front 0x80 (c .before .before .args .bytes .now) _ (c .skip-set .ensures)
 
 completes-requires : tie.Need-completes-requires Inv-loop μ-loop
 completes-requires c κs = (omega arith, omega arith, omega arith)
