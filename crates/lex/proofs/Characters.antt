@@ -13,6 +13,7 @@ use borrow.Author.Tests.{eqb-true, eqb-false, le-ltb, lt-ltb}
 use Rattle.lex.specs.declared.utf8.Utf8State.{Utf8State}
 use Rattle.lex.specs.declared.utf8.Utf8State.the-variants.{Boundary, Expecting, Invalid}
 use Rattle.lex.specs.Bytes.{between, isPlain, differsFrom, countWhile}
+use Rattle.lex.specs.Lex.{leadingSpace}
 use Rattle.lex.specs.Utf8.{leastSecond, greatestSecond, afterLead, afterContinuation, nextState, isBoundary, stateAfter, utf8}
 use Rattle.lex.proofs.Bits.{below, from-low, to-high}
 use Rattle.lex.proofs.Laws.{cases, run-le, place-more, place-end}
@@ -201,6 +202,16 @@ plain-run except (b ∷ bs) = go (ltb b 0x80) refl (differsFrom except b) refl (
 pub plain-utf8 : (except : ℕ) (s : List ℕ) (n : ℕ) → n ≡ countWhile (isPlain except) s → utf8 (take n s) ≡ true
 unfolding utf8
 plain-utf8 except s n e = rw e (ap isBoundary (plain-run except s))
+
+-- a line is as well-formed without the space in front of it
+pub leading-utf8 : (line : List ℕ) → utf8 (drop (leadingSpace line) line) ≡ utf8 line
+unfolding utf8 leadingSpace stateAfter nextState afterLead
+leading-utf8 [] = refl
+leading-utf8 (b ∷ bs) = go (eqb b 32) refl
+  where
+    go : (t : Bool) → eqb b 32 ≡ t → isBoundary (stateAfter Boundary (drop (elim t as (λ (_ : Bool). ℕ) [ true ↦ 1 | false ↦ 0 ]) (b ∷ bs))) ≡ isBoundary (stateAfter Boundary (b ∷ bs))
+    go true e = rw (eqb-true b 32 e)
+    go false e = refl
 
 pub plain-front : (except : ℕ) (s : List ℕ) (n : ℕ) → n ≡ 0 + countWhile (isPlain except) (drop 0 s) → (n ≤ length s) × (isBoundary (stateAfter Boundary (drop n s)) ≡ utf8 s)
 unfolding utf8

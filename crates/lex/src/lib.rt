@@ -141,10 +141,18 @@ fn leading_space(line: &[u8]) -> usize
     if peek(line, 0) == b' ' { 1 } else { 0 }
 }
 
-// A doc, of which `rest` is what follows `#!`.
+// A doc, of which `rest` is what follows `#!`. Most are of ASCII and are read in one pass, as strings are.
 fn doc(rest: &[u8]) -> Piece
     ensures { λ r. ⌜ r ≡ docOf (now (rest .entry)) ⌝ }
 {
+    let plain = skip_plain(b'\n', rest);
+    if peek(rest, plain) == b'\n' {
+        return Piece::Token {
+            kind: Type::DOC,
+            len: plain - leading_space(&rest[..plain]),
+            taken: plain + 2,
+        };
+    }
     let n = line_end(rest);
     let line = &rest[..n];
     let space = leading_space(line);
