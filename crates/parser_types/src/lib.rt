@@ -30,7 +30,7 @@ use rules::TypeExprId;
 ghost use mathlib.Core.Path.{_≡_};
 ghost use mathlib.Core.List.{List, [], _∷_, _++_};
 ghost use Prim.Native.Nat.{ℕ, _+_, _≤_, _<_};
-ghost use Rattle.lex.specs.Kind.{kGreaterThan, kCurlyRight};
+ghost use Rattle.lex.specs.Kind.{kCurlyRight};
 ghost use Rattle.rules.specs.Combinators.{listUntil, tokenCells, runCells};
 ghost use Rattle.rules.specs.Rules.{openAngle, atomType, foreignType, optionType, arrayType, recordType, typedName, suppliedVoid, fnReturn, externReturn, parseArgs, importPath, bracketedPaths, onePath, importPaths, parseImport, externFn, parseExtern, externName};
 ghost use Rattle.parser_base.specs.Represents.{parserOf, code, lowToken};

@@ -1,6 +1,5 @@
 -- `member` meets its contract.
 use borrow.Author.Needs.{needs}
-use native.Mathlib.Omega.{arith}
 use Prim.Native.Nat.{ℕ}
 use Rattle.parser_items.proofs.member.Reads as member
 use Rattle.parser_leaves.proofs.begins_expr.Reads as begins-expr-reads
