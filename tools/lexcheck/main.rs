@@ -289,6 +289,29 @@ fn lexer(count: u64, random: &mut Random) -> u64 {
     short.done() + drawn.done()
 }
 
+/// Names, numbers, strings, docs, comments and blanks of up to 40 bytes with another byte or character at each place, and with each kind of end:
+/// runs are told by 8 bytes and by windows of 16, so that every place in a window is met.
+fn runs() -> u64 {
+    let mut runs = Count::new("lexer, runs with one other byte");
+    let others: [&[u8]; 16] = [
+        b"", b"a", b"_", b"0", b".", b" ", b"\t", b"\n", b"#", b"#!", b"\"", b"$", b"\x80", b"\xff", b"\xc3\xa9", b"\xe2\x82\xac",
+    ];
+    let ends: [&[u8]; 5] = [b"", b"\"", b"\n", b" b \"\n#                ", b"\" \n\"                "];
+    for (open, fill) in [("", "a"), ("", "1"), ("1.", "2"), ("1.2.", "3"), ("\"", "a"), ("\"", "\u{e9}"), ("#!", "a"), ("#! ", "\u{20ac}"), ("#", "a"), ("", " ")] {
+        for n in 0..=40 {
+            for at in 0..=n {
+                for (other, end) in others.iter().flat_map(|o| ends.iter().map(move |e| (o, e))) {
+                    let script = [open.as_bytes(), fill.repeat(at).as_bytes(), other, fill.repeat(n - at).as_bytes(), end].concat();
+                    let mut seen = 0;
+                    runs.case(same_cut(&script, &mut seen), &script);
+                    runs.seen += seen;
+                }
+            }
+        }
+    }
+    runs.done()
+}
+
 /// What `lex_spelling` should answer of any token, in numbers that do not wrap.
 fn any_spelling(script: &[u8], kind: u32, start: usize, len: usize) -> Option<u64> {
     let offset = match kind {
@@ -336,7 +359,7 @@ fn main() {
     let words: Vec<u64> = std::env::args().skip(1).map(|w| w.parse().expect("a number")).collect();
     let count = words.first().copied().unwrap_or(4_000_000);
     let mut random = Random(words.get(1).copied().unwrap_or(1).wrapping_mul(0x9e37_79b9_7f4a_7c15) | 1);
-    let differ = utf8() + short_buffers() + any_token(count, &mut random) + lexer(count, &mut random);
+    let differ = utf8() + short_buffers() + any_token(count, &mut random) + runs() + lexer(count, &mut random);
     println!("{differ} differences");
     std::process::exit((differ > 0) as i32);
 }

@@ -1,8 +1,8 @@
 // Spans of tokens; the line and column of a position.
-use crate::lookup::MAX_BYTES;
 use crate::lookup::well_formed;
 use lex::Token;
 use lex::Type;
+use rules::Parsed;
 ghost use mathlib.Core.Path.{_≡_};
 ghost use mathlib.Core.Bool.{true};
 ghost use Prim.Native.Nat.{_≤_};
@@ -26,7 +26,7 @@ impl Span {
     pub fn from_token(script: &[u8], t: Token) -> SpanRead
         ensures { λ r. ⌜ spanAnswer r ≡ tokenSpan (now (script .entry)) t ⌝ }
     {
-        if MAX_BYTES < script.len() {
+        if Parsed::MAX_BYTES < script.len() {
             return SpanRead::Refused(1);
         }
         if well_formed(script, t) {
@@ -105,7 +105,7 @@ fn place_after(before: &[u8]) -> Place
 pub fn line_column(script: &[u8], at: u32) -> Position
     ensures { λ r. ⌜ positionAnswer r ≡ placeAt (now (script .entry)) at ⌝ }
 {
-    if MAX_BYTES < script.len() {
+    if Parsed::MAX_BYTES < script.len() {
         return Position::Refused(1);
     }
     let n = at as usize;

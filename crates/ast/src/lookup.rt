@@ -9,6 +9,7 @@ use lex::spelling;
 use rules::Counts;
 use rules::Node;
 use rules::NodeId;
+use rules::Parsed;
 use rules::Run;
 use rules::TypeExpr;
 use rules::TypeExprId;
@@ -41,9 +42,6 @@ enum Step {
 // One more than any start.
 const NOTHING: u64 = 4294967296;
 
-// A script has at most so many bytes.
-pub(crate) const MAX_BYTES: usize = 65536;
-
 // The kind is known, and a spelling from the script lies in it. A known kind has one of these, or a fixed one.
 pub(crate) fn well_formed(script: &[u8], t: Token) -> bool
     ensures { λ r. ⌜ r ≡ wellFormed (now (script .entry)) t ⌝ }
@@ -66,7 +64,7 @@ pub fn refusal(
     ensures { λ r. ⌜ r ≡ refusalOf (lent (now (script .entry)) (now (nodes .entry)) (now (types .entry)) (now (lists .entry)) (now (roots .entry)) counts) ⌝ }
 {
     let n = script.len();
-    if MAX_BYTES < n {
+    if Parsed::MAX_BYTES < n {
         return 1;
     }
     if nodes.len() < Node::WIDTH * n {

@@ -36,6 +36,11 @@ unfolding between
 from-low low high b =
     cases (λ (t : Bool). t ≡ true → low ≤ b) (leb low b) (λ e f. leb-true low b e) (λ e f. let z : _≡_ {A = ℕ} 0 1 = cc in absurd (omega arith))
 
+pub to-high : (low high b : ℕ) → between low high b ≡ true → b ≤ high
+unfolding between
+to-high low high b =
+    cases (λ (t : Bool). t ≡ true → b ≤ high) (leb low b) (λ e f. leb-true b high f) (λ e f. let z : _≡_ {A = ℕ} 0 1 = cc in absurd (omega arith))
+
 -- ---- a number that is no byte
 
 module _ (b : ℕ) (h : 256 ≤ b) where

@@ -9,12 +9,13 @@ use native.Mathlib.Omega.{arith}
 use lib.Dec.{leb, ltb, eqb}
 use lib.ListN.{length, getD, take, drop}
 use lib.Seq.{getD-drop, drop-drop}
-use borrow.Author.Tests.{eqb-true, eqb-false}
+use borrow.Author.Tests.{eqb-true, eqb-false, le-ltb, lt-ltb}
 use Rattle.lex.specs.declared.utf8.Utf8State.{Utf8State}
 use Rattle.lex.specs.declared.utf8.Utf8State.the-variants.{Boundary, Expecting, Invalid}
-use Rattle.lex.specs.Bytes.{between, inSet, countWhile}
+use Rattle.lex.specs.Bytes.{between, isPlain, differsFrom, countWhile}
+use Rattle.lex.specs.Lex.{leadingSpace}
 use Rattle.lex.specs.Utf8.{leastSecond, greatestSecond, afterLead, afterContinuation, nextState, isBoundary, stateAfter, utf8}
-use Rattle.lex.proofs.Bits.{below}
+use Rattle.lex.proofs.Bits.{below, from-low, to-high}
 use Rattle.lex.proofs.Laws.{cases, run-le, place-more, place-end}
 
 -- ---- one byte
@@ -176,24 +177,48 @@ lead-asks b m l h =
     (λ t. cases P (ltb b 0xf0) (λ t e. some 2 (leastSecond b) (greatestSecond b) m l h (omega arith) (omega arith) (least-pos b) e)
     (λ t. cases P (ltb b 0xf5) (λ t e. some 3 (leastSecond b) (greatestSecond b) m l h (omega arith) (omega arith) (least-pos b) e) (λ t. never)))))
 
+-- those of two bytes
+pub lead-two : (b : ℕ) → between 0xc2 0xdf b ≡ true → afterLead b ≡ Expecting 1 0x80 0xbf
+unfolding afterLead
+lead-two b e =
+    let low = from-low 0xc2 0xdf b e in
+    let high = to-high 0xc2 0xdf b e in
+    rw (le-ltb b 0x80 (omega arith), le-ltb b 0xc2 low, lt-ltb b 0xe0 (omega arith), afterLead)
+
 -- ---- a script, read from place to place: `isBoundary (stateAfter Boundary (drop i s))` stays what it is
 
--- behind the bytes in front that are ASCII
-ascii-run : (s : List ℕ) → stateAfter Boundary (drop (countWhile (inSet 2 0) s) s) ≡ stateAfter Boundary s
-unfolding countWhile inSet stateAfter nextState afterLead
-ascii-run [] = refl
-ascii-run (b ∷ bs) = go (ltb b 0x80) refl (ascii-run bs)
+-- plain bytes are whole characters
+plain-run : (except : ℕ) (s : List ℕ) → stateAfter Boundary (take (countWhile (isPlain except) s) s) ≡ Boundary
+unfolding countWhile isPlain stateAfter nextState afterLead
+plain-run except [] = refl
+plain-run except (b ∷ bs) = go (ltb b 0x80) refl (differsFrom except b) refl (plain-run except bs)
   where
-    go : (t : Bool) → ltb b 0x80 ≡ t → stateAfter Boundary (drop (countWhile (inSet 2 0) bs) bs) ≡ stateAfter Boundary bs
-        → stateAfter Boundary (drop (countWhile (inSet 2 0) (b ∷ bs)) (b ∷ bs)) ≡ stateAfter Boundary (b ∷ bs)
-    go true e more = simp (e, countWhile) (more ∙ ap (λ (q : Utf8State). stateAfter q bs) (rw (e, afterLead)))
-    go false e more = simp (e, countWhile)
+    go : (t : Bool) → ltb b 0x80 ≡ t → (u : Bool) → differsFrom except b ≡ u → stateAfter Boundary (take (countWhile (isPlain except) bs) bs) ≡ Boundary
+        → stateAfter Boundary (take (countWhile (isPlain except) (b ∷ bs)) (b ∷ bs)) ≡ Boundary
+    go true e true f h = simp (e, f, isPlain, countWhile) (rw (e, afterLead) h)
+    go true e false f h = simp (e, f, isPlain, countWhile)
+    go false e u f h = simp (e, isPlain, countWhile)
 
-pub ascii-front : (s : List ℕ) (n : ℕ) → n ≡ 0 + countWhile (inSet 2 0) (drop 0 s) → (n ≤ length s) × (isBoundary (stateAfter Boundary (drop n s)) ≡ utf8 s)
+pub plain-utf8 : (except : ℕ) (s : List ℕ) (n : ℕ) → n ≡ countWhile (isPlain except) s → utf8 (take n s) ≡ true
 unfolding utf8
-ascii-front s n e =
-    let run : n ≡ countWhile (inSet 2 0) s = e ∙ zero-add _ in
-    (rw run (run-le (inSet 2 0) s), rw run (ap isBoundary (ascii-run s)))
+plain-utf8 except s n e = rw e (ap isBoundary (plain-run except s))
+
+-- a line is as well-formed without the space in front of it
+pub leading-utf8 : (line : List ℕ) → utf8 (drop (leadingSpace line) line) ≡ utf8 line
+unfolding utf8 leadingSpace stateAfter nextState afterLead
+leading-utf8 [] = refl
+leading-utf8 (b ∷ bs) = go (eqb b 32) refl
+  where
+    go : (t : Bool) → eqb b 32 ≡ t → isBoundary (stateAfter Boundary (drop (elim t as (λ (_ : Bool). ℕ) [ true ↦ 1 | false ↦ 0 ]) (b ∷ bs))) ≡ isBoundary (stateAfter Boundary (b ∷ bs))
+    go true e = rw (eqb-true b 32 e)
+    go false e = refl
+
+pub plain-front : (except : ℕ) (s : List ℕ) (n : ℕ) → n ≡ 0 + countWhile (isPlain except) (drop 0 s) → (n ≤ length s) × (isBoundary (stateAfter Boundary (drop n s)) ≡ utf8 s)
+unfolding utf8
+plain-front except s n e =
+    let run : n ≡ countWhile (isPlain except) s = e ∙ zero-add _ in
+    let whole : stateAfter Boundary (take n s) ≡ Boundary = rw run (plain-run except s) in
+    (rw run (run-le (isPlain except) s), ap isBoundary (sym (split Boundary n s ∙ ap (λ (q : Utf8State). stateAfter q (drop n s)) whole)))
 
 module _ (s : List ℕ) (i : ℕ) (t : Bool) (reached : isBoundary (stateAfter Boundary (drop i s)) ≡ t) (h : i < length s) where
   behind : isBoundary (stateAfter (afterLead (getD s i 0)) (drop (i + 1) s)) ≡ t

@@ -1,7 +1,7 @@
 -- Laws on tables, lists and runs that the functions' proofs cite.
 -- Assumes nothing.
 use mathlib.Core.Path.{_≡_, refl, _∙_, sym, ap}
-use mathlib.Core.Bool.{Bool, true, false, _&&_}
+use mathlib.Core.Bool.{Bool, true, false, not, _&&_}
 use mathlib.Core.List.{List, [], _∷_}
 use Prim.Native.Nat.{ℕ, zero, suc, _+_, _<_, _≤_, zero-le, suc-le-suc}
 use native.Mathlib.Nat.{add-zero, zero-add, le-of-suc-le-suc, not-suc-le-zero}
@@ -14,7 +14,7 @@ use borrow.Author.Tests.{lt-ltb, le-ltb, ltb-true, leb-true, eq-eqb, ne-eqb, eqb
 use Rattle.lex.specs.declared.byte_search.Found.{Found}
 use Rattle.lex.specs.declared.byte_search.Found.the-variants.{At, Nothing}
 use Rattle.lex.specs.declared.utf8.Utf8State.{Utf8State}
-use Rattle.lex.specs.Bytes.{countWhile, differsFrom, before, findByte}
+use Rattle.lex.specs.Bytes.{countWhile, differsFrom, isPlain, before, findByte}
 use Rattle.lex.specs.Kind.{Keyword, kIdent, sameBytes, nameKind}
 use Rattle.lex.specs.Utf8.{nextState, stateAfter}
 use Rattle.lex.specs.Lex.{leadingSpace}
@@ -81,6 +81,10 @@ module _ (p : ℕ → Bool) (s : List ℕ) (i n : ℕ) (scanned : i + countWhile
   pub run-rest : (q : ℕ → Bool) → ((b : ℕ) → q b ≡ p b) → (r : ℕ) → r ≡ i + countWhile q (drop i s) → r ≡ n
   run-rest q same r e = omega (arith, run-agree q p same (drop i s))
 
+-- a run that is scanned from the front on
+pub run-all : (p q : ℕ → Bool) → ((b : ℕ) → q b ≡ p b) → (s : List ℕ) (r : ℕ) → r ≡ 0 + countWhile q (drop 0 s) → r ≡ countWhile p s
+run-all p q same s r e = e ∙ zero-add _ ∙ run-agree q p same s
+
 pub run-pos : (p : ℕ → Bool) (s : List ℕ) → 0 < length s → p (getD s 0 0) ≡ true → 0 < countWhile p s
 unfolding countWhile
 run-pos p [] h e = absurd (not-suc-le-zero h)
@@ -90,6 +94,9 @@ pub run-le : (p : ℕ → Bool) (s : List ℕ) → countWhile p s ≤ length s
 unfolding countWhile
 run-le p [] = zero-le
 run-le p (b ∷ bs) = cases (λ (n : ℕ). n ≤ suc (length bs)) (p b) (λ e. suc-le-suc (run-le p bs)) (λ e. zero-le)
+
+pub run-fits : (p : ℕ → Bool) (s : List ℕ) (a k : ℕ) → a ≤ length s → k ≡ countWhile p (drop a s) → a + k ≤ length s
+run-fits p s a k h e = omega (arith, run-le p (drop a s), length-drop a s)
 
 -- ---- a run, scanned by windows
 
@@ -148,6 +155,14 @@ run-split p q weaker (b ∷ bs) = go (p b) refl (run-split p q weaker bs)
     go true e h = simp (e, weaker b e, countWhile) (omega arith)
     go false e h = simp (e, countWhile) (zero-add _)
 
+plain-differs : (b x : ℕ) → isPlain b x ≡ true → differsFrom b x ≡ true
+unfolding isPlain
+plain-differs b x = go (ltb x 0x80)
+  where
+    go : (t : Bool) → t && differsFrom b x ≡ true → differsFrom b x ≡ true
+    go true e = e
+    go false e = false-true e
+
 -- ---- what `findByte` answers, by where the first `b` stands
 
 module _ (b : ℕ) (s : List ℕ) (i : ℕ) where
@@ -181,6 +196,12 @@ pub nonzero-inside : (s : List ℕ) (i : ℕ) → 0 < getD s i 0 → i < length 
 nonzero-inside [] i h = absurd (omega arith)
 nonzero-inside (x ∷ xs) zero h = omega arith
 nonzero-inside (x ∷ xs) (suc i) h = suc-le-suc (nonzero-inside xs i h)
+
+-- behind plain bytes it is the first of its kind
+pub plain-before : (b : ℕ) (s : List ℕ) (n : ℕ) → n ≡ countWhile (isPlain b) s → getD s n 0 ≡ b → 0 < b → n ≡ before b s
+unfolding before isPlain differsFrom
+plain-before b s n e f h =
+    run-stop (differsFrom b) s n _ (rw e (run-split (isPlain b) (differsFrom b) (λ x. plain-differs b x) s)) (nonzero-inside s n (omega arith)) (rw f (ap not (eq-eqb b b refl)))
 
 -- ---- UTF-8, read one byte at a time
 

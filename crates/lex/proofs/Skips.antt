@@ -4,6 +4,7 @@ use mathlib.Core.Path.{_≡_, refl, _∙_, sym, ap}
 use mathlib.Core.Bool.{Bool, true, false}
 use mathlib.Core.List.{List, [], _∷_}
 use Prim.Native.Nat.{ℕ, suc, _+_, _<_, _≤_}
+use native.Mathlib.Nat.{zero-add}
 use native.Mathlib.Numerals.{add-one}
 use native.Mathlib.Omega.{arith}
 use lib.Dec.{eqb}
@@ -43,6 +44,17 @@ comment (b ∷ bs) = go (eqb b 10) refl (comment bs)
     go true q h = rw (eqb-true b 10 q) (omega arith)
     go false q h = simp (q, skipped, countWhile, differsFrom) (omega arith)
 
+-- spaces are blanks
+spaces : (bs : List ℕ) → countWhile (eqb 32) bs + skipped false (drop (countWhile (eqb 32) bs) bs) ≡ skipped false bs
+unfolding skipped countWhile
+spaces [] = refl
+spaces (b ∷ bs) = go (eqb 32 b) refl (spaces bs)
+  where
+    go : (t : Bool) → eqb 32 b ≡ t → countWhile (eqb 32) bs + skipped false (drop (countWhile (eqb 32) bs) bs) ≡ skipped false bs
+        → countWhile (eqb 32) (b ∷ bs) + skipped false (drop (countWhile (eqb 32) (b ∷ bs)) (b ∷ bs)) ≡ skipped false (b ∷ bs)
+    go true q h = simp (q, space-separates b (sym (eqb-true 32 b q)), skipped, countWhile) (omega arith)
+    go false q h = simp (q, countWhile) (zero-add _)
+
 hash : (b next : ℕ) → beginsComment b next ≡ true → b ≡ 35
 unfolding beginsComment
 hash b next =
@@ -64,6 +76,9 @@ module _ (s : List ℕ) (i n : ℕ) (scanned : i + skipped false (drop i s) ≡ 
   pub skip-end : length s ≤ i → i ≡ n
   unfolding skipped
   skip-end h = omega (arith, rw (drop-of-length-le s h) at scanned)
+
+  pub skip-spaces : (k : ℕ) → k ≡ i + countWhile (eqb 32) (drop i s) → k + skipped false (drop k s) ≡ n
+  skip-spaces k e = rw (e, ← drop-drop (countWhile (eqb 32) (drop i s)) i s) (omega (arith, spaces (drop i s)))
 
   module _ (h : i < length s) where
     pub skip-blank : isWs (getD s i 0) ≡ true → i + 1 + skipped false (drop (i + 1) s) ≡ n

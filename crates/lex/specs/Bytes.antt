@@ -1,5 +1,5 @@
 -- The classes of bytes, runs of bytes, and the first place of a byte.
-use mathlib.Core.Bool.{Bool, true, false, not}
+use mathlib.Core.Bool.{Bool, true, false, not, _&&_}
 use mathlib.Core.List.{List, [], _∷_}
 use Prim.Native.Nat.{ℕ, suc, _+_}
 use lib.Dec.{leb, ltb, eqb}
@@ -50,6 +50,10 @@ countWhile p (b ∷ bs) = elim (p b) [ true ↦ suc (countWhile p bs) | false �
 unfoldable pub differsFrom : ℕ → ℕ → Bool
 differsFrom b x = not (eqb x b)
 
+-- a byte of ASCII other than `except`
+unfoldable pub isPlain : ℕ → ℕ → Bool
+isPlain except b = ltb b 0x80 && differsFrom except b
+
 -- the sets of bytes that scans pass over, by number; the last one has all bytes but `except`
 unfoldable pub inSet : ℕ → ℕ → ℕ → Bool
 inSet set except b =
@@ -58,7 +62,7 @@ inSet set except b =
       | false ↦
           elim (eqb set 1) [
             | true ↦ isDigit b
-            | false ↦ elim (eqb set 2) [ true ↦ ltb b 0x80 | false ↦ differsFrom except b ]
+            | false ↦ elim (eqb set 2) [ true ↦ isPlain except b | false ↦ differsFrom except b ]
           ]
     ]
 

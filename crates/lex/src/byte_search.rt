@@ -5,9 +5,9 @@ use crate::class::is_letter;
 use crate::class::is_num_cont;
 ghost use mathlib.Core.Path.{_≡_};
 ghost use Prim.Native.Nat.{_+_, _≤_};
-ghost use lib.Dec.{leb};
+ghost use lib.Dec.{leb, eqb};
 ghost use lib.ListN.{length, getD, drop};
-ghost use Rattle.lex.specs.Bytes.{isDigit, isIdentCont, isNumCont, inSet, countWhile, before, findByte};
+ghost use Rattle.lex.specs.Bytes.{isDigit, isIdentCont, isNumCont, isPlain, inSet, countWhile, before, findByte};
 
 // What a search found.
 pub enum Found {
@@ -23,7 +23,7 @@ impl ByteSet {
 
     pub(crate) const DIGIT: u8 = 1;
 
-    pub(crate) const ASCII: u8 = 2;
+    pub(crate) const PLAIN: u8 = 2; // those of ASCII but one, which is given
 
     pub(crate) const EXCEPT: u8 = 3; // all bytes but one, which is given
 }
@@ -35,7 +35,7 @@ fn in_set(set: u8, except: u8, b: u8) -> bool
     match set {
         ByteSet::IDENT_CONT => is_ident_cont(b),
         ByteSet::DIGIT => is_digit(b),
-        ByteSet::ASCII => b < 0x80,
+        ByteSet::PLAIN => (b < 0x80) & (b != except),
         _ => b != except,
     }
 }
@@ -75,28 +75,25 @@ pub(crate) fn skip_set(set: u8, except: u8, bytes: &[u8], from: usize) -> usize
     i
 }
 
-// How many bytes stand before the first `needle`. Here and below the first 8 bytes are told one by one: most runs end there.
-fn skip_until(needle: u8, haystack: &[u8]) -> usize
-    ensures { λ r. ⌜ r ≡ before needle (now (haystack .entry)) ⌝ }
+// The position after the bytes from `from` on that are `b`.
+pub(crate) fn skip_byte(b: u8, bytes: &[u8], from: usize) -> usize
+    ensures { λ r. ⌜ r ≡ from + countWhile (eqb b) (drop from (now (bytes .entry))) ⌝ }
 {
-    let mut i = 0;
-    while i < 8 {
-        if haystack.len() <= i {
-            return i;
-        }
-        if haystack[i] == needle {
+    let mut i = from;
+    while i < bytes.len() {
+        if bytes[i] != b {
             return i;
         }
         i += 1;
     }
-    skip_set(ByteSet::EXCEPT, needle, haystack, i)
+    i
 }
 
 // The first place of `needle`.
 pub(crate) fn find_byte(needle: u8, haystack: &[u8]) -> Found
     ensures { λ r. ⌜ r ≡ findByte needle (now (haystack .entry)) ⌝ }
 {
-    let i = skip_until(needle, haystack);
+    let i = skip_set(ByteSet::EXCEPT, needle, haystack, 0);
     if i < haystack.len() {
         Found::At(i)
     } else {
@@ -108,18 +105,18 @@ pub(crate) fn find_byte(needle: u8, haystack: &[u8]) -> Found
 pub(crate) fn line_end(haystack: &[u8]) -> usize
     ensures { λ r. ⌜ r ≡ before 10 (now (haystack .entry)) ⌝ }
 {
-    skip_until(b'\n', haystack)
+    skip_set(ByteSet::EXCEPT, b'\n', haystack, 0)
 }
 
-// How many bytes in front are digits.
+// How many bytes in front are digits. Here and below the first 8 bytes are told one by one: most runs end there.
 pub(crate) fn skip_digits(haystack: &[u8]) -> usize
     ensures { λ r. ⌜ r ≡ countWhile isDigit (now (haystack .entry)) ⌝ }
 {
+    if haystack.len() < 8 {
+        return skip_set(ByteSet::DIGIT, 0, haystack, 0);
+    }
     let mut i = 0;
     while i < 8 {
-        if haystack.len() <= i {
-            return i;
-        }
         if !is_digit(haystack[i]) {
             return i;
         }
@@ -132,11 +129,11 @@ pub(crate) fn skip_digits(haystack: &[u8]) -> usize
 pub(crate) fn skip_ident_cont(haystack: &[u8]) -> usize
     ensures { λ r. ⌜ r ≡ countWhile isIdentCont (now (haystack .entry)) ⌝ }
 {
+    if haystack.len() < 8 {
+        return skip_set(ByteSet::IDENT_CONT, 0, haystack, 0);
+    }
     let mut i = 0;
     while i < 8 {
-        if haystack.len() <= i {
-            return i;
-        }
         if !is_letter(haystack[i]) {
             if !is_ident_cont(haystack[i]) {
                 return i;
@@ -145,6 +142,23 @@ pub(crate) fn skip_ident_cont(haystack: &[u8]) -> usize
         i += 1;
     }
     skip_set(ByteSet::IDENT_CONT, 0, haystack, i)
+}
+
+// How many bytes in front are of ASCII and not `needle`.
+pub(crate) fn skip_plain(needle: u8, haystack: &[u8]) -> usize
+    ensures { λ r. ⌜ r ≡ countWhile (isPlain needle) (now (haystack .entry)) ⌝ }
+{
+    if haystack.len() < 8 {
+        return skip_set(ByteSet::PLAIN, needle, haystack, 0);
+    }
+    let mut i = 0;
+    while i < 8 {
+        if !in_set(ByteSet::PLAIN, needle, haystack[i]) {
+            return i;
+        }
+        i += 1;
+    }
+    skip_set(ByteSet::PLAIN, needle, haystack, i)
 }
 
 // How many bytes in front can continue a number.

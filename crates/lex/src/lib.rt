@@ -9,9 +9,11 @@ pub use byte_search::Found;
 use byte_search::find_byte;
 use byte_search::line_end;
 use byte_search::peek;
+use byte_search::skip_byte;
 use byte_search::skip_digits;
 use byte_search::skip_ident_cont;
 use byte_search::skip_num_cont;
+use byte_search::skip_plain;
 use class::is_digit;
 use class::is_ident_start;
 use class::is_ws;
@@ -30,6 +32,7 @@ ghost use mathlib.Core.Bool.{false};
 ghost use Prim.Native.Nat.{_+_, _<_, _≤_};
 ghost use lib.ListN.{length, getD, drop};
 ghost use Rattle.lex.specs.declared.tok.Piece.{Piece};
+ghost use Rattle.lex.specs.Bytes.{isNumCont, countWhile};
 ghost use Rattle.lex.specs.Kind.{punctuatorKind};
 ghost use Rattle.lex.specs.Lex.{beginsComment, skipped, punctuation as punctuationOf, leadingSpace, doc as docOf, string as stringOf, doubleIn, number as numberOf, name as nameOf, symbol as symbolOf, piece as pieceOf, stepAt, nextAt, isPrefixSign};
 
@@ -71,7 +74,7 @@ fn skip_separators(script: &[u8], pos: usize) -> usize
     while p < script.len() {
         let b = script[p];
         if is_ws(b) {
-            p += 1;
+            p = skip_byte(b' ', script, p + 1);
         } else if begins_comment(b, peek(script, p + 1)) {
             p += line_end(&script[p..]);
         } else {
@@ -138,10 +141,18 @@ fn leading_space(line: &[u8]) -> usize
     if peek(line, 0) == b' ' { 1 } else { 0 }
 }
 
-// A doc, of which `rest` is what follows `#!`.
+// A doc, of which `rest` is what follows `#!`. Most are of ASCII and are read in one pass, as strings are.
 fn doc(rest: &[u8]) -> Piece
     ensures { λ r. ⌜ r ≡ docOf (now (rest .entry)) ⌝ }
 {
+    let plain = skip_plain(b'\n', rest);
+    if peek(rest, plain) == b'\n' {
+        return Piece::Token {
+            kind: Type::DOC,
+            len: plain - leading_space(&rest[..plain]),
+            taken: plain + 2,
+        };
+    }
     let n = line_end(rest);
     let line = &rest[..n];
     let space = leading_space(line);
@@ -161,10 +172,18 @@ fn doc(rest: &[u8]) -> Piece
     }
 }
 
-// A string, of which `rest` is what follows the quote.
+// A string, of which `rest` is what follows the quote. Most are of ASCII and are read in one pass.
 fn string(rest: &[u8]) -> Piece
     ensures { λ r. ⌜ r ≡ stringOf (now (rest .entry)) ⌝ }
 {
+    let plain = skip_plain(b'"', rest);
+    if peek(rest, plain) == b'"' {
+        return Piece::Token {
+            kind: Type::S,
+            len: plain,
+            taken: plain + 2,
+        };
+    }
     let Found::At(n) = find_byte(b'"', rest) else {
         let line = line_end(rest) + 1;
         return Piece::Fault {
@@ -190,19 +209,19 @@ fn string(rest: &[u8]) -> Piece
     }
 }
 
-// A number with a dot before `from`, in a run of `n` digits and dots.
-fn double(rest: &[u8], n: usize, from: usize) -> Piece
-    requires { ⌜ (from ≤ n) × (n ≤ length (now rest)) ⌝ }
-    ensures { λ r. ⌜ r ≡ doubleIn n from (now (rest .entry)) ⌝ }
+// A number with a dot before `from`: digits; a second dot ends it where a name follows, and else is a fault over the whole run of digits and dots.
+fn double(rest: &[u8], from: usize) -> Piece
+    requires { ⌜ from ≤ length (now rest) ⌝ }
+    ensures { λ r. ⌜ r ≡ doubleIn (from + countWhile isNumCont (drop from (now (rest .entry)))) from (now (rest .entry)) ⌝ }
 {
-    let Found::At(more) = find_byte(b'.', &rest[from..n]) else {
+    let second = from + skip_digits(&rest[from..]);
+    if peek(rest, second) != b'.' {
         return Piece::Token {
             kind: Type::D,
-            len: n,
-            taken: n,
+            len: second,
+            taken: second,
         };
-    };
-    let second = from + more;
+    }
     if is_ident_start(peek(rest, second + 1)) {
         return Piece::Token {
             kind: Type::D,
@@ -210,6 +229,7 @@ fn double(rest: &[u8], n: usize, from: usize) -> Piece
             taken: second,
         };
     }
+    let n = second + skip_num_cont(&rest[second..]);
     Piece::Fault {
         number: 34,
         len: n,
@@ -237,9 +257,7 @@ fn number(rest: &[u8]) -> Piece
             taken: first,
         };
     }
-    // One dot is answered without the table, which is written onto the stack at each use.
-    let n = first + skip_num_cont(&rest[first..]);
-    double(rest, n, first + 1)
+    double(rest, first + 1)
 }
 
 // A name or a keyword.

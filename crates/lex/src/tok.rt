@@ -143,6 +143,58 @@ impl Type {
 
     pub const RECORD: u32 = 43;
 
+    // The names of the kinds, one after the other.
+    pub const NAMES: [u8; 245] =
+        *b"EofBraceLeftBraceRightPlusMinusAsteriksSlashPercentEqualDoubleEqualLessThanGreaterThanExclaimNotEqualQuestionColonDotBraketLeftBraketRightCurlyLeftCurlyRightSDIIdentDocImportExternLetFnMatchAsTrueFalseStrIntDoubleBoolVoidOptionArrayForeignRecord";
+
+    // Where each kind's name ends; the first begins at 0.
+    pub const NAME_ENDS: [usize; 44] = [
+        0,
+        3,
+        12,
+        22,
+        26,
+        31,
+        39,
+        44,
+        51,
+        56,
+        67,
+        75,
+        86,
+        93,
+        101,
+        109,
+        114,
+        117,
+        127,
+        138,
+        147,
+        157,
+        158,
+        159,
+        160,
+        165,
+        168,
+        174,
+        180,
+        183,
+        185,
+        190,
+        192,
+        196,
+        201,
+        204,
+        207,
+        213,
+        217,
+        221,
+        227,
+        232,
+        239,
+        245,
+    ];
+
     // The kind of a name: its keyword's, or IDENT.
     pub fn from_keyword(name: &[u8]) -> u32
         ensures { λ r. ⌜ r ≡ nameKind keywords (now (name .entry)) ⌝ }

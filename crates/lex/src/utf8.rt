@@ -78,14 +78,14 @@ fn after_lead(b: u8) -> Utf8State
     Utf8State::Invalid
 }
 
-// Whether the byte can stand behind the second of a character.
-fn is_continuation(b: u8) -> bool
-    ensures { λ r. ⌜ r ≡ between 0x80 0xbf b ⌝ }
+// Whether the byte is from `low` to `high`.
+fn is_between(low: u8, high: u8, b: u8) -> bool
+    ensures { λ r. ⌜ r ≡ between low high b ⌝ }
 {
-    if b < 0x80 {
+    if b < low {
         return false;
     }
-    b <= 0xbf
+    b <= high
 }
 
 // Whether the bytes from `at` on complete a character of which `more` are to come, the first of them from `low` to `high`.
@@ -104,22 +104,30 @@ fn completes(bytes: &[u8], at: usize, more: u8, low: u8, high: u8) -> bool
     if more == 1 {
         return true;
     }
-    if !is_continuation(peek(bytes, at + 1)) {
+    if !is_between(0x80, 0xbf, peek(bytes, at + 1)) {
         return false;
     }
     if more == 2 {
         return true;
     }
-    is_continuation(peek(bytes, at + 2))
+    is_between(0x80, 0xbf, peek(bytes, at + 2))
 }
 
-// The bytes are whole characters: first those of one byte, as long as there is no other, then one character a turn.
+// The bytes are whole characters: first those of one byte, as long as there is no other, then one character a turn, those of two bytes before the others.
 pub fn is_utf8(bytes: &[u8]) -> bool
     ensures { λ r. ⌜ r ≡ utf8 (now (bytes .entry)) ⌝ }
 {
-    let mut i = skip_set(ByteSet::ASCII, 0, bytes, 0);
+    let mut i = skip_set(ByteSet::PLAIN, 0x80, bytes, 0);
     while i < bytes.len() {
-        match after_lead(bytes[i]) {
+        let b = bytes[i];
+        if is_between(0xc2, 0xdf, b) {
+            if !completes(bytes, i + 1, 1, 0x80, 0xbf) {
+                return false;
+            }
+            i += 2;
+            continue;
+        }
+        match after_lead(b) {
             Utf8State::Boundary => i += 1,
             Utf8State::Expecting { more, low, high } => {
                 if !completes(bytes, i + 1, more, low, high) {

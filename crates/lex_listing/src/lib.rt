@@ -5,58 +5,6 @@ use lex::Token;
 use lex::Type;
 use libc::STDOUT_FILENO;
 
-// The names of the kinds, one after the other.
-const NAMES: [u8; 245] =
-    *b"EofBraceLeftBraceRightPlusMinusAsteriksSlashPercentEqualDoubleEqualLessThanGreaterThanExclaimNotEqualQuestionColonDotBraketLeftBraketRightCurlyLeftCurlyRightSDIIdentDocImportExternLetFnMatchAsTrueFalseStrIntDoubleBoolVoidOptionArrayForeignRecord";
-
-// Where each kind's name ends; the first begins at 0.
-const NAME_ENDS: [usize; 44] = [
-    0,
-    3,
-    12,
-    22,
-    26,
-    31,
-    39,
-    44,
-    51,
-    56,
-    67,
-    75,
-    86,
-    93,
-    101,
-    109,
-    114,
-    117,
-    127,
-    138,
-    147,
-    157,
-    158,
-    159,
-    160,
-    165,
-    168,
-    174,
-    180,
-    183,
-    185,
-    190,
-    192,
-    196,
-    201,
-    204,
-    207,
-    213,
-    217,
-    221,
-    227,
-    232,
-    239,
-    245,
-];
-
 // The name of a kind; nothing for a number that is no kind.
 fn print_kind(kind: u32) {
     if kind < Type::EOF {
@@ -66,9 +14,9 @@ fn print_kind(kind: u32) {
         return;
     }
     let k = kind as usize;
-    let from = NAME_ENDS[k - 1];
-    let to = NAME_ENDS[k];
-    io::write_all(STDOUT_FILENO, &NAMES[from..to]);
+    let from = Type::NAME_ENDS[k - 1];
+    let to = Type::NAME_ENDS[k];
+    io::write_all(STDOUT_FILENO, &Type::NAMES[from..to]);
 }
 
 fn print_number(n: u64) {

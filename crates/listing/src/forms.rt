@@ -15,58 +15,6 @@ ghost use Prim.Native.Nat.{_+_, _<_};
 ghost use Rattle.listing.specs.Text.{gap, kindName, token, tokens, ids, pair, pairs, branch, branches, externFn, externFns};
 ghost use Rattle.listing.specs.Emit.{Emits};
 
-// The names of the kinds, one after the other.
-const NAMES: [u8; 245] =
-    *b"EofBraceLeftBraceRightPlusMinusAsteriksSlashPercentEqualDoubleEqualLessThanGreaterThanExclaimNotEqualQuestionColonDotBraketLeftBraketRightCurlyLeftCurlyRightSDIIdentDocImportExternLetFnMatchAsTrueFalseStrIntDoubleBoolVoidOptionArrayForeignRecord";
-
-// Where each kind's name ends; the first begins at 0.
-const NAME_ENDS: [usize; 44] = [
-    0,
-    3,
-    12,
-    22,
-    26,
-    31,
-    39,
-    44,
-    51,
-    56,
-    67,
-    75,
-    86,
-    93,
-    101,
-    109,
-    114,
-    117,
-    127,
-    138,
-    147,
-    157,
-    158,
-    159,
-    160,
-    165,
-    168,
-    174,
-    180,
-    183,
-    185,
-    190,
-    192,
-    196,
-    201,
-    204,
-    207,
-    213,
-    217,
-    221,
-    227,
-    232,
-    239,
-    245,
-];
-
 fn write_kind(kind: u32, out: &mut [u8], at: usize) -> usize
     ensures { λ r. ⌜ Emits (kindName kind) (now (out .entry)) at (now (out .exit)) r ⌝ }
 {
@@ -77,9 +25,9 @@ fn write_kind(kind: u32, out: &mut [u8], at: usize) -> usize
         return write_malformed(out, at);
     }
     let k = kind as usize;
-    let from = NAME_ENDS[k - 1];
-    let to = NAME_ENDS[k];
-    write_text(&NAMES[from..to], out, at)
+    let from = Type::NAME_ENDS[k - 1];
+    let to = Type::NAME_ENDS[k];
+    write_text(&Type::NAMES[from..to], out, at)
 }
 
 pub(crate) fn write_token(before: usize, t: Token, out: &mut [u8], at: usize) -> usize

@@ -1,5 +1,5 @@
 -- Arrays that are cleared.
-use mathlib.Core.Path.{_≡_, sym, ap, _∙_}
+use mathlib.Core.Path.{_≡_, refl, sym, ap, _∙_}
 use mathlib.Core.List.{List, [], _∷_, _++_, append-assoc, append-nil}
 use Prim.Native.Nat.{ℕ, suc, _+_, _-_, _≤_, _<_}
 use native.Mathlib.Omega.{arith}
@@ -66,3 +66,26 @@ ends-cleared {a} {a₁} {a₂} {front} {back} h e w =
 -- a part that is left behind lies in its array
 pub left-fits : {a : List ℕ} {front back : ℕ} → Left a front back → front + back ≤ length a
 left-fits h = omega (arith, ap length (h .laid) ∙ length-append (h .before) _, length-append (zeros (h .between)) (h .behind), h .inFront, h .atEnd)
+
+-- the same array and count, by other names
+pub left-as : {a a′ : List ℕ} {n n′ : ℕ} → a′ ≡ a → n′ ≡ n → Left a n 0 → Left a′ n′ 0
+left-as e f h = record { before = h .before; behind = h .behind; between = h .between; laid = e ∙ h .laid; inFront = h .inFront ∙ sym f; atEnd = h .atEnd }
+
+-- the first zero behind the front is written
+pub left-more : {a : List ℕ} {n : ℕ} (x : ℕ) → Left a n 0 → n < length a → Left (set a n x) (n + 1) 0
+left-more {a} {n} x h k =
+    let rest : List ℕ = zeros (h .between - 1) ++ h .behind in
+    let some : h .between ≡ suc (h .between - 1) = omega (arith, ap length (h .laid) ∙ length-append (h .before) _, length-append (zeros (h .between)) (h .behind), zeros-length (h .between), h .inFront, h .atEnd) in
+    let old : a ≡ h .before ++ (0 ∷ rest) = h .laid ∙ ap (λ (j : ℕ). h .before ++ (zeros j ++ h .behind)) some in
+    record {
+      before = h .before ++ (x ∷ []);
+      behind = h .behind;
+      between = h .between - 1;
+      laid = ap (λ (l : List ℕ). set l n x) old ∙ set-at (h .before) 0 rest x n (h .inFront) ∙ sym (append-assoc (h .before) (x ∷ []) rest);
+      inFront = omega (arith, length-append (h .before) (x ∷ []), h .inFront);
+      atEnd = h .atEnd;
+    }
+
+-- an array that is zero behind its front
+pub left-front : {a : List ℕ} {n : ℕ} (k : ℕ) (xs : List ℕ) → a ≡ xs ++ zeros k → length xs ≡ n → Left a n 0
+left-front k xs e f = record { before = xs; behind = []; between = k; laid = e ∙ ap (λ (l : List ℕ). xs ++ l) (sym (append-nil (zeros k))); inFront = f; atEnd = refl }

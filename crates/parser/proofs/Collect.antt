@@ -25,7 +25,7 @@ use Rattle.rules.proofs.Counting.Step.{WellEnded, pending}
 use Rattle.rules.proofs.Counting.Whole.{begin-left, begin-pending, Reached}
 use Rattle.rules.proofs.Counting.Collect as Counting
 use Rattle.diagnostics.specs.Records.{Diagnostics, diagnostics, holding, pushed}
-use Rattle.diagnostics.proofs.Records.{holding-pushed, holding-none, holding-padded}
+use Rattle.diagnostics.proofs.Records.{cells-length, holding-pushed, holding-none, holding-padded}
 use Rattle.diagnostics.specs.Faults.{faultsBetween, lowDiagnostic}
 use Rattle.diagnostics.proofs.Faults.{faults-low}
 use Rattle.diagnostics.proofs.Order.{Ordered, ordered-start, ordered-error, ordered-end, ordered-room}
@@ -36,10 +36,11 @@ use Rattle.parser_base.specs.declared.Status.{Status}
 use Rattle.parser_base.proofs.Steps.{true≢false, current-represents, represents-less, represents-going}
 use Rattle.parser_base.proofs.Rounds.{after, iterate-suc, ifKind-is-yes, ifKind-is-no}
 use Rattle.parser_base.proofs.Loops.{member-going, member-eof}
-use Rattle.parser.specs.Whole.{Blank, fresh, dropDocs, Resumes, synchronizing}
-use Rattle.parser.specs.Collect.{RootsCollected, collectStep, DiagnosticsAre, Gathers, Room, TurnEnds, CollectEnds}
+use Rattle.parser.specs.Whole.{Left, Blank, fresh, dropDocs, Resumes, synchronizing}
+use Rattle.parser.specs.Collect.{RootsCollected, collectStep, DiagnosticsAre, Gathers, Room, Stopped, TurnEnds, CollectEnds}
+use Rattle.parser.proofs.Clear.{left-front}
 use Rattle.parser.proofs.Synchronize.{recovered}
-use Rattle.parser.proofs.Roots.{some-ahead, root-pushed, at-eof, tree-held, begun}
+use Rattle.parser.proofs.Roots.{some-ahead, root-pushed, at-eof, tree-held, left-behind, begun}
 
 -- ---- diagnostics
 
@@ -120,12 +121,16 @@ collect-turn {script} {nodes′ = nodes′} {types′} {lists′} {roots} {diagn
     go (ok a m₁) z = f a m₁ (z .0) (represents-less _ _ (omega arith) (omega arith) (z .1))
     go (err e m₁) z = k e m₁ z
 
+-- behind the diagnostics are zeros
+diagnostics-left : {script array : List ℕ} {n listed left : ℕ} {es : List Occurrence} → DiagnosticsAre script array n listed left es → Left array (5 * n) 0
+diagnostics-left {array = array} d = left-front (length array - 5 * length (d .ds)) (flatten (map diagnosticCells (d .ds))) (ap (λ (a : Diagnostics). a .cells) (d .held)) (cells-length (d .ds) ∙ ap (λ (a : Diagnostics). 5 * a .count) (sym (d .held)))
+
 -- 10 ends the reading
 pub ended-by-ten : {script nodes types lists : List ℕ} {d : Diagnostic} (roots array : List ℕ) (c : RootsCollected) (g : Gathered) (e : Diagnostic) (m : State) → d ≡ c .parser .status .error → eqb (d .number) 10 ≡ true
-    → FailedAt script (code nodes types lists (c .parser)) e 0 0 [] m → TurnEnds script nodes types lists roots array c (recover stageOne script g e m)
-ended-by-ten {script} {nodes} {types} {lists} {d} roots array c g e m failed ten h =
+    → FailedAt script (code nodes types lists (c .parser)) e 0 0 [] m → Gathers script nodes types lists roots array c g → TurnEnds script nodes types lists roots array c (recover stageOne script g e m)
+ended-by-ten {script} {nodes} {types} {lists} {d} roots array c g e m failed ten h z =
     let named : d ≡ e = failed ∙ ap (λ (s : Status). s .error) (h .status) in
-    subst (TurnEnds script nodes types lists roots array c) (sym (recover-ends script g e m (ap (λ (x : Diagnostic). eqb (x .number) 10) (sym named) ∙ ten))) (h .status)
+    subst (TurnEnds script nodes types lists roots array c) (sym (recover-ends script g e m (ap (λ (x : Diagnostic). eqb (x .number) 10) (sym named) ∙ ten))) (h .status, left-behind h (left-front (length roots - c .members) (g .roots) (z .rootsHeld .0) (z .rootsHeld .1)), diagnostics-left (z .diagnosticsHeld))
 
 -- an error is gathered, and the reading goes on
 pub gathered-error : {script nodes types lists roots array types′ lists′ array₁ array₂ : List ℕ} {c : RootsCollected} {n₁ n₂ : ℕ} {d : Diagnostic} {q₁ q₂ : Parser} {at : ℕ} (g : Gathered) (e : Diagnostic) (m : State) → at ≡ c .parser .pos → d ≡ c .parser .status .error → eqb (d .number) 10 ≡ false
@@ -210,7 +215,7 @@ module _ (script : List ℕ) where
 
   pub data Progress (nodes types lists roots diagnostics : List ℕ) (c : RootsCollected) : Type 0 where
     live : Live nodes types lists roots diagnostics c → Progress nodes types lists roots diagnostics c
-    over : (e : Diagnostic) (m : State) → parseRootsCollect stageOne script (begin script) ≡ err e m → c .parser .status ≡ Failed e → Progress nodes types lists roots diagnostics c
+    over : (e : Diagnostic) (m : State) → parseRootsCollect stageOne script (begin script) ≡ err e m → Stopped nodes types lists roots diagnostics c e → Progress nodes types lists roots diagnostics c
 
   -- what is pending, while the reading goes on
   abbrev pub toGo : List ℕ → List ℕ → List ℕ → RootsCollected → ℕ
@@ -245,7 +250,7 @@ module _ (script : List ℕ) where
         less = omega (arith, to-go-live nodes types lists c m h, to-go-live nodes′ types′ lists′ c′ m₁ (t .0));
       }
       next n g m k h r e (Results.holds {a = break b} {s = m₁} z) t = absurd t
-      next n g m k h r e (Results.fails {e = x} {s = m₁} z) t = record { progress = over x m₁ e t; less = omega (arith, to-go-live nodes types lists c m h, to-go-over nodes′ types′ lists′ c′ x t) }
+      next n g m k h r e (Results.fails {e = x} {s = m₁} z) t = record { progress = over x m₁ e t; less = omega (arith, to-go-live nodes types lists c m h, to-go-over nodes′ types′ lists′ c′ x (t .0)) }
 
       one : (n : ℕ) (g : Gathered) (m : State) → parseRootsCollect stageOne script (begin script) ≡ iterate n (collectStep script) g m → pending m ≤ n → Counting.Gathers script g m → Represents script (code nodes types lists (c .parser)) 0 0 [] m
           → Gathers script nodes types lists roots diagnostics c g → Turn nodes types lists roots diagnostics nodes′ types′ lists′ roots′ diagnostics′ c c′
@@ -258,7 +263,7 @@ module _ (script : List ℕ) where
 
       go : Progress nodes types lists roots diagnostics c → Turn nodes types lists roots diagnostics nodes′ types′ lists′ roots′ diagnostics′ c c′
       go (live v) = one (v .fuel) (v .g) (v .m) (v .comes) (v .fuelled) (v .counts) (v .represents) (v .gathers)
-      go (over e m z s) = absurd (true≢false (member-going (c .parser) kEof w) (ap isGoing s))
+      go (over e m z s) = absurd (true≢false (member-going (c .parser) kEof w) (ap isGoing (s .0)))
 
   -- ---- the beginning and the end
 
@@ -313,4 +318,4 @@ module _ (script : List ℕ) where
 
       go : Progress nodes types lists roots array c → CollectEnds script nodes types′ lists roots array′ last (parseRootsCollect stageOne script (begin script))
       go (live v) = one (v .fuel) (v .g) (v .m) (v .comes) (v .fuelled) (v .counts) (v .represents) (v .gathers)
-      go (over e m z s) = absurd (true≢false g (ap isGoing s))
+      go (over e m z s) = absurd (true≢false g (ap isGoing (s .0)))

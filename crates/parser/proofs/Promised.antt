@@ -1,11 +1,11 @@
 -- What a reading promises, from how the roots end.
 use mathlib.Core.Path.{_≡_, refl, sym, ap, subst, _∙_}
 use mathlib.Core.Bool.{Bool, true, false}
-use mathlib.Core.List.{List, [], _++_, map, flatten}
+use mathlib.Core.List.{List, [], map, flatten}
 use Prim.Native.Nat.{ℕ, _*_, _-_, _≤_}
 use native.Mathlib.Omega.{arith}
 use lib.Dec.{ltb}
-use lib.ListN.{length, take}
+use lib.ListN.{length}
 use borrow.Author.Tests.{ltb-false}
 use Rattle.lex.specs.Bytes.{or}
 use Rattle.lex.specs.declared.diagnostic.Diagnostic.{Diagnostic}
@@ -23,7 +23,6 @@ use Rattle.parser_base.proofs.Steps.{true≢false}
 use Rattle.parser_base.proofs.Cells.{zeros-length}
 use Rattle.parser.specs.Whole.{RootsRead, Left, LeftBehind, arrays, refusal, Blank, Holds, RootsEnd}
 use Rattle.parser.specs.Collect.{RootsCollected, inOrder, CollectEnds}
-use Rattle.parser.proofs.Clear.{cleared-all}
 
 -- ---- refusals
 
@@ -119,22 +118,22 @@ module _ (script ns ts ls rs ds ns′ ts′ ls′ rs′ : List ℕ) (r : RootsRe
       go (ok xs m) e h = tree-promised (parse stageOne) script ns ts ls rs ds ns′ ts′ ls′ rs′ ds′ taken r [] 0 e h n t c o refl (blank ∙ ap zeros {x = length ds} {y = length ds - 0} (omega arith))
       go (err x m) e h = absurd (true≢false g (ap isGoing (h .0)))
 
-  pub strict-error : (ns″ ts″ ls″ rs″ ds′ : List ℕ) {d₀ : Diagnostic} → (LeftBehind ns′ ts′ ls′ (r .parser .used) → (ns″ ≡ zeros (length ns′)) × (ts″ ≡ zeros (length ts′)) × (ls″ ≡ zeros (length ls′))) → rs″ ≡ zeros (length rs′) → ds′ ≡ zeros (length ds) → isGoing (r .parser .status) ≡ false → d₀ ≡ r .parser .status .error
+  pub strict-error : (ns″ ts″ ls″ rs″ ds′ : List ℕ) {d₀ : Diagnostic} → (LeftBehind ns′ ts′ ls′ rs′ (r .parser .used) (r .members) → (ns″ ≡ zeros (length ns′)) × (ts″ ≡ zeros (length ts′)) × (ls″ ≡ zeros (length ls′)) × (rs″ ≡ zeros (length rs′))) → ds′ ≡ zeros (length ds) → isGoing (r .parser .status) ≡ false → d₀ ≡ r .parser .status .error
       → promised (parse stageOne) script (arrays ns ts ls rs ds) ≡ record { answer = P.Error d₀; arrays = arrays ns″ ts″ ls″ rs″ ds′ }
   unfolding ending
-  strict-error ns″ ts″ ls″ rs″ ds′ a d z g same = subst (λ (x : Diagnostic). promised (parse stageOne) script (arrays ns ts ls rs ds) ≡ record { answer = P.Error x; arrays = arrays ns″ ts″ ls″ rs″ ds′ }) (sym same)
+  strict-error ns″ ts″ ls″ rs″ ds′ a z g same = subst (λ (x : Diagnostic). promised (parse stageOne) script (arrays ns ts ls rs ds) ≡ record { answer = P.Error x; arrays = arrays ns″ ts″ ls″ rs″ ds′ }) (sym same)
       (go (parseRoots stageOne script (begin script)) (parse-ending script) ends)
     where
       go : (res : Result (List ℕ)) → parse stageOne script ≡ ending res → RootsEnd ns′ ts′ ls′ rs′ r res → promised (parse stageOne) script (arrays ns ts ls rs ds) ≡ record { answer = P.Error (r .parser .status .error); arrays = arrays ns″ ts″ ls″ rs″ ds′ }
       go (ok xs m) w h = absurd (true≢false (ap isGoing (h .going)) g)
       go (err x m) w h =
           let same : x ≡ r .parser .status .error = sym (ap (λ (s : Status). s .error) (h .0)) in
-          error-promised (parse stageOne) script ns ts ls rs ds ns″ ts″ ls″ rs″ ds′ taken (r .parser .status .error) (w ∙ ap ended same) (a (h .1) .0 ∙ ap zeros n) (a (h .1) .1 ∙ ap zeros t) (a (h .1) .2 ∙ ap zeros c) (d ∙ ap zeros o) z
+          error-promised (parse stageOne) script ns ts ls rs ds ns″ ts″ ls″ rs″ ds′ taken (r .parser .status .error) (w ∙ ap ended same) (a (h .1) .0 ∙ ap zeros n) (a (h .1) .1 ∙ ap zeros t) (a (h .1) .2 ∙ ap zeros c) (a (h .1) .3 ∙ ap zeros o) z
 
 -- what is cleared by the counts that were read
-pub left-cleared : {ns ts ls ns′ ts′ ls′ : List ℕ} {u v : Used} → u ≡ v → (Left ns (16 * u .nodes) 0 → ns′ ≡ zeros (length ns)) → (Left ts (8 * u .types) (3 * u .docs) → ts′ ≡ zeros (length ts)) → (Left ls (u .cells) (u .scratch) → ls′ ≡ zeros (length ls))
-    → LeftBehind ns ts ls v → (ns′ ≡ zeros (length ns)) × (ts′ ≡ zeros (length ts)) × (ls′ ≡ zeros (length ls))
-left-cleared {ns} {ts} {ls} e f g k h₀ = let h = subst (LeftBehind ns ts ls) (sym e) h₀ in (f (h .0), g (h .1), k (h .2))
+pub left-cleared : {ns ts ls rs ns′ ts′ ls′ rs′ : List ℕ} {u v : Used} {n : ℕ} → u ≡ v → (Left ns (16 * u .nodes) 0 → ns′ ≡ zeros (length ns)) → (Left ts (8 * u .types) (3 * u .docs) → ts′ ≡ zeros (length ts)) → (Left ls (u .cells) (u .scratch) → ls′ ≡ zeros (length ls)) → (Left rs n 0 → rs′ ≡ zeros (length rs))
+    → LeftBehind ns ts ls rs v n → (ns′ ≡ zeros (length ns)) × (ts′ ≡ zeros (length ts)) × (ls′ ≡ zeros (length ls)) × (rs′ ≡ zeros (length rs))
+left-cleared {ns} {ts} {ls} {rs} {n = n} e f g k o h₀ = let h = subst (λ (u : Used). LeftBehind ns ts ls rs u n) (sym e) h₀ in (f (h .0), g (h .1), k (h .2), o (h .3))
 
 -- ---- collecting
 
@@ -158,19 +157,19 @@ module _ (script ns ts ls rs ds ns′ ts′ ls′ rs′ ds′ : List ℕ) (r : R
     where
       go : (res : Result Gathered) → parseCollect stageOne script ≡ collectEnding script res → CollectEnds script ns′ ts′ ls′ rs′ ds′ r res → promised (parseCollect stageOne) script (arrays ns ts ls rs ds) ≡ record { answer = treeOf (r .parser .used) (r .members) (r .diagnostics); arrays = arrays ns′ ts′ ls′ rs′ ds′ }
       go (ok w m) e h = tree-promised (parseCollect stageOne) script ns ts ls rs ds ns′ ts′ ls′ rs′ ds′ taken roots (inOrder script w) (r .diagnostics) e (h .0) n t c o (h .2) (h .1 ∙ ap (λ (j : ℕ). padded j (flatten (map diagnosticCells (inOrder script w)))) k)
-      go (err x m) e h = absurd (true≢false g (ap isGoing h))
+      go (err x m) e h = absurd (true≢false g (ap isGoing (h .0)))
 
-  pub collect-error : (ns″ ts″ ls″ rs″ ds″ : List ℕ) {d₀ : Diagnostic} → ns″ ≡ zeros (length ns′) → ts″ ≡ zeros (length ts′) → ls″ ≡ zeros (length ls′) → rs″ ≡ zeros (length rs′) → ds″ ≡ take 0 ds′ ++ zeros (length ds′ - 0) → isGoing (r .parser .status) ≡ false → d₀ ≡ r .parser .status .error
+  pub collect-error : (ns″ ts″ ls″ rs″ ds″ : List ℕ) {d₀ : Diagnostic} → (LeftBehind ns′ ts′ ls′ rs′ (r .parser .used) (r .members) → (ns″ ≡ zeros (length ns′)) × (ts″ ≡ zeros (length ts′)) × (ls″ ≡ zeros (length ls′)) × (rs″ ≡ zeros (length rs′))) → (Left ds′ (5 * r .diagnostics) 0 → ds″ ≡ zeros (length ds′)) → isGoing (r .parser .status) ≡ false → d₀ ≡ r .parser .status .error
       → promised (parseCollect stageOne) script (arrays ns ts ls rs ds) ≡ record { answer = P.Error d₀; arrays = arrays ns″ ts″ ls″ rs″ ds″ }
   unfolding collectEnding
-  collect-error ns″ ts″ ls″ rs″ ds″ a b l d z g same = subst (λ (x : Diagnostic). promised (parseCollect stageOne) script (arrays ns ts ls rs ds) ≡ record { answer = P.Error x; arrays = arrays ns″ ts″ ls″ rs″ ds″ }) (sym same)
+  collect-error ns″ ts″ ls″ rs″ ds″ a z g same = subst (λ (x : Diagnostic). promised (parseCollect stageOne) script (arrays ns ts ls rs ds) ≡ record { answer = P.Error x; arrays = arrays ns″ ts″ ls″ rs″ ds″ }) (sym same)
       (go (parseRootsCollect stageOne script (begin script)) (collect-ending script) ends)
     where
       go : (res : Result Gathered) → parseCollect stageOne script ≡ collectEnding script res → CollectEnds script ns′ ts′ ls′ rs′ ds′ r res → promised (parseCollect stageOne) script (arrays ns ts ls rs ds) ≡ record { answer = P.Error (r .parser .status .error); arrays = arrays ns″ ts″ ls″ rs″ ds″ }
       go (ok w m) v h = absurd (true≢false (ap isGoing (h .0 .going)) g)
       go (err x m) v h =
-          let same : x ≡ r .parser .status .error = sym (ap (λ (s : Status). s .error) h) in
-          error-promised (parseCollect stageOne) script ns ts ls rs ds ns″ ts″ ls″ rs″ ds″ taken (r .parser .status .error) (v ∙ ap ended same) (a ∙ ap zeros n) (b ∙ ap zeros t) (l ∙ ap zeros c) (d ∙ ap zeros o) (cleared-all ds′ z ∙ ap zeros k)
+          let same : x ≡ r .parser .status .error = sym (ap (λ (s : Status). s .error) (h .0)) in
+          error-promised (parseCollect stageOne) script ns ts ls rs ds ns″ ts″ ls″ rs″ ds″ taken (r .parser .status .error) (v ∙ ap ended same) (a (h .1) .0 ∙ ap zeros n) (a (h .1) .1 ∙ ap zeros t) (a (h .1) .2 ∙ ap zeros c) (a (h .1) .3 ∙ ap zeros o) (z (h .2) ∙ ap zeros k)
 
 -- ---- what is cleared is blank, and enough of it
 

@@ -1,12 +1,13 @@
 -- The roots of a script, one after the other.
 use mathlib.Core.Path.{_≡_, refl, sym, ap, subst, _∙_}
-use mathlib.Core.Bool.{true, false}
+use mathlib.Core.Bool.{Bool, true, false, _&&_}
 use mathlib.Core.List.{List, [], _∷_, _++_, map, flatten, reverse, append-assoc, append-nil}
 use Prim.Native.Nat.{ℕ, suc, _+_, _*_, _-_, _≤_, _<_}
 use native.Mathlib.Omega.{arith}
-use lib.Dec.{eqb}
+use lib.Dec.{eqb, ltb}
 use lib.ListN.{length, take, set, length-append, length-reverse, length-set}
 use lib.Seq.{set-at}
+use borrow.Author.Tests.{ltb-true, lt-ltb}
 use Rattle.lex.specs.Kind.{kEof}
 use Rattle.lex.specs.Lex.{cut, tokensFrom, nextAt}
 use Rattle.lex.proofs.Steps.{tokens-le}
@@ -28,8 +29,8 @@ use Rattle.parser_base.proofs.Cells.{types-length, nodes-length}
 use Rattle.parser_base.proofs.Docs.{docs-length}
 use Rattle.parser_base.proofs.Rounds.{Again, Turned, LoopInvariant, round-start-at, round-out, ifKind-is-yes, ifKind-is-no}
 use Rattle.parser_base.proofs.Loops.{member-eof, no-member}
-use Rattle.parser.specs.Whole.{RootsRead, LeftBehind, Blank, fresh, rootStep, RootsAre, dropDocs, Holds, RootsEnd}
-use Rattle.parser.proofs.Clear.{end-cleared}
+use Rattle.parser.specs.Whole.{RootsRead, Left, LeftBehind, hasCell, RootPushed, Blank, fresh, rootStep, RootsAre, dropDocs, Holds, RootsEnd}
+use Rattle.parser.proofs.Clear.{end-cleared, left-as, left-more, left-front}
 
 -- ---- docs that are dropped
 
@@ -78,6 +79,38 @@ dropping script nodes types types′ lists {p} g e w = lent p undocumented
     e w (docs-dropped script nodes types types′ lists p g)
 
 -- ---- one more root
+
+all-three : (a b c : Bool) → (a && (b && c)) ≡ true → (a ≡ true) × (b ≡ true) × (c ≡ true)
+all-three true true c e = (refl, refl, e)
+all-three true false c e = absurd (true≢false e refl)
+all-three false b c e = absurd (true≢false e refl)
+
+module _ (p : Parser) (n : ℕ) (roots : List ℕ) where
+  has-cell : hasCell p n roots ≡ true → (isGoing (p .status) ≡ true) × (n < length roots) × (n < 65536)
+  unfolding hasCell
+  has-cell e = let t = all-three (isGoing (p .status)) (ltb n (length roots)) (ltb n 65536) e in (t .0, ltb-true _ _ (t .1), ltb-true _ _ (t .2))
+
+  cell-there : isGoing (p .status) ≡ true → n < length roots → n < 65536 → hasCell p n roots ≡ true
+  unfolding hasCell
+  cell-there g h k = rw (g, lt-ltb _ _ h, lt-ltb _ _ k) refl
+
+-- with a cell its number is written, without one all stays
+module _ {p : Parser} {n : ℕ} {roots : List ℕ} where
+  pub root-written : {id : ℕ} → isGoing (p .status) ≡ true → n < length roots → n < 65536 → RootPushed p roots n id (set roots n id) (n + 1)
+  root-written g h k = record { written = λ _. (refl, refl); leftOut = λ e. absurd (true≢false (cell-there p n roots g h k) e) }
+
+  pub root-left-out : {id : ℕ} → (isGoing (p .status) ≡ true → n < length roots → n < 65536 → ⊥) → RootPushed p roots n id roots n
+  root-left-out f = record { written = λ e. let t = has-cell p n roots e in absurd (f (t .0) (t .1) (t .2)); leftOut = λ _. (refl, refl) }
+
+  module _ {id n′ : ℕ} {roots′ : List ℕ} (h : RootPushed p roots n id roots′ n′) where
+    pub root-there : isGoing (p .status) ≡ true → n < length roots → n < 65536 → (roots′ ≡ set roots n id) × (n′ ≡ n + 1)
+    root-there g l k = h .written (cell-there p n roots g l k)
+
+    -- either way there are zeros behind as many cells as are counted
+    pub root-front : Left roots n 0 → Left roots′ n′ 0
+    root-front z = either (hasCell p n roots)
+        (λ e. let w = h .written e in left-as (w .0) (w .1) (left-more id z (has-cell p n roots e .1)))
+        (λ e. let w = h .leftOut e in left-as (w .0) (w .1) z)
 
 pub some-ahead : {script : List ℕ} {s : Code} {r l : ℕ} {stack : List ℕ} {m : State} → Related script s r l stack m → 1 ≤ length (ahead script s)
 some-ahead h = omega (arith, left-some h, ap length (h .left))
@@ -157,14 +190,15 @@ tree-held {script} {nodes} {types′ = types′} {lists} {roots} {xs} {r = r} {m
     }
 
 -- a failed reading leaves records and cells in front, what waits at the far end, and zeros between
-left-behind : {script : List ℕ} {s : Code} {e : Diagnostic} {r l : ℕ} {stack : List ℕ} {m : State} → FailedAt script s e r l stack m → LeftBehind (s .nodes) (s .types) (s .lists) (s .parser .used)
-left-behind {s = s} {stack = stack} {m} h =
+pub left-behind : {script : List ℕ} {s : Code} {e : Diagnostic} {r l : ℕ} {stack : List ℕ} {m : State} {roots : List ℕ} {n : ℕ} → FailedAt script s e r l stack m → Left roots n 0 → LeftBehind (s .nodes) (s .types) (s .lists) roots (s .parser .used) n
+left-behind {s = s} {stack = stack} {m} h k =
     let ns = h .related .nodes in
     let ts = h .related .types in
     let ls = h .related .lists in (
       record { before = flatten (map nodeCells (m .arena .nodes)); behind = []; between = length (s .nodes) - 16 * s .parser .used .nodes; laid = ns .laid; inFront = omega (arith, ns .counted, nodes-length (m .arena .nodes)); atEnd = refl },
       record { before = flatten (map typeCells (m .arena .types)); behind = reverse (docCells (m .docs)); between = length (s .types) - (8 * s .parser .used .types + 3 * s .parser .used .docs); laid = ts .laid; inFront = omega (arith, ts .counted, types-length (m .arena .types)); atEnd = omega (arith, ts .docCounted, docs-length (m .docs), length-reverse (docCells (m .docs))) },
       record { before = m .arena .cells; behind = reverse (stack ++ h .over); between = length (s .lists) - (s .parser .used .cells + s .parser .used .scratch); laid = ls .laid; inFront = sym (ls .counted); atEnd = omega (arith, ls .stacked, length-reverse (stack ++ h .over)) },
+      k,
     )
 
 -- ---- a strict reading of the roots
@@ -193,16 +227,20 @@ module _ {script nodes types lists roots : List ℕ} (p : Parser) (h : Blank scr
         };
       }))
 
+  -- no root is there
+  pub roots-none : Left roots 0 0
+  roots-none = left-front (length roots) [] (h .blankRoots) refl
+
   pub roots-start : LoopInvariant script (rootStep script) kept [] (RootsAre script roots 0 (code nodes types lists p)) (code nodes types lists p) (code nodes types lists p)
   roots-start = round-start-at (λ R L stack m k. (h .blankRoots ∙ ap zeros {x = length roots} {y = length roots - 0} (omega arith), refl, omega (arith, k .related .credit .records, ap length (k .related .left))))
 
   module _ {nodes′ types′ types″ lists′ roots′ : List ℕ} {q : Parser} {r : RootsRead} where
     pub roots-end : LoopInvariant script (rootStep script) kept [] (RootsAre script roots′ (r .members) (code nodes′ types′ lists′ q)) (code nodes types lists p) (code nodes′ types′ lists′ q)
-        → memberFollows q kEof ≡ false
+        → Left roots′ (r .members) 0 → memberFollows q kEof ≡ false
         → Refines script 0 0 dropDocs (λ n. n ≡ 0) kept 0 0 0 (code nodes′ types′ lists′ q) (code nodes′ types″ lists′ (r .parser))
         → RootsEnd nodes′ types″ lists′ roots′ r (parseRoots stageOne script (begin script))
     unfolding parseRoots pure
-    roots-end i w d = go (loop (rootStep script) [] (begin script)) (round-out i (λ stack. refl) out .simulates 0 0 [] (begin script) begun)
+    roots-end i z w d = go (loop (rootStep script) [] (begin script)) (round-out i (λ stack. refl) out .simulates 0 0 [] (begin script) begun)
       where
         out : (R L : ℕ) (stack xs : List ℕ) (m : State) → RootsAre script roots′ (r .members) (code nodes′ types′ lists′ q) xs → Represents script (code nodes′ types′ lists′ q) R L stack m → rootStep script xs m ≡ ok (break xs) m
         out R L stack xs m k g = ifKind-is-yes kEof _ _ m (at-eof w g)
@@ -211,4 +249,4 @@ module _ {script nodes types lists roots : List ℕ} (p : Parser) (h : Blank scr
         go (ok xs m) k = tree-held (k .1) (k .0) d
         go (err e m) k =
             let same : code nodes′ types″ lists′ (r .parser) ≡ code nodes′ types′ lists′ q = d .sticky (failed-fails k) in
-            subst (λ (t : Code). (t .parser .status ≡ Failed e) × LeftBehind (t .nodes) (t .types) (t .lists) (t .parser .used)) (sym same) (k .status, left-behind k)
+            subst (λ (t : Code). (t .parser .status ≡ Failed e) × LeftBehind (t .nodes) (t .types) (t .lists) roots′ (t .parser .used) (r .members)) (sym same) (k .status, left-behind k z)

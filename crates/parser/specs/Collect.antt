@@ -16,7 +16,7 @@ use Rattle.diagnostics.proofs.Order.{Ordered}
 use Rattle.parser_base.specs.Represents.{Failed, code, ahead, Represents}
 use Rattle.parser_base.specs.Refines.{deeper}
 use Rattle.parser_base.specs.declared.Parser.{Parser}
-use Rattle.parser.specs.Whole.{RootsAre, Holds}
+use Rattle.parser.specs.Whole.{Left, LeftBehind, RootsAre, Holds}
 use Rattle.parser.specs.declared.Gathering.{Gathering}
 
 -- the parser behind the roots, how many roots and diagnostics there are, and up to where the lexer's faults are among these
@@ -55,11 +55,15 @@ pub record Room (script roots diagnostics : List ℕ) (g : Gathered) : Type 0 wh
   pub diagnosticsLong : 5 * length script ≤ length diagnostics
   pub fewErrors : length (g .errors) + 2 ≤ length (tokensOf (cut script))
 
+-- an error has ended the reading, and the arrays hold no more than what is counted
+abbrev pub Stopped : (nodes types lists roots diagnostics : List ℕ) → RootsCollected → Diagnostic → Type 0
+Stopped nodes types lists roots diagnostics c e = (c .parser .status ≡ Failed e) × LeftBehind nodes types lists roots (c .parser .used) (c .members) × Left diagnostics (5 * c .diagnostics) 0
+
 -- how a turn of the loop over roots ends
 abbrev pub TurnEnds : (script nodes types lists roots diagnostics : List ℕ) → RootsCollected → Result (ControlFlow Gathered) → Type 0
 TurnEnds script nodes types lists roots diagnostics c (ok (continue g) m) = Represents script (code nodes types lists (c .parser)) 0 0 [] m × Gathers script nodes types lists roots diagnostics c g
 TurnEnds script nodes types lists roots diagnostics c (ok (break g) m) = ⊥
-TurnEnds script nodes types lists roots diagnostics c (err e m) = c .parser .status ≡ Failed e
+TurnEnds script nodes types lists roots diagnostics c (err e m) = Stopped nodes types lists roots diagnostics c e
 
 -- errors and faults in the order in which they are met
 abbrev pub inOrder : List ℕ → Gathered → List Diagnostic
@@ -69,4 +73,4 @@ inOrder script g = let fs = faultsOf 0 (cut script) in merged (length fs + lengt
 abbrev pub CollectEnds : (script nodes types lists roots diagnostics : List ℕ) → RootsCollected → Result Gathered → Type 0
 CollectEnds script nodes types lists roots diagnostics c (ok g m) =
     Holds nodes types lists roots (record { parser = c .parser; members = c .members }) (g .roots) m × (diagnostics ≡ padded (length diagnostics) (flatten (map diagnosticCells (inOrder script g)))) × (c .diagnostics ≡ length (inOrder script g))
-CollectEnds script nodes types lists roots diagnostics c (err e m) = c .parser .status ≡ Failed e
+CollectEnds script nodes types lists roots diagnostics c (err e m) = Stopped nodes types lists roots diagnostics c e

@@ -4,7 +4,7 @@ use mathlib.Core.Bool.{Bool, true, false, not, _&&_}
 use mathlib.Core.List.{List, [], _∷_, _++_, map, flatten}
 use Prim.Native.Nat.{ℕ, _+_, _*_, _-_, _≤_}
 use lib.Dec.{eqb, ltb}
-use lib.ListN.{length, take, drop}
+use lib.ListN.{length, take, drop, set}
 use Rattle.lex.specs.Bytes.{or}
 use Rattle.lex.specs.Kind.{kEof, kImport, kExtern, kLet, kFn, kMatch, kCurlyRight}
 use Rattle.lex.specs.declared.diagnostic.Diagnostic.{Diagnostic}
@@ -70,6 +70,15 @@ rootStep script roots = ifKind kEof (pure (break roots)) (deeper script maxLevel
 abbrev pub RootsAre : List ℕ → List ℕ → ℕ → Code → List ℕ → Type 0
 RootsAre script array n s xs = (array ≡ xs ++ zeros (length array - n)) × (length xs ≡ n) × (length xs + length (ahead script s) ≤ length script + 1)
 
+-- one more root is written: the reading has not failed, and there is a cell behind the `n` that are there
+unfoldable pub hasCell : Parser → ℕ → List ℕ → Bool
+hasCell p n roots = isGoing (p .status) && (ltb n (length roots) && ltb n 65536)
+
+-- the array and the count, by whether it is
+pub record RootPushed (p : Parser) (roots : List ℕ) (n id : ℕ) (roots′ : List ℕ) (n′ : ℕ) : Type 0 where
+  pub written : hasCell p n roots ≡ true → (roots′ ≡ set roots n id) × (n′ ≡ n + 1)
+  pub leftOut : hasCell p n roots ≡ false → (roots′ ≡ roots) × (n′ ≡ n)
+
 -- docs that still wait are dropped
 unfoldable pub dropDocs : Rule ℕ
 dropDocs = λ s. ok 0 (withDocs [] s)
@@ -88,13 +97,13 @@ pub record Holds (nodes types lists roots : List ℕ) (r : RootsRead) (xs : List
   pub rootCount : r .members ≡ length xs
 
 -- the arrays of a tree where a reading has failed
-abbrev pub LeftBehind : List ℕ → List ℕ → List ℕ → Used → Type 0
-LeftBehind nodes types lists u = Left nodes (16 * u .nodes) 0 × Left types (8 * u .types) (3 * u .docs) × Left lists (u .cells) (u .scratch)
+abbrev pub LeftBehind : List ℕ → List ℕ → List ℕ → List ℕ → Used → ℕ → Type 0
+LeftBehind nodes types lists roots u members = Left nodes (16 * u .nodes) 0 × Left types (8 * u .types) (3 * u .docs) × Left lists (u .cells) (u .scratch) × Left roots members 0
 
 -- by how the rule ends
 abbrev pub RootsEnd : List ℕ → List ℕ → List ℕ → List ℕ → RootsRead → Result (List ℕ) → Type 0
 RootsEnd nodes types lists roots r (ok xs m) = Holds nodes types lists roots r xs m
-RootsEnd nodes types lists roots r (err e m) = (r .parser .status ≡ Failed e) × LeftBehind nodes types lists (r .parser .used)
+RootsEnd nodes types lists roots r (err e m) = (r .parser .status ≡ Failed e) × LeftBehind nodes types lists roots (r .parser .used) (r .members)
 
 -- ---- after an error
 

@@ -16,15 +16,15 @@ use parser_base::member_follows;
 use parser_base::position;
 use parser_base::set_next;
 use parser_base::set_used;
-use parser_items::prefix;
+use parser_items::member;
 use rules::Counts;
 use rules::NodeId;
 use rules::Parsed;
 ghost use mathlib.Core.Path.{_≡_};
-ghost use mathlib.Core.Bool.{true, false};
+ghost use mathlib.Core.Bool.{true};
 ghost use mathlib.Core.List.{List, [], _++_};
-ghost use Prim.Native.Nat.{ℕ, _+_, _*_, _-_, _<_, _≤_};
-ghost use lib.ListN.{length, take, set};
+ghost use Prim.Native.Nat.{ℕ, _*_, _-_, _≤_};
+ghost use lib.ListN.{length, take};
 ghost use Rattle.lex.specs.Kind.{kEof};
 ghost use Rattle.lex.specs.Lex.{nextAt};
 ghost use Rattle.lex.specs.declared.diagnostic.Diagnostic.{Diagnostic};
@@ -33,9 +33,9 @@ ghost use Rattle.rules.specs.Layout.{zeros};
 ghost use Rattle.rules.specs.Rules.{stageOne};
 ghost use Rattle.rules.specs.Parse.{Gathered, begin, parseRoots, parse, recover as recoverRule, parseRootsCollect, parseCollect};
 ghost use Rattle.rules.specs.Promise.{promised};
-ghost use Rattle.parser_base.specs.Represents.{parserOf, code, isGoing, Represents, FailedAt};
+ghost use Rattle.parser_base.specs.Represents.{parserOf, code, Represents, FailedAt};
 ghost use Rattle.parser_base.specs.Refines.{Refines, kept, memberFollows};
-ghost use Rattle.parser.specs.Whole.{arrays, refusal, cleared, Left, Blank, RootsEnd, dropDocs, fresh};
+ghost use Rattle.parser.specs.Whole.{arrays, refusal, cleared, Left, Blank, RootPushed, RootsEnd, dropDocs, fresh};
 ghost use Rattle.parser.specs.Collect.{collected, Gathers, Room, TurnEnds, collectStep, CollectEnds};
 
 // ---- arrays
@@ -76,13 +76,20 @@ fn clear_ends(a: &mut [u32], front: usize, back: usize)
 }
 
 // What a failed reading has left in the four arrays is cleared.
-fn clear_left(nodes: &mut [u32], types: &mut [u32], lists: &mut [u32], roots: &mut [u32], u: Used)
-    ensures { λ r. ⌜ (Left (now (nodes .entry)) (16 * u .nodes) 0 → now (nodes .exit) ≡ zeros (length (now (nodes .entry)))) × (Left (now (types .entry)) (8 * u .types) (3 * u .docs) → now (types .exit) ≡ zeros (length (now (types .entry)))) × (Left (now (lists .entry)) (u .cells) (u .scratch) → now (lists .exit) ≡ zeros (length (now (lists .entry)))) × (now (roots .exit) ≡ zeros (length (now (roots .entry)))) ⌝ }
+fn clear_left(
+    nodes: &mut [u32],
+    types: &mut [u32],
+    lists: &mut [u32],
+    roots: &mut [u32],
+    u: Used,
+    members: u32,
+)
+    ensures { λ r. ⌜ (Left (now (nodes .entry)) (16 * u .nodes) 0 → now (nodes .exit) ≡ zeros (length (now (nodes .entry)))) × (Left (now (types .entry)) (8 * u .types) (3 * u .docs) → now (types .exit) ≡ zeros (length (now (types .entry)))) × (Left (now (lists .entry)) (u .cells) (u .scratch) → now (lists .exit) ≡ zeros (length (now (lists .entry)))) × (Left (now (roots .entry)) members 0 → now (roots .exit) ≡ zeros (length (now (roots .entry)))) ⌝ }
 {
     clear_ends(nodes, 16 * u.nodes as usize, 0);
     clear_ends(types, 8 * u.types as usize, 3 * u.docs as usize);
     clear_ends(lists, u.cells as usize, u.scratch as usize);
-    clear_from(roots, 0);
+    clear_ends(roots, members as usize, 0);
 }
 
 // The four arrays of a tree are cleared.
@@ -106,7 +113,7 @@ fn refusal(
 ) -> u32
     ensures { λ r. ⌜ r ≡ refusal n nodes types lists roots diagnostics ⌝ }
 {
-    if Parser::MAX_BYTES < n {
+    if Parsed::MAX_BYTES < n {
         return 1;
     }
     if nodes < 16 * n {
@@ -131,7 +138,7 @@ fn refusal(
 
 // A root's number goes behind those that are there, where the reading has not failed.
 fn push_root(roots: &mut [u32], p: &[u32; 17], n: u32, id: NodeId) -> u32
-    ensures { λ r. ⌜ (isGoing (parserOf (now (p .entry)) .status) ≡ true → n < length (now (roots .entry)) → n < 65536 → (now (roots .exit) ≡ set (now (roots .entry)) n (id .0)) × (r ≡ n + 1)) ⌝ }
+    ensures { λ r. ⌜ RootPushed (parserOf (now (p .entry))) (now (roots .entry)) n (id .0) (now (roots .exit)) r ⌝ }
 {
     if !going(p) {
         return n;
@@ -199,7 +206,7 @@ fn parse_roots(
     first(script, p);
     let mut members: u32 = 0;
     while member_follows(p, Type::EOF) {
-        let n = prefix(script, nodes, types, lists, p, Parser::MAX_LEVELS);
+        let n = member(script, nodes, types, lists, p, Parser::MAX_LEVELS);
         members = push_root(roots, p, members, n);
     }
     drop_docs(types, p);
@@ -259,7 +266,7 @@ fn collect_root(
     requires { ⌜ memberFollows (parserOf (now p)) kEof ≡ true ⌝ }
     ensures { λ r. ⌜ ((g : Gathered) (m : State) → Room (now (script .entry)) (now (roots .entry)) (now (diagnostics .entry)) g → Represents (now (script .entry)) (code (now (nodes .entry)) (now (types .entry)) (now (lists .entry)) (parserOf (now (p .entry)))) 0 0 [] m → Gathers (now (script .entry)) (now (nodes .entry)) (now (types .entry)) (now (lists .entry)) (now (roots .entry)) (now (diagnostics .entry)) (collected (parserOf (now (p .entry))) c) g → TurnEnds (now (script .entry)) (now (nodes .exit)) (now (types .exit)) (now (lists .exit)) (now (roots .exit)) (now (diagnostics .exit)) (collected (parserOf (now (p .exit))) r) (collectStep (now (script .entry)) g m)) ⌝ }
 {
-    let n = prefix(script, nodes, types, lists, p, Parser::MAX_LEVELS);
+    let n = member(script, nodes, types, lists, p, Parser::MAX_LEVELS);
     if going(p) {
         let members = push_root(roots, p, c.members, n);
         return Gathering {
@@ -344,7 +351,7 @@ pub fn parse(
             diagnostics: 0,
         });
     }
-    clear_left(nodes, types, lists, roots, get_used(&p));
+    clear_left(nodes, types, lists, roots, get_used(&p), members);
     Parsed::Error(error(&p))
 }
 
@@ -385,7 +392,7 @@ pub fn parse_collect(
             diagnostics: c.diagnostics,
         });
     }
-    clear_tree(nodes, types, lists, roots);
-    clear_from(diagnostics, 0); // what was gathered before 10 goes too
+    clear_left(nodes, types, lists, roots, get_used(&p), c.members);
+    clear_ends(diagnostics, 5 * c.diagnostics as usize, 0); // what was gathered before 10 goes too
     Parsed::Error(error(&p))
 }

@@ -1,14 +1,14 @@
 -- Records, and cells of lists under construction.
 use mathlib.Core.Path.{_≡_, refl, sym, ap, subst, _∙_}
 use mathlib.Core.Bool.{Bool, true, false, _&&_}
-use mathlib.Core.List.{List, [], _∷_, _++_, map, flatten, reverse, reverse-cons, reverse-append, append-assoc, append-nil}
+use mathlib.Core.List.{List, [], _∷_, _++_, map, flatten, reverse, reverse-cons, reverse-append, reverse-reverse, append-assoc, append-nil}
 use Prim.Native.Nat.{ℕ, suc, _+_, _*_, _-_, _≤_, _<_}
 use native.Mathlib.Omega.{arith}
-use lib.ListN.{drop-of-length-le, length, length-set, set, take, drop, getD, length-append, length-replicate, length-drop, length-reverse, replicate-append-replicate}
+use lib.ListN.{drop-of-length-le, length, set, take, drop, getD, length-append, length-replicate, length-drop, length-reverse, replicate-append-replicate}
 use lib.Dec.{leb, ltb}
 use borrow.Author.Tests.{leb-true, ltb-true, le-leb, lt-ltb}
 use borrow.Rule.Slice.PartMut.{midOf, putMid}
-use lib.Seq.{paste, take-at, drop-at, set-at, getD-at, drop-append-add, take-all}
+use lib.Seq.{paste, length-paste, take-at, drop-at, set-at, getD-at, drop-append-add, take-all}
 use Rattle.rules.specs.Combinators.{pure, pushNodeAnd, pushType, withArena, allocSlice, tokenCells, runCells}
 use Rattle.rules.specs.declared.Node.{Node}
 use Rattle.rules.specs.declared.NodeId.{NodeId}
@@ -43,7 +43,7 @@ zeros-split n k h = let e : k + (n - k) ≡ n = omega arith in ap zeros (sym e) 
 -- ---- records
 
 -- cells laid over the zeros behind what is there
-pub laid-over : (xs vs back : List ℕ) (z n : ℕ) → length xs ≡ n → length vs ≤ z → paste (xs ++ (zeros z ++ back)) n vs (length vs) ≡ (xs ++ vs) ++ (zeros (z - length vs) ++ back)
+laid-over : (xs vs back : List ℕ) (z n : ℕ) → length xs ≡ n → length vs ≤ z → paste (xs ++ (zeros z ++ back)) n vs (length vs) ≡ (xs ++ vs) ++ (zeros (z - length vs) ++ back)
 laid-over xs vs back z n e h =
     let a : take n (xs ++ (zeros z ++ back)) ≡ xs = take-at xs (zeros z ++ back) n e in
     let b : take (length vs) vs ≡ vs = take-all (length vs) vs (omega arith) in
@@ -58,6 +58,19 @@ laid-padded : (xs vs back : List ℕ) (z n k : ℕ) → length xs ≡ n → leng
 laid-padded xs vs back z n k e h =
     let less : z - length vs - k ≡ z - (length vs + k) = omega arith in
     laid-over xs vs back z n e (omega arith) ∙ rw (zeros-split (z - length vs) k (omega arith), less) (simp append-assoc)
+
+-- cells laid over the last zeros
+pub laid-last : (xs vs back : List ℕ) (z n : ℕ) → length vs ≤ z → n ≡ length xs + (z - length vs) → paste (xs ++ (zeros z ++ back)) n vs (length vs) ≡ xs ++ (zeros (z - length vs) ++ (vs ++ back))
+laid-last xs vs back z n h e =
+    let k : ℕ = z - length vs in
+    let rest : z - k ≡ length vs = omega arith in
+    let split : xs ++ (zeros z ++ back) ≡ (xs ++ zeros k) ++ (zeros (length vs) ++ back) =
+    rw (zeros-split z k (omega arith), rest) (simp append-assoc) in
+    let none : zeros (length vs - length vs) ++ back ≡ back = ap (λ (j : ℕ). zeros j ++ back) {x = length vs - length vs} {y = 0} (omega arith) in
+    ap (λ (l : List ℕ). paste l n vs (length vs)) split
+    ∙ laid-over (xs ++ zeros k) vs back (length vs) n (omega (arith, length-append xs (zeros k), zeros-length k)) (omega arith)
+    ∙ ap (λ (l : List ℕ). ((xs ++ zeros k) ++ vs) ++ l) none
+    ∙ simp append-assoc
 
 -- one more record of `w` cells, `cells` being those of each: the first of them are written, and `k` zeros behind them are there
 module _ {A : Type 0} (cells : A → List ℕ) (xs : List A) (x : A) (array array′ back vs : List ℕ) (n z k : ℕ) where
@@ -264,27 +277,18 @@ no-room script nodes types lists p f more rooms few e = either (isGoing (p .stat
 
 -- ---- cells under construction
 
--- the cell before the far end's is the last zero
-last-zero : (cells back : List ℕ) (z v n : ℕ) → 1 ≤ z → n ≡ length cells + (z - 1) → set (cells ++ (zeros z ++ back)) n v ≡ cells ++ (zeros (z - 1) ++ (v ∷ back))
-last-zero cells back z v n h e =
-    let one : zeros (z - (z - 1)) ≡ 0 ∷ [] = ap zeros {x = z - (z - 1)} {y = 1} (omega arith) in
-    let split : cells ++ (zeros z ++ back) ≡ (cells ++ zeros (z - 1)) ++ (0 ∷ back) =
-    rw (zeros-split z (z - 1) (omega arith), one) (simp append-assoc) in
-    ap (λ (l : List ℕ). set l n v) split
-    ∙ set-at (cells ++ zeros (z - 1)) 0 back v n (omega (arith, length-append cells (zeros (z - 1)), zeros-length (z - 1)))
-    ∙ append-assoc cells (zeros (z - 1)) (v ∷ back)
-
-abbrev pub pushed : Used → Used
-pushed u = record { nodes = u .nodes; values = u .values; types = u .types; docs = u .docs; cells = u .cells; scratch = u .scratch + 1 }
+abbrev pub pushed : Used → ℕ → Used
+pushed u n = record { nodes = u .nodes; values = u .values; types = u .types; docs = u .docs; cells = u .cells; scratch = u .scratch + n }
 
 lists-length : {lists : List ℕ} {c k : ℕ} {cells stack : List ℕ} → ListsLaid lists c k cells stack → c + k ≤ length lists
 lists-length {lists} {c} {k} {cells} {stack} h =
     omega (arith, h .counted, h .stacked, ap length (h .laid) ∙ length-append cells _, length-append (zeros (length lists - (c + k))) (reverse stack), length-reverse stack)
 
-cell-pushed : (script nodes types lists lists′ : List ℕ) (p : Parser) (v : ℕ) → isGoing (p .status) ≡ true → lists′ ≡ set lists (length lists - 1 - p .used .scratch) v
-    → Pushes script 2 (v ∷ []) (code nodes types lists p) (code nodes types lists′ (withUsed p (pushed (p .used))))
+-- cells that are written the last first over the last zeros are pushed
+cells-pushed : (script nodes types lists lists′ vs : List ℕ) (p : Parser) → isGoing (p .status) ≡ true → lists′ ≡ paste lists (length lists - (p .used .scratch + length vs)) vs (length vs)
+    → Pushes script (2 * length vs) (reverse vs) (code nodes types lists p) (code nodes types lists′ (withUsed p (pushed (p .used) (length vs))))
 unfolding pure
-cell-pushed script nodes types lists lists′ p v g e = record {
+cells-pushed script nodes types lists lists′ vs p g e = record {
   sticky = λ f. absurd (true≢false g f);
   monotone = omega arith;
   progress = λ _. omega arith;
@@ -292,14 +296,15 @@ cell-pushed script nodes types lists lists′ p v g e = record {
       let u : Used = p .used in
       let laid = h .related .lists in
       let credit = h .related .credit in
+      let z : ℕ = length lists - (u .cells + u .scratch) in
+      let at : ℕ = length lists - (u .scratch + length vs) in
       let fit : u .cells + u .scratch ≤ length lists = lists-length laid in
-      let same : length lists′ ≡ length lists = ap length e ∙ length-set lists _ v in
       let some : 1 ≤ length (m .left) = left-some (h .related) in
-      let z : 1 ≤ length lists - (u .cells + u .scratch) = omega (arith, credit .room, h .related .lent .lists) in
-      let i : length lists - 1 - u .scratch ≡ length (m .arena .cells) + (length lists - (u .cells + u .scratch) - 1) = omega (arith, laid .counted) in
-      let new : lists′ ≡ m .arena .cells ++ (zeros (length lists - (u .cells + u .scratch) - 1) ++ (v ∷ reverse stack)) =
-      e ∙ ap (λ (l : List ℕ). set l (length lists - 1 - u .scratch) v) (laid .laid) ∙ last-zero (m .arena .cells) (reverse stack) _ v _ z i in
-      let k : length lists - (u .cells + u .scratch) - 1 ≡ length lists′ - (u .cells + (u .scratch + 1)) = omega arith in (
+      let room : length vs ≤ z = omega (arith, credit .room, h .related .lent .lists) in
+      let same : length lists′ ≡ length lists = ap length e ∙ length-paste lists at vs (length vs) (omega arith) (omega arith) in
+      let new : lists′ ≡ m .arena .cells ++ (zeros (z - length vs) ++ (vs ++ reverse stack)) =
+      e ∙ ap (λ (l : List ℕ). paste l at vs (length vs)) (laid .laid) ∙ laid-last (m .arena .cells) vs (reverse stack) z at room (omega (arith, laid .counted)) in
+      let k : z - length vs ≡ length lists′ - (u .cells + (u .scratch + length vs)) = omega arith in (
         tt,
         record {
           status = h .status;
@@ -310,9 +315,9 @@ cell-pushed script nodes types lists lists′ p v g e = record {
             nodes = h .related .nodes;
             types = h .related .types;
             lists = record {
-              laid = new ∙ rw (k, reverse-append stack (v ∷ [])) refl;
+              laid = new ∙ rw (k, reverse-append stack (reverse vs), reverse-reverse vs) refl;
               counted = laid .counted;
-              stacked = omega (arith, laid .stacked, length-append stack (v ∷ []));
+              stacked = omega (arith, laid .stacked, length-append stack (reverse vs), length-reverse vs);
             };
             credit = record { records = omega (arith, credit .records); numbers = omega (arith, credit .numbers); room = omega (arith, credit .room) };
             lent = record { small = h .related .lent .small; nodes = h .related .lent .nodes; types = h .related .lent .types; lists = omega (arith, same, h .related .lent .lists) };
@@ -321,11 +326,11 @@ cell-pushed script nodes types lists lists′ p v g e = record {
       );
 }
 
-pub pushing : (script nodes types lists lists′ : List ℕ) {p q : Parser} {u : Used} (v : ℕ) → isGoing (p .status) ≡ true → u ≡ p .used → q ≡ withUsed p (pushed u) → lists′ ≡ set lists (length lists - 1 - u .scratch) v
-    → Pushes script 2 (v ∷ []) (code nodes types lists p) (code nodes types lists′ q)
-pushing script nodes types lists lists′ {p} v g e f = lent p pushed
-    (λ (u : Used) (q : Parser). lists′ ≡ set lists (length lists - 1 - u .scratch) v → Pushes script 2 (v ∷ []) (code nodes types lists p) (code nodes types lists′ q))
-    e f (cell-pushed script nodes types lists lists′ p v g)
+pub pushing : (script nodes types lists lists′ vs : List ℕ) {p q : Parser} {u : Used} → isGoing (p .status) ≡ true → u ≡ p .used → q ≡ withUsed p (pushed u (length vs)) → lists′ ≡ paste lists (length lists - (u .scratch + length vs)) vs (length vs)
+    → Pushes script (2 * length vs) (reverse vs) (code nodes types lists p) (code nodes types lists′ q)
+pushing script nodes types lists lists′ vs {p} g e f = lent p (λ (u : Used). pushed u (length vs))
+    (λ (u : Used) (q : Parser). lists′ ≡ paste lists (length lists - (u .scratch + length vs)) vs (length vs) → Pushes script (2 * length vs) (reverse vs) (code nodes types lists p) (code nodes types lists′ q))
+    e f (cells-pushed script nodes types lists lists′ vs p g)
 
 -- ---- a finished list
 

@@ -19,7 +19,7 @@ use Rattle.parser_base.specs.declared.Parser.{Parser}
 use Rattle.parser_base.specs.declared.Used.{Used}
 use Rattle.parser_base.proofs.Steps.{as-rule, either, true≢false, left-some, current-represents, represents-less}
 use Rattle.parser_base.proofs.Leaves.{lent, failing-at}
-use Rattle.parser_base.proofs.Cells.{zeros-length, zeros-split, laid-over, flatten-snoc, map-snoc, types-length}
+use Rattle.parser_base.proofs.Cells.{zeros-length, laid-last, flatten-snoc, map-snoc, types-length}
 use Rattle.parser_base.proofs.Rounds.{ifKind-is-yes, ifKind-is-no}
 
 pub docs-length : (ds : List Token) → length (docCells ds) ≡ 3 * length ds
@@ -52,19 +52,6 @@ low-low t =
     let a : lowToken (lowToken t) .start ≡ lowToken t .start = omega arith in
     let b : lowToken (lowToken t) .len ≡ lowToken t .len = omega arith in
     λ i. record { kind = t .kind; start = a i; len = b i }
-
--- cells laid over the last zeros
-laid-last : (xs vs back : List ℕ) (z n : ℕ) → length vs ≤ z → n ≡ length xs + (z - length vs) → paste (xs ++ (zeros z ++ back)) n vs (length vs) ≡ xs ++ (zeros (z - length vs) ++ (vs ++ back))
-laid-last xs vs back z n h e =
-    let k : ℕ = z - length vs in
-    let rest : z - k ≡ length vs = omega arith in
-    let split : xs ++ (zeros z ++ back) ≡ (xs ++ zeros k) ++ (zeros (length vs) ++ back) =
-    rw (zeros-split z k (omega arith), rest) (simp append-assoc) in
-    let none : zeros (length vs - length vs) ++ back ≡ back = ap (λ (j : ℕ). zeros j ++ back) {x = length vs - length vs} {y = 0} (omega arith) in
-    ap (λ (l : List ℕ). paste l n vs (length vs)) split
-    ∙ laid-over (xs ++ zeros k) vs back (length vs) n (omega (arith, length-append xs (zeros k), zeros-length k)) (omega arith)
-    ∙ ap (λ (l : List ℕ). ((xs ++ zeros k) ++ vs) ++ l) none
-    ∙ simp append-assoc
 
 doc-kept : (script nodes types types′ lists : List ℕ) (p : Parser) (t : Token) (n : ℕ) (vs : List ℕ) → isGoing (p .status) ≡ true
     → vs ≡ lowToken t .len ∷ lowToken t .start ∷ lowToken t .kind ∷ []

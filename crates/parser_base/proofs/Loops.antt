@@ -12,7 +12,7 @@ use Rattle.lex.specs.declared.diagnostic.Diagnostic.{Diagnostic}
 use Rattle.rules.specs.Tree.{State, Result, ok, err}
 use Rattle.rules.specs.Combinators.{Rule, _>>=_, pure, current, ifKind, ControlFlow, continue, break, iterate, loop, members, listUntil}
 use Rattle.rules.specs.declared.Run.{Run}
-use Rattle.parser_base.specs.Represents.{Code, code, going, isGoing, ahead, Represents, FailedAt}
+use Rattle.parser_base.specs.Represents.{Code, going, isGoing, ahead, Represents, FailedAt}
 use Rattle.parser_base.specs.Refines.{Ends, kept, grown, allGrown, Collected, Refines, ReadsMember, Lists, memberFollows, followsBy, closed}
 use Rattle.parser_base.specs.declared.Parser.{Parser}
 use Rattle.parser_base.proofs.Steps.{lists-after, either, true≢false, represents-going, represents-less, failed-fails, current-represents, left-some}

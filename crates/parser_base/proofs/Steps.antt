@@ -14,7 +14,7 @@ use Rattle.rules.specs.Tree.{Notes, State, Result, ok, err}
 use Rattle.rules.specs.Combinators.{Rule, _>>=_, _>>_, pure, current, cur, byKind, ifKind, failExpecting}
 use Rattle.lex.specs.declared.tok.Token.{Token}
 use Rattle.rules.specs.Promise.{maxBytes}
-use Rattle.parser_base.specs.Represents.{low, lowToken, InRange, Code, code, going, isGoing, from, ahead, Related, Represents, FailedAt}
+use Rattle.parser_base.specs.Represents.{low, lowToken, InRange, Code, going, isGoing, from, ahead, Related, Represents, FailedAt}
 use Rattle.parser_base.specs.Refines.{Ends, kept, allGrown, Collected, Refines, Refuses, Pushes, Lists}
 
 -- ---- room that is left over
@@ -207,18 +207,8 @@ module _ {A : Type 0} {script : List ℕ} {k : ℕ} {Q : A → Type 0} {grow : A
 
 -- ---- cells, and lists
 
-pub push-as : {script : List ℕ} {l v w : ℕ} {s s′ : Code} → v ≡ w → Pushes script l (v ∷ []) s s′ → Pushes script l (w ∷ []) s s′
-push-as {script} {l} {s = s} {s′} e p = subst (λ (n : ℕ). Pushes script l (n ∷ []) s s′) e p
-
-pub push-then : {script : List ℕ} {l l₂ : ℕ} {s s₁ s₂ : Code} (a b : List ℕ) → Pushes script l a s s₁ → Pushes script l₂ b s₁ s₂ → Pushes script (l + l₂) (a ++ b) s s₂
-unfolding pure
-push-then {l = l} {l₂} {s} {s₁} {s₂} a b p q = record {
-  sticky = λ e. let e₁ : s₁ ≡ s = p .sticky e in q .sticky (ap going e₁ ∙ e) ∙ e₁;
-  monotone = omega (arith, p .monotone, q .monotone);
-  progress = λ e. omega (arith, p .monotone, q .monotone);
-  simulates = λ R L stack m h.
-      (tt, rw (← append-assoc stack a b) (q .simulates R L (stack ++ a) m (represents-less _ _ (omega arith) (omega arith) (p .simulates R (L + l₂) stack m (represents-less _ _ (omega arith) (omega arith) h) .1)) .1));
-}
+pub push-as : {script : List ℕ} {l : ℕ} {vs ws : List ℕ} {s s′ : Code} → vs ≡ ws → Pushes script l vs s s′ → Pushes script l ws s s′
+push-as {script} {l} {s = s} {s′} e p = subst (λ (cells : List ℕ). Pushes script l cells s s′) e p
 
 module _ {A B : Type 0} {script : List ℕ} {x : Rule A} {v : A} {run : B} {d r₁ l₁ d₂ r₂ l₂ mark n : ℕ} {s s₁ s₂ : Code} (y : List (List ℕ) → Rule B) where
   pub lists-then : Refines script 0 0 x (λ a. a ≡ v) kept d r₁ l₁ s s₁ → Lists script y run d₂ r₂ l₂ mark n s₁ s₂ → Lists script (λ xs. x >> y xs) run (d + d₂) (r₁ + r₂) (l₁ + l₂) mark n s s₂

@@ -18,7 +18,7 @@ ghost use Prim.Native.Nat.{ℕ, _+_, _*_, _-_, _≤_, _<_};
 ghost use lib.ListN.{length, replicate};
 ghost use lib.Seq.{paste};
 ghost use Rattle.rules.specs.Layout.{nodeWidth, padded, nodeCells, typeCells};
-ghost use Rattle.rules.specs.Combinators.{continue, atToken, advance, expect, expectIdent, rejectKind, pushNode, pushNodeAnd, pushType, allocSlice, tokenCells, runCells, keepDoc, collectDocs, takeDocs};
+ghost use Rattle.rules.specs.Combinators.{continue, atToken, advance, expect, expectIdent, rejectKind, pushNode, pushNodeAnd, pushType, allocSlice, tokenCells, keepDoc, collectDocs, takeDocs};
 ghost use Rattle.rules.specs.declared.Node.the-variants as N;
 ghost use Rattle.parser_base.specs.Represents.{parserOf, withNext, withUsed, withStatus, code, isGoing, low, lowToken, lowType, lowNode};
 ghost use Rattle.parser_base.specs.Refines.{Refines, kept, Takes, Refuses, Pushes, Lists, failAt, noDocsWait, failed, tokenAt, hasRoom, memberFollows, docFollows, closed};
@@ -49,8 +49,6 @@ pub struct Parser {
 }
 
 impl Parser {
-    pub const MAX_BYTES: usize = 65536;
-
     pub const MAX_LEVELS: usize = 128;
 }
 
@@ -122,7 +120,7 @@ pub fn error(p: &[u32; 17]) -> Diagnostic
 }
 
 // The low 24 bits. The numbers of a script's tokens have no others.
-fn low(n: usize) -> u32
+pub fn low(n: usize) -> u32
     ensures { λ r. ⌜ r ≡ low n ⌝ }
 {
     (n % 16777216) as u32
@@ -847,19 +845,19 @@ pub fn push_let(nodes: &mut [u32], p: &mut [u32; 17], docs: Run, name: Token, rh
 
 // ---- lists
 
-// A cell of a list under construction, at the far end of the list table.
-pub fn push_cell(lists: &mut [u32], p: &mut [u32; 17], v: u32)
-    ensures { λ r. ⌜ ((script nodes types : List ℕ) → Pushes script 2 (v ∷ []) (code nodes types (now (lists .entry)) (parserOf (now (p .entry)))) (code nodes types (now (lists .exit)) (parserOf (now (p .exit))))) ⌝ }
+// Cells of a list under construction, at the far end of the list table, where they lie in reverse: they are given the last first.
+pub fn push_cells(lists: &mut [u32], p: &mut [u32; 17], cells: &[u32])
+    ensures { λ r. ⌜ ((script nodes types : List ℕ) → Pushes script (2 * length (now (cells .entry))) (reverse (now (cells .entry))) (code nodes types (now (lists .entry)) (parserOf (now (p .entry)))) (code nodes types (now (lists .exit)) (parserOf (now (p .exit))))) ⌝ }
 {
     if !going(p) {
         return;
     }
     let u = get_used(p);
-    let n = u.scratch as usize;
-    if 65536 * 8 <= u.scratch {
+    let n = u.scratch as usize + cells.len();
+    if 65536 * 8 < n {
         return;
     }
-    if lists.len() <= n {
+    if lists.len() < n {
         return;
     }
     set_used(
@@ -870,34 +868,32 @@ pub fn push_cell(lists: &mut [u32], p: &mut [u32; 17], v: u32)
             types: u.types,
             docs: u.docs,
             cells: u.cells,
-            scratch: u.scratch + 1,
+            scratch: n as u32,
         },
     );
-    let at = lists.len() - 1 - n;
-    lists[at] = v;
+    put(lists, lists.len() - n, cells);
+}
+
+pub fn push_cell(lists: &mut [u32], p: &mut [u32; 17], v: u32)
+    ensures { λ r. ⌜ ((script nodes types : List ℕ) → Pushes script 2 (v ∷ []) (code nodes types (now (lists .entry)) (parserOf (now (p .entry)))) (code nodes types (now (lists .exit)) (parserOf (now (p .exit))))) ⌝ }
+{
+    let cells = [v];
+    push_cells(lists, p, &cells);
 }
 
 pub fn push_token(lists: &mut [u32], p: &mut [u32; 17], t: Token)
     ensures { λ r. ⌜ ((script nodes types : List ℕ) → Pushes script 6 (tokenCells (lowToken t)) (code nodes types (now (lists .entry)) (parserOf (now (p .entry)))) (code nodes types (now (lists .exit)) (parserOf (now (p .exit))))) ⌝ }
 {
-    push_cell(lists, p, t.kind);
-    push_cell(lists, p, low(t.start));
-    push_cell(lists, p, low(t.len));
-}
-
-pub fn push_run(lists: &mut [u32], p: &mut [u32; 17], r: Run)
-    ensures { λ q. ⌜ ((script nodes types : List ℕ) → Pushes script 4 (runCells r) (code nodes types (now (lists .entry)) (parserOf (now (p .entry)))) (code nodes types (now (lists .exit)) (parserOf (now (p .exit))))) ⌝ }
-{
-    push_cell(lists, p, r.start);
-    push_cell(lists, p, r.len);
+    let cells = [low(t.len), low(t.start), t.kind];
+    push_cells(lists, p, &cells);
 }
 
 // A name, and the number of the type or node that goes with it.
 pub fn push_named(lists: &mut [u32], p: &mut [u32; 17], name: Token, id: u32)
     ensures { λ r. ⌜ ((script nodes types : List ℕ) → Pushes script 8 (tokenCells (lowToken name) ++ (id ∷ [])) (code nodes types (now (lists .entry)) (parserOf (now (p .entry)))) (code nodes types (now (lists .exit)) (parserOf (now (p .exit))))) ⌝ }
 {
-    push_token(lists, p, name);
-    push_cell(lists, p, id);
+    let cells = [id, low(name.len), low(name.start), name.kind];
+    push_cells(lists, p, &cells);
 }
 
 // The cells of a list move from the far end, where they lie in reverse, to the front.

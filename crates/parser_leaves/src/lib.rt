@@ -9,11 +9,10 @@ use parser_base::fail_at;
 use parser_base::get_used;
 use parser_base::going;
 use parser_base::kind;
-use parser_base::push_cell;
+use parser_base::low;
+use parser_base::push_cells;
 use parser_base::push_field;
 use parser_base::push_node;
-use parser_base::push_run;
-use parser_base::push_token;
 use parser_base::push_token_node;
 use parser_types::parse_type;
 use rules::Node;
@@ -274,9 +273,8 @@ pub struct CasesRead {
 pub fn push_case(lists: &mut [u32], p: &mut [u32; 17], t: Token, n: NodeId, body: Run)
     ensures { λ r. ⌜ ((script nodes types : List ℕ) → Pushes script 12 (tokenCells (lowToken t) ++ (n .0 ∷ runCells body)) (code nodes types (now (lists .entry)) (parserOf (now (p .entry)))) (code nodes types (now (lists .exit)) (parserOf (now (p .exit))))) ⌝ }
 {
-    push_token(lists, p, t);
-    push_cell(lists, p, n.0);
-    push_run(lists, p, body);
+    let cells = [body.len, body.start, n.0, low(t.len), low(t.start), t.kind];
+    push_cells(lists, p, &cells);
 }
 
 pub fn match_node(nodes: &mut [u32], p: &mut [u32; 17], t: Token, cases: Run, d: Default) -> NodeId

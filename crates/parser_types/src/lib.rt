@@ -11,11 +11,11 @@ use parser_base::expect_ident;
 use parser_base::fail_expecting;
 use parser_base::get_used;
 use parser_base::kind;
+use parser_base::low;
 use parser_base::member_follows;
-use parser_base::push_cell;
+use parser_base::push_cells;
 use parser_base::push_named;
 use parser_base::push_node;
-use parser_base::push_run;
 use parser_base::push_token;
 use parser_base::push_token_node;
 use parser_base::push_type;
@@ -30,7 +30,7 @@ use rules::TypeExprId;
 ghost use mathlib.Core.Path.{_≡_};
 ghost use mathlib.Core.List.{List, [], _∷_, _++_};
 ghost use Prim.Native.Nat.{ℕ, _+_, _≤_, _<_};
-ghost use Rattle.lex.specs.Kind.{kGreaterThan, kCurlyRight};
+ghost use Rattle.lex.specs.Kind.{kCurlyRight};
 ghost use Rattle.rules.specs.Combinators.{listUntil, tokenCells, runCells};
 ghost use Rattle.rules.specs.Rules.{openAngle, atomType, foreignType, optionType, arrayType, recordType, typedName, suppliedVoid, fnReturn, externReturn, parseArgs, importPath, bracketedPaths, onePath, importPaths, parseImport, externFn, parseExtern, externName};
 ghost use Rattle.parser_base.specs.Represents.{parserOf, code, lowToken};
@@ -317,10 +317,17 @@ fn push_extern_fn(
 )
     ensures { λ q. ⌜ ((script nodes types : List ℕ) → Pushes script 16 (runCells docs ++ tokenCells (lowToken name) ++ runCells args ++ (id .0 ∷ [])) (code nodes types (now (lists .entry)) (parserOf (now (p .entry)))) (code nodes types (now (lists .exit)) (parserOf (now (p .exit))))) ⌝ }
 {
-    push_run(lists, p, docs);
-    push_token(lists, p, name);
-    push_run(lists, p, args);
-    push_cell(lists, p, id.0);
+    let cells = [
+        id.0,
+        args.len,
+        args.start,
+        low(name.len),
+        low(name.start),
+        name.kind,
+        docs.len,
+        docs.start,
+    ];
+    push_cells(lists, p, &cells);
 }
 
 fn extern_fn(script: &[u8], types: &mut [u32], lists: &mut [u32], p: &mut [u32; 17], levels: usize)

@@ -1,6 +1,6 @@
 -- What the definitions say of the cases that `reading_cases` reads, in their order: written by tools/cases, with the program's stdin and stdout.
 use mathlib.Core.Path.{_≡_, refl}
-use mathlib.Core.List.{List, [], _∷_, flatten}
+use mathlib.Core.List.{[], _∷_, flatten}
 use Prim.Native.Nat.{ℕ}
 use lib.ListN.{replicate}
 use Rattle.lex.specs.Bytes.{or}

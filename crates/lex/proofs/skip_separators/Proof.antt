@@ -9,7 +9,7 @@ use borrow.Rule.Slice.PartAt.{part-to-end}
 use borrow.Author.Needs.{needs}
 use Rattle.lex.specs.Lex.{beginsComment, skipped}
 use Rattle.lex.proofs.Laws.{before-le}
-use Rattle.lex.proofs.Skips.{skip-end, skip-blank, skip-stop, skip-comment, line-pos}
+use Rattle.lex.proofs.Skips.{skip-end, skip-blank, skip-spaces, skip-stop, skip-comment, line-pos}
 use Rattle.lex.proofs.skip_separators.Statement.{statement}
 use Rattle.lex.proofs.skip_separators.Tie as tie
 
@@ -21,20 +21,18 @@ abbrev μ-loop : tie.MeasureT-loop
 
 loop-again : tie.Need-loop-again Inv-loop μ-loop
 loop-again c =
-    let c3 = c .before .before .before in
-    let c6 = c3 .before .before .before in
-    skip-blank (c6 .args .script .now) _ _ (c3 .before .loop .inv) (c3 .loop-test .taken) (sym (c .before .is-ws .ensures) ∙ c .if1 .taken)
+    let c4 = c .before .before .before .before in
+    let c5 = c4 .before in
+    let c7 = c5 .before .before in
+    let blank = skip-blank (c7 .args .script .now) _ _ (c5 .loop .inv) (c4 .loop-test .taken) (sym (c .before .before .is-ws .ensures) ∙ c .before .if1 .taken) in
+    skip-spaces (c7 .args .script .now) _ _ blank _ (c .skip-byte .ensures)
 
-add-p-2 : tie.Need-add-p-2 Inv-loop μ-loop
-add-p-2 c =
+add-p : tie.Need-add-p Inv-loop μ-loop
+add-p c =
     let c9 = c .before .before .before .before .before .before .before .before .before in
     let c11 = c9 .before .before in
-    omega (
-      arith,
-      before-le 10 (drop (c9 .loop .p) (c11 .args .script .now)),
-      length-drop (c9 .loop .p) (c11 .args .script .now),
-      rw part-to-end at (c .line-end .ensures),
-    )
+    let s = c11 .args .script .now in
+    omega (arith, before-le 10 (drop (c9 .loop .p) s), length-drop (c9 .loop .p) s, rw part-to-end at (c .line-end .ensures))
 
 loop-less-2 : tie.Need-loop-less-2 Inv-loop μ-loop
 loop-less-2 c =
@@ -43,12 +41,8 @@ loop-less-2 c =
     let c8 = c4 .before .before .before .before in
     let c9 = c8 .before in
     let c11 = c9 .before .before in
-    omega (
-      arith,
-      line-pos (c11 .args .script .now) (c9 .loop .p) _ (c8 .loop-test .taken)
-          (ap (beginsComment _) (sym (c4 .peek .ensures)) ∙ sym (c3 .begins-comment .ensures) ∙ c .before .before .if2 .taken),
-      rw part-to-end at (c .line-end .ensures),
-    )
+    let comment = ap (beginsComment _) (sym (c4 .peek .ensures)) ∙ sym (c3 .begins-comment .ensures) ∙ c .before .before .if2 .taken in
+    omega (arith, line-pos (c11 .args .script .now) (c9 .loop .p) _ (c8 .loop-test .taken) comment, rw part-to-end at (c .line-end .ensures))
 
 loop-again-2 : tie.Need-loop-again-2 Inv-loop μ-loop
 loop-again-2 c =
@@ -59,8 +53,8 @@ loop-again-2 c =
     let c8 = c6 .before .before in
     let c9 = c8 .before in
     let c11 = c9 .before .before in
-    skip-comment (c11 .args .script .now) _ _ (c9 .loop .inv) (c8 .loop-test .taken) (sym (c6 .is-ws .ensures) ∙ c5 .if1 .left)
-    (ap (beginsComment _) (sym (c4 .peek .ensures)) ∙ sym (c3 .begins-comment .ensures) ∙ c .before .before .if2 .taken) _ (rw part-to-end at (c .line-end .ensures))
+    let comment = ap (beginsComment _) (sym (c4 .peek .ensures)) ∙ sym (c3 .begins-comment .ensures) ∙ c .before .before .if2 .taken in
+    skip-comment (c11 .args .script .now) _ _ (c9 .loop .inv) (c8 .loop-test .taken) (sym (c6 .is-ws .ensures) ∙ c5 .if1 .left) comment _ (rw part-to-end at (c .line-end .ensures))
 
 returns : tie.Need-returns Inv-loop μ-loop
 returns c =
@@ -69,8 +63,8 @@ returns c =
     let c6 = c4 .before .before in
     let c7 = c6 .before in
     let c9 = c7 .before .before in
-    skip-stop (c9 .args .script .now) _ _ (c7 .loop .inv) (c6 .loop-test .taken) (sym (c4 .is-ws .ensures) ∙ c3 .if1 .left)
-    (ap (beginsComment _) (sym (c .before .before .peek .ensures)) ∙ sym (c .before .begins-comment .ensures) ∙ c .if2 .left)
+    let comment = ap (beginsComment _) (sym (c .before .before .peek .ensures)) ∙ sym (c .before .begins-comment .ensures) ∙ c .if2 .left in
+    skip-stop (c9 .args .script .now) _ _ (c7 .loop .inv) (c6 .loop-test .taken) (sym (c4 .is-ws .ensures) ∙ c3 .if1 .left) comment
 
 returns-2 : tie.Need-returns-2 Inv-loop μ-loop
 returns-2 c =
@@ -87,6 +81,7 @@ skip-separators-spec =
     (λ c. search needs)
     (λ c κs. search needs)
     (λ c. search needs)
+    (λ c κs. search needs)
     (λ c. search needs)
     loop-again
     (λ c. search needs)
@@ -96,7 +91,7 @@ skip-separators-spec =
     (λ c. search needs)
     (λ c. search needs)
     (λ c κs. search needs)
-    add-p-2
+    add-p
     loop-less-2
     loop-again-2
     returns

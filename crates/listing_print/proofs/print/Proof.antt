@@ -1,5 +1,5 @@
 -- `listing_print::print` meets its contract: the text lies in the buffer, which keeps its length.
-use mathlib.Core.Path.{_≡_, _∙_, ap, sym}
+use mathlib.Core.Path.{_∙_, ap, sym}
 use native.Mathlib.Omega.{arith}
 use lib.Seq.{length-take-le}
 use borrow.Author.Needs.{needs}

@@ -49,7 +49,7 @@ returns-3 c =
     let clear-left = c .before .before .before .before .before .before .before .before .before .before .clear-left in
     let if2 = c .before .before .before .before .before .before .before .before .before .before .before .before .before .before .before .before .before .if2 in
     let going = c .before .before .before .before .before .before .before .before .before .before .before .before .before .before .before .before .before .before .going in
-    strict-error (args .script .now) (args .nodes .now) (args .types .now) (args .lists .now) (args .roots .now) (args .diagnostics .now) _ _ _ _ _ (accepted (parse stageOne) _ _ _ (refusal .ensures) (if1 .left)) (parse-roots .ensures) (omega (arith, clear-tree .kept, clear-from .kept, parse-roots .kept)) (omega (arith, clear-tree .kept, clear-from .kept, parse-roots .kept)) (omega (arith, clear-tree .kept, clear-from .kept, parse-roots .kept)) (omega (arith, clear-tree .kept, clear-from .kept, parse-roots .kept)) _ _ _ _ _ (left-cleared (get-used2 .ensures) (clear-left .ensures .0) (clear-left .ensures .1) (clear-left .ensures .2)) (clear-left .ensures .3) (cleared-all (args .diagnostics .now) (clear-from .ensures)) (sym (going .ensures) ∙ if2 .left) (error .ensures)
+    strict-error (args .script .now) (args .nodes .now) (args .types .now) (args .lists .now) (args .roots .now) (args .diagnostics .now) _ _ _ _ _ (accepted (parse stageOne) _ _ _ (refusal .ensures) (if1 .left)) (parse-roots .ensures) (omega (arith, clear-tree .kept, clear-from .kept, parse-roots .kept)) (omega (arith, clear-tree .kept, clear-from .kept, parse-roots .kept)) (omega (arith, clear-tree .kept, clear-from .kept, parse-roots .kept)) (omega (arith, clear-tree .kept, clear-from .kept, parse-roots .kept)) _ _ _ _ _ (left-cleared (get-used2 .ensures) (clear-left .ensures .0) (clear-left .ensures .1) (clear-left .ensures .2) (clear-left .ensures .3)) (cleared-all (args .diagnostics .now) (clear-from .ensures)) (sym (going .ensures) ∙ if2 .left) (error .ensures)
 
 same-length : tie.Need-same-length
 same-length c =

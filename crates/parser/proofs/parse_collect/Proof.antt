@@ -5,7 +5,7 @@ use native.Mathlib.Omega.{arith}
 use Rattle.rules.specs.Rules.{stageOne}
 use Rattle.rules.specs.Parse.{parseCollect}
 use Rattle.parser.proofs.Clear.{cleared-all}
-use Rattle.parser.proofs.Promised.{refused, accepted, blank-again, blank-of, room-of, collect-tree, collect-error}
+use Rattle.parser.proofs.Promised.{left-cleared, refused, accepted, blank-again, blank-of, room-of, collect-tree, collect-error}
 use Rattle.parser.proofs.parse_collect.Statement.{statement}
 use Rattle.parser.proofs.parse_collect.Tie as tie
 
@@ -39,18 +39,19 @@ returns-2 c =
 
 returns-3 : tie.Need-returns-3
 returns-3 c =
+    let get-used2 = c .before .before .before .before .before .before .before .before .before .before .before .before .before .before .before .before .get-used2 in
     let error = c .error in
-    let args = c .before .before .before .before .before .before .before .before .before .before .before .before .before .before .before .before .before .before .before .before .before .before .before .before .before .before .before .before .before .before .before .before .before .before .before .before .before .before .before .before .before .before .before .before .before .before .before .before .before .before .before .before .before .before .before .before .before .before .before .before .before .before .before .before .args in
-    let refusal = c .before .before .before .before .before .before .before .before .before .before .before .before .before .before .before .before .before .before .before .before .before .before .before .before .before .before .before .before .before .before .before .before .before .before .before .before .before .before .before .before .before .before .before .before .before .before .before .before .before .before .before .before .before .before .before .before .before .refusal in
-    let if1 = c .before .before .before .before .before .before .before .before .before .before .before .before .before .before .before .before .before .before .before .before .before .before .before .before .before .before .before .before .before .before .before .before .before .before .before .before .before .before .before .before .before .before .before .before .before .before .before .before .before .before .before .before .before .before .before .before .if1 in
-    let parse-roots-collect = c .before .before .before .before .before .before .before .before .before .before .before .before .before .before .before .before .before .before .before .before .before .before .before .before .before .before .before .before .before .before .before .before .parse-roots-collect in
-    let clear-tree = c .before .before .before .before .before .before .before .before .before .before .before .before .before .before .before .before .before .before .before .before .before .before .before .before .before .before .before .before .before .before .before .before .before .before .before .before .before .before .before .before .before .before .before .before .before .before .before .before .before .before .before .clear-tree in
-    let clear-from = c .before .before .before .before .before .before .before .before .before .before .before .before .before .before .before .before .before .before .before .before .before .before .before .before .before .before .before .before .before .before .before .before .before .before .before .before .before .before .before .before .before .clear-from in
-    let clear-tree2 = c .before .before .before .before .before .before .before .before .before .before .before .before .before .before .clear-tree2 in
-    let clear-from2 = c .before .before .before .before .clear-from2 in
-    let if2 = c .before .before .before .before .before .before .before .before .before .before .before .before .before .before .before .before .before .before .before .if2 in
-    let going = c .before .before .before .before .before .before .before .before .before .before .before .before .before .before .before .before .before .before .before .before .going in
-    collect-error (args .script .now) (args .nodes .now) (args .types .now) (args .lists .now) (args .roots .now) (args .diagnostics .now) _ _ _ _ _ _ (accepted (parseCollect stageOne) _ _ _ (refusal .ensures) (if1 .left)) (parse-roots-collect .ensures) (omega (arith, clear-tree .kept, clear-from .kept, parse-roots-collect .kept)) (omega (arith, clear-tree .kept, clear-from .kept, parse-roots-collect .kept)) (omega (arith, clear-tree .kept, clear-from .kept, parse-roots-collect .kept)) (omega (arith, clear-tree .kept, clear-from .kept, parse-roots-collect .kept)) (omega (arith, clear-tree .kept, clear-from .kept, parse-roots-collect .kept)) _ _ _ _ _ (clear-tree2 .ensures .0) (clear-tree2 .ensures .1) (clear-tree2 .ensures .2) (clear-tree2 .ensures .3) (clear-from2 .ensures) (sym (going .ensures) ∙ if2 .left) (error .ensures)
+    let args = c .before .before .before .before .before .before .before .before .before .before .before .before .before .before .before .before .before .before .before .before .before .before .before .before .before .before .before .before .before .before .before .before .before .before .before .before .before .before .before .before .before .before .before .before .before .before .before .before .before .before .before .before .before .before .before .before .before .before .before .before .before .before .before .before .before .before .before .args in
+    let refusal = c .before .before .before .before .before .before .before .before .before .before .before .before .before .before .before .before .before .before .before .before .before .before .before .before .before .before .before .before .before .before .before .before .before .before .before .before .before .before .before .before .before .before .before .before .before .before .before .before .before .before .before .before .before .before .before .before .before .before .before .before .refusal in
+    let if1 = c .before .before .before .before .before .before .before .before .before .before .before .before .before .before .before .before .before .before .before .before .before .before .before .before .before .before .before .before .before .before .before .before .before .before .before .before .before .before .before .before .before .before .before .before .before .before .before .before .before .before .before .before .before .before .before .before .before .before .before .if1 in
+    let parse-roots-collect = c .before .before .before .before .before .before .before .before .before .before .before .before .before .before .before .before .before .before .before .before .before .before .before .before .before .before .before .before .before .before .before .before .before .before .before .parse-roots-collect in
+    let clear-tree = c .before .before .before .before .before .before .before .before .before .before .before .before .before .before .before .before .before .before .before .before .before .before .before .before .before .before .before .before .before .before .before .before .before .before .before .before .before .before .before .before .before .before .before .before .before .before .before .before .before .before .before .before .before .before .clear-tree in
+    let clear-from = c .before .before .before .before .before .before .before .before .before .before .before .before .before .before .before .before .before .before .before .before .before .before .before .before .before .before .before .before .before .before .before .before .before .before .before .before .before .before .before .before .before .before .before .before .clear-from in
+    let clear-left = c .before .before .before .before .before .before .before .before .before .before .before .before .before .before .before .clear-left in
+    let clear-ends = c .before .before .before .before .clear-ends in
+    let if2 = c .before .before .before .before .before .before .before .before .before .before .before .before .before .before .before .before .before .before .before .before .before .before .if2 in
+    let going = c .before .before .before .before .before .before .before .before .before .before .before .before .before .before .before .before .before .before .before .before .before .before .before .going in
+    collect-error (args .script .now) (args .nodes .now) (args .types .now) (args .lists .now) (args .roots .now) (args .diagnostics .now) _ _ _ _ _ _ (accepted (parseCollect stageOne) _ _ _ (refusal .ensures) (if1 .left)) (parse-roots-collect .ensures) (omega (arith, clear-tree .kept, clear-from .kept, parse-roots-collect .kept)) (omega (arith, clear-tree .kept, clear-from .kept, parse-roots-collect .kept)) (omega (arith, clear-tree .kept, clear-from .kept, parse-roots-collect .kept)) (omega (arith, clear-tree .kept, clear-from .kept, parse-roots-collect .kept)) (omega (arith, clear-tree .kept, clear-from .kept, parse-roots-collect .kept)) _ _ _ _ _ (left-cleared (get-used2 .ensures) (clear-left .ensures .0) (clear-left .ensures .1) (clear-left .ensures .2) (clear-left .ensures .3)) (clear-ends .ensures) (sym (going .ensures) ∙ if2 .left) (error .ensures)
 
 same-length : tie.Need-same-length
 same-length c =
@@ -89,48 +90,48 @@ same-length-5 c =
 
 same-length-6 : tie.Need-same-length-6
 same-length-6 c =
-    let clear-tree = c .before .before .before .before .before .before .before .before .before .before .before .before .before .before .before .before .before .before .before .before .before .before .before .before .before .before .before .before .before .before .before .before .before .before .before .before .before .before .before .before .before .before .before .before .before .before .before .before .before .before .before .clear-tree in
-    let clear-from = c .before .before .before .before .before .before .before .before .before .before .before .before .before .before .before .before .before .before .before .before .before .before .before .before .before .before .before .before .before .before .before .before .before .before .before .before .before .before .before .before .before .clear-from in
-    let parse-roots-collect = c .before .before .before .before .before .before .before .before .before .before .before .before .before .before .before .before .before .before .before .before .before .before .before .before .before .before .before .before .before .before .before .before .parse-roots-collect in
-    let clear-tree2 = c .before .before .before .before .before .before .before .before .before .before .before .before .before .before .clear-tree2 in
-    let clear-from2 = c .before .before .before .before .clear-from2 in
-    omega (arith, clear-tree .kept, clear-from .kept, parse-roots-collect .kept, clear-tree2 .kept, clear-from2 .kept)
+    let clear-tree = c .before .before .before .before .before .before .before .before .before .before .before .before .before .before .before .before .before .before .before .before .before .before .before .before .before .before .before .before .before .before .before .before .before .before .before .before .before .before .before .before .before .before .before .before .before .before .before .before .before .before .before .before .before .before .clear-tree in
+    let clear-from = c .before .before .before .before .before .before .before .before .before .before .before .before .before .before .before .before .before .before .before .before .before .before .before .before .before .before .before .before .before .before .before .before .before .before .before .before .before .before .before .before .before .before .before .before .clear-from in
+    let parse-roots-collect = c .before .before .before .before .before .before .before .before .before .before .before .before .before .before .before .before .before .before .before .before .before .before .before .before .before .before .before .before .before .before .before .before .before .before .before .parse-roots-collect in
+    let clear-left = c .before .before .before .before .before .before .before .before .before .before .before .before .before .before .before .clear-left in
+    let clear-ends = c .before .before .before .before .clear-ends in
+    omega (arith, clear-tree .kept, clear-from .kept, parse-roots-collect .kept, clear-left .kept, clear-ends .kept)
 
 same-length-7 : tie.Need-same-length-7
 same-length-7 c =
-    let clear-tree = c .before .before .before .before .before .before .before .before .before .before .before .before .before .before .before .before .before .before .before .before .before .before .before .before .before .before .before .before .before .before .before .before .before .before .before .before .before .before .before .before .before .before .before .before .before .before .before .before .before .before .before .clear-tree in
-    let clear-from = c .before .before .before .before .before .before .before .before .before .before .before .before .before .before .before .before .before .before .before .before .before .before .before .before .before .before .before .before .before .before .before .before .before .before .before .before .before .before .before .before .before .clear-from in
-    let parse-roots-collect = c .before .before .before .before .before .before .before .before .before .before .before .before .before .before .before .before .before .before .before .before .before .before .before .before .before .before .before .before .before .before .before .before .parse-roots-collect in
-    let clear-tree2 = c .before .before .before .before .before .before .before .before .before .before .before .before .before .before .clear-tree2 in
-    let clear-from2 = c .before .before .before .before .clear-from2 in
-    omega (arith, clear-tree .kept, clear-from .kept, parse-roots-collect .kept, clear-tree2 .kept, clear-from2 .kept)
+    let clear-tree = c .before .before .before .before .before .before .before .before .before .before .before .before .before .before .before .before .before .before .before .before .before .before .before .before .before .before .before .before .before .before .before .before .before .before .before .before .before .before .before .before .before .before .before .before .before .before .before .before .before .before .before .before .before .before .clear-tree in
+    let clear-from = c .before .before .before .before .before .before .before .before .before .before .before .before .before .before .before .before .before .before .before .before .before .before .before .before .before .before .before .before .before .before .before .before .before .before .before .before .before .before .before .before .before .before .before .before .clear-from in
+    let parse-roots-collect = c .before .before .before .before .before .before .before .before .before .before .before .before .before .before .before .before .before .before .before .before .before .before .before .before .before .before .before .before .before .before .before .before .before .before .before .parse-roots-collect in
+    let clear-left = c .before .before .before .before .before .before .before .before .before .before .before .before .before .before .before .clear-left in
+    let clear-ends = c .before .before .before .before .clear-ends in
+    omega (arith, clear-tree .kept, clear-from .kept, parse-roots-collect .kept, clear-left .kept, clear-ends .kept)
 
 same-length-8 : tie.Need-same-length-8
 same-length-8 c =
-    let clear-tree = c .before .before .before .before .before .before .before .before .before .before .before .before .before .before .before .before .before .before .before .before .before .before .before .before .before .before .before .before .before .before .before .before .before .before .before .before .before .before .before .before .before .before .before .before .before .before .before .before .before .before .before .clear-tree in
-    let clear-from = c .before .before .before .before .before .before .before .before .before .before .before .before .before .before .before .before .before .before .before .before .before .before .before .before .before .before .before .before .before .before .before .before .before .before .before .before .before .before .before .before .before .clear-from in
-    let parse-roots-collect = c .before .before .before .before .before .before .before .before .before .before .before .before .before .before .before .before .before .before .before .before .before .before .before .before .before .before .before .before .before .before .before .before .parse-roots-collect in
-    let clear-tree2 = c .before .before .before .before .before .before .before .before .before .before .before .before .before .before .clear-tree2 in
-    let clear-from2 = c .before .before .before .before .clear-from2 in
-    omega (arith, clear-tree .kept, clear-from .kept, parse-roots-collect .kept, clear-tree2 .kept, clear-from2 .kept)
+    let clear-tree = c .before .before .before .before .before .before .before .before .before .before .before .before .before .before .before .before .before .before .before .before .before .before .before .before .before .before .before .before .before .before .before .before .before .before .before .before .before .before .before .before .before .before .before .before .before .before .before .before .before .before .before .before .before .before .clear-tree in
+    let clear-from = c .before .before .before .before .before .before .before .before .before .before .before .before .before .before .before .before .before .before .before .before .before .before .before .before .before .before .before .before .before .before .before .before .before .before .before .before .before .before .before .before .before .before .before .before .clear-from in
+    let parse-roots-collect = c .before .before .before .before .before .before .before .before .before .before .before .before .before .before .before .before .before .before .before .before .before .before .before .before .before .before .before .before .before .before .before .before .before .before .before .parse-roots-collect in
+    let clear-left = c .before .before .before .before .before .before .before .before .before .before .before .before .before .before .before .clear-left in
+    let clear-ends = c .before .before .before .before .clear-ends in
+    omega (arith, clear-tree .kept, clear-from .kept, parse-roots-collect .kept, clear-left .kept, clear-ends .kept)
 
 same-length-9 : tie.Need-same-length-9
 same-length-9 c =
-    let clear-tree = c .before .before .before .before .before .before .before .before .before .before .before .before .before .before .before .before .before .before .before .before .before .before .before .before .before .before .before .before .before .before .before .before .before .before .before .before .before .before .before .before .before .before .before .before .before .before .before .before .before .before .before .clear-tree in
-    let clear-from = c .before .before .before .before .before .before .before .before .before .before .before .before .before .before .before .before .before .before .before .before .before .before .before .before .before .before .before .before .before .before .before .before .before .before .before .before .before .before .before .before .before .clear-from in
-    let parse-roots-collect = c .before .before .before .before .before .before .before .before .before .before .before .before .before .before .before .before .before .before .before .before .before .before .before .before .before .before .before .before .before .before .before .before .parse-roots-collect in
-    let clear-tree2 = c .before .before .before .before .before .before .before .before .before .before .before .before .before .before .clear-tree2 in
-    let clear-from2 = c .before .before .before .before .clear-from2 in
-    omega (arith, clear-tree .kept, clear-from .kept, parse-roots-collect .kept, clear-tree2 .kept, clear-from2 .kept)
+    let clear-tree = c .before .before .before .before .before .before .before .before .before .before .before .before .before .before .before .before .before .before .before .before .before .before .before .before .before .before .before .before .before .before .before .before .before .before .before .before .before .before .before .before .before .before .before .before .before .before .before .before .before .before .before .before .before .before .clear-tree in
+    let clear-from = c .before .before .before .before .before .before .before .before .before .before .before .before .before .before .before .before .before .before .before .before .before .before .before .before .before .before .before .before .before .before .before .before .before .before .before .before .before .before .before .before .before .before .before .before .clear-from in
+    let parse-roots-collect = c .before .before .before .before .before .before .before .before .before .before .before .before .before .before .before .before .before .before .before .before .before .before .before .before .before .before .before .before .before .before .before .before .before .before .before .parse-roots-collect in
+    let clear-left = c .before .before .before .before .before .before .before .before .before .before .before .before .before .before .before .clear-left in
+    let clear-ends = c .before .before .before .before .clear-ends in
+    omega (arith, clear-tree .kept, clear-from .kept, parse-roots-collect .kept, clear-left .kept, clear-ends .kept)
 
 same-length-10 : tie.Need-same-length-10
 same-length-10 c =
-    let clear-tree = c .before .before .before .before .before .before .before .before .before .before .before .before .before .before .before .before .before .before .before .before .before .before .before .before .before .before .before .before .before .before .before .before .before .before .before .before .before .before .before .before .before .before .before .before .before .before .before .before .before .before .before .clear-tree in
-    let clear-from = c .before .before .before .before .before .before .before .before .before .before .before .before .before .before .before .before .before .before .before .before .before .before .before .before .before .before .before .before .before .before .before .before .before .before .before .before .before .before .before .before .before .clear-from in
-    let parse-roots-collect = c .before .before .before .before .before .before .before .before .before .before .before .before .before .before .before .before .before .before .before .before .before .before .before .before .before .before .before .before .before .before .before .before .parse-roots-collect in
-    let clear-tree2 = c .before .before .before .before .before .before .before .before .before .before .before .before .before .before .clear-tree2 in
-    let clear-from2 = c .before .before .before .before .clear-from2 in
-    omega (arith, clear-tree .kept, clear-from .kept, parse-roots-collect .kept, clear-tree2 .kept, clear-from2 .kept)
+    let clear-tree = c .before .before .before .before .before .before .before .before .before .before .before .before .before .before .before .before .before .before .before .before .before .before .before .before .before .before .before .before .before .before .before .before .before .before .before .before .before .before .before .before .before .before .before .before .before .before .before .before .before .before .before .before .before .before .clear-tree in
+    let clear-from = c .before .before .before .before .before .before .before .before .before .before .before .before .before .before .before .before .before .before .before .before .before .before .before .before .before .before .before .before .before .before .before .before .before .before .before .before .before .before .before .before .before .before .before .before .clear-from in
+    let parse-roots-collect = c .before .before .before .before .before .before .before .before .before .before .before .before .before .before .before .before .before .before .before .before .before .before .before .before .before .before .before .before .before .before .before .before .before .before .before .parse-roots-collect in
+    let clear-left = c .before .before .before .before .before .before .before .before .before .before .before .before .before .before .before .clear-left in
+    let clear-ends = c .before .before .before .before .clear-ends in
+    omega (arith, clear-tree .kept, clear-from .kept, parse-roots-collect .kept, clear-left .kept, clear-ends .kept)
 
 pub parse-collect-spec : {M : Type 1} → statement M
 parse-collect-spec =
@@ -150,6 +151,9 @@ parse-collect-spec =
     same-length-5
     returns-2
     (λ c κs. search needs)
+    (λ c κs. search needs)
+    (λ c. search needs)
+    (λ c. search needs)
     (λ c κs. search needs)
     (λ c κs. search needs)
     same-length-6

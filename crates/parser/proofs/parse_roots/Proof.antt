@@ -10,13 +10,13 @@ use Rattle.parser_base.specs.Represents.{code}
 use Rattle.parser_base.specs.Refines.{kept}
 use Rattle.parser_base.proofs.Rounds.{LoopInvariant, round-again, weight, lighter}
 use Rattle.parser_base.proofs.Loops.{member-going}
-use Rattle.parser.specs.Whole.{rootStep, RootsAre}
-use Rattle.parser.proofs.Roots.{root-again, roots-start, roots-end}
+use Rattle.parser.specs.Whole.{Left, rootStep, RootsAre}
+use Rattle.parser.proofs.Roots.{root-there, root-front, root-again, roots-none, roots-start, roots-end}
 use Rattle.parser.proofs.parse_roots.Statement.{statement}
 use Rattle.parser.proofs.parse_roots.Tie as tie
 
 abbrev Inv-loop : tie.InvT-loop
-Inv-loop script nodes₀ types₀ lists₀ roots₀ p₀ members₀ nodes types lists roots p members = (length nodes ≡ length nodes₀) × (length types ≡ length types₀) × (length lists ≡ length lists₀) × (length roots ≡ length roots₀) × LoopInvariant script (rootStep script) kept [] (RootsAre script roots members (code nodes types lists (parserOf p))) (code nodes₀ types₀ lists₀ (parserOf p₀)) (code nodes types lists (parserOf p))
+Inv-loop script nodes₀ types₀ lists₀ roots₀ p₀ members₀ nodes types lists roots p members = (length nodes ≡ length nodes₀) × (length types ≡ length types₀) × (length lists ≡ length lists₀) × (length roots ≡ length roots₀) × Left roots members 0 × LoopInvariant script (rootStep script) kept [] (RootsAre script roots members (code nodes types lists (parserOf p))) (code nodes₀ types₀ lists₀ (parserOf p₀)) (code nodes types lists (parserOf p))
 
 abbrev μ-loop : tie.MeasureT-loop
 μ-loop script nodes₀ types₀ lists₀ roots₀ p₀ members₀ nodes types lists roots p members = weight script (code nodes types lists (parserOf p))
@@ -25,15 +25,15 @@ loop-holds : tie.Need-loop-holds Inv-loop μ-loop
 loop-holds c =
     let pre = c .before .before .before .before .before .before .before .pre in
     let first = c .first in
-    (refl, refl, refl, refl, roots-start _ (pre) (first .ensures))
+    (refl, refl, refl, refl, roots-none _ (pre) (first .ensures), roots-start _ (pre) (first .ensures))
 
 loop-less : tie.Need-loop-less Inv-loop μ-loop
 loop-less c =
     let loop = c .before .before .before .before .before .before .before .before .before .before .before .before .before .before .before .before .before .before .before .loop in
     let member-follows = c .before .before .before .before .before .before .before .before .before .before .before .before .before .before .before .before .before .member-follows in
     let if1 = c .before .before .before .before .before .before .before .before .before .before .before .before .before .before .before .before .if1 in
-    let prefix = c .before .before .before .before .before .before .before .before .before .before .before .prefix in
-    lighter (member-going (parserOf (loop .p)) kEof (sym (member-follows .ensures) ∙ if1 .taken)) (prefix .ensures)
+    let member = c .before .before .before .before .before .before .before .before .before .before .before .member in
+    lighter (member-going (parserOf (loop .p)) kEof (sym (member-follows .ensures) ∙ if1 .taken)) (member .ensures)
 
 loop-again : tie.Need-loop-again Inv-loop μ-loop
 loop-again c =
@@ -41,9 +41,9 @@ loop-again c =
     let member-follows = c .before .before .before .before .before .before .before .before .before .before .before .before .before .before .before .before .before .member-follows in
     let if1 = c .before .before .before .before .before .before .before .before .before .before .before .before .before .before .before .before .if1 in
     let pre = c .before .before .before .before .before .before .before .before .before .before .before .before .before .before .before .before .before .before .before .before .before .before .before .before .before .before .before .pre in
-    let prefix = c .before .before .before .before .before .before .before .before .before .before .before .prefix in
+    let member = c .before .before .before .before .before .before .before .before .before .before .before .member in
     let push-root = c .before .before .push-root in
-    (omega arith, omega arith, omega arith, omega arith, round-again (loop .inv .4) (member-going (parserOf (loop .p)) kEof (sym (member-follows .ensures) ∙ if1 .taken)) (root-again (sym (member-follows .ensures) ∙ if1 .taken) (omega (arith, pre .roots, loop .inv .3)) (prefix .ensures) (push-root .ensures)))
+    (omega arith, omega arith, omega arith, omega arith, root-front (push-root .ensures) (loop .inv .4), round-again (loop .inv .5) (member-going (parserOf (loop .p)) kEof (sym (member-follows .ensures) ∙ if1 .taken)) (root-again (sym (member-follows .ensures) ∙ if1 .taken) (omega (arith, pre .roots, loop .inv .3)) (member .ensures) (root-there (push-root .ensures))))
 
 returns : tie.Need-returns Inv-loop μ-loop
 returns c =
@@ -53,7 +53,7 @@ returns c =
     let member-follows = c .before .before .before .before .before .before .member-follows in
     let if1 = c .before .before .before .before .before .if1 in
     let drop-docs = c .before .before .drop-docs in
-    roots-end _ (pre) (first .ensures) (loop .inv .4) (sym (member-follows .ensures) ∙ if1 .left) (drop-docs .ensures .0 _ _ _)
+    roots-end _ (pre) (first .ensures) (loop .inv .5) (loop .inv .4) (sym (member-follows .ensures) ∙ if1 .left) (drop-docs .ensures .0 _ _ _)
 
 pub parse-roots-spec : {M : Type 1} → statement M
 parse-roots-spec =

@@ -22,7 +22,7 @@ returns-2 c =
     let args = c .before .before .before .before .before .before .before .before .before .before .before .args in
     let error = c .before .before .error in
     let if2 = c .if2 in
-    λ nodes roots g e m room h z. ended-by-ten roots _ (collected (parserOf (args .p .now)) (args .c)) g e m (error .ensures) (eq-eqb _ _ (if2 .taken)) h
+    λ nodes roots g e m room h z. ended-by-ten roots _ (collected (parserOf (args .p .now)) (args .c)) g e m (error .ensures) (eq-eqb _ _ (if2 .taken)) h z
 
 returns-3 : tie.Need-returns-3
 returns-3 c =

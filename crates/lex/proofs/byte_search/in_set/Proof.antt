@@ -2,7 +2,7 @@
 -- Assumes nothing.
 use borrow.Author.Needs.{needs}
 use borrow.Author.Tests.{ne-eqb}
-use Rattle.lex.specs.Bytes.{inSet, differsFrom}
+use Rattle.lex.specs.Bytes.{inSet, isPlain, differsFrom}
 use Rattle.lex.proofs.byte_search.in_set.Statement.{statement}
 use Rattle.lex.proofs.byte_search.in_set.Tie as tie
 
@@ -15,7 +15,7 @@ unfolding inSet
 returns-2 c = rw (c .before .match .keys2) (c .is-digit .ensures)
 
 returns-3 : tie.Need-returns-3
-unfolding inSet
+unfolding inSet isPlain differsFrom
 returns-3 c = rw (c .match .keys3)
 
 returns-4 : tie.Need-returns-4

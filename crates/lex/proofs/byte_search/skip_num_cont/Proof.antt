@@ -16,25 +16,10 @@ Inv-loop haystack i₀ i = (i ≤ length haystack) × (i + countWhile isNumCont 
 abbrev μ-loop : tie.MeasureT-loop
 μ-loop haystack i₀ i = length haystack - i
 
-loop-holds : tie.Need-loop-holds Inv-loop μ-loop
-loop-holds c = search needs
-
-shared-slice-read-is-num-cont : tie.Need-shared-slice-read-is-num-cont Inv-loop μ-loop
-shared-slice-read-is-num-cont c = search needs
-
-is-num-cont-requires : tie.Need-is-num-cont-requires Inv-loop μ-loop
-is-num-cont-requires c κs = search needs
-
 returns : tie.Need-returns Inv-loop μ-loop
 returns c =
     let c4 = c .before .before .before .before in
     run-stop isNumCont _ _ _ (c4 .loop .inv .1) (search needs) (sym (c .before .is-num-cont .ensures) ∙ not-true _ (c .if1 .taken))
-
-add-i : tie.Need-add-i Inv-loop μ-loop
-add-i c = search needs
-
-loop-less : tie.Need-loop-less Inv-loop μ-loop
-loop-less c = search needs
 
 loop-again : tie.Need-loop-again Inv-loop μ-loop
 loop-again c =
@@ -50,11 +35,11 @@ skip-num-cont-spec =
     (tie.spec
     Inv-loop
     μ-loop
-    loop-holds
-    shared-slice-read-is-num-cont
-    is-num-cont-requires
+    (λ c. search needs)
+    (λ c. search needs)
+    (λ c κs. search needs)
     returns
-    add-i
-    loop-less
+    (λ c. search needs)
+    (λ c. search needs)
     loop-again
     returns-2)

@@ -54,7 +54,7 @@ returns-4 c =
     let c8 = c6 .before .before in
     let a = c8 .args in
     let first = within _ _ _ (rw (c6 .peek .ensures) at (c3 .before .before .if1 .left)) (rw (c6 .peek .ensures) at (c3 .before .if2 .left)) in
-    let second = ap (between 0x80 0xbf) (sym (c2 .peek2 .ensures)) ∙ sym (c .before .is-continuation .ensures) ∙ not-true _ (c .if4 .taken) in (
+    let second = ap (between 0x80 0xbf) (sym (c2 .peek2 .ensures)) ∙ sym (c .before .is-between .ensures) ∙ not-true _ (c .if4 .taken) in (
       second-out (a .bytes .now) (a .at) _ _ _ (c8 .pre .2) first (omega (arith, c3 .if3 .left)) (c8 .pre .1) second,
       false-true,
     )
@@ -68,7 +68,7 @@ returns-5 c =
     let c9 = c7 .before .before in
     let a = c9 .args in
     let first = within _ _ _ (rw (c7 .peek .ensures) at (c4 .before .before .if1 .left)) (rw (c7 .peek .ensures) at (c4 .before .if2 .left)) in
-    let second = ap (between 0x80 0xbf) (sym (c3 .peek2 .ensures)) ∙ sym (c2 .is-continuation .ensures) ∙ not-false _ (c .before .if4 .left) in (
+    let second = ap (between 0x80 0xbf) (sym (c3 .peek2 .ensures)) ∙ sym (c2 .is-between .ensures) ∙ not-false _ (c .before .if4 .left) in (
       sym second ∙ second-last (a .bytes .now) (a .at) _ _ _ (c9 .pre .2) first (c .if5 .taken),
       λ e. omega (arith, nonzero-inside (a .bytes .now) (a .at + 1) (omega (arith, from-low _ _ _ second))),
     )
@@ -79,7 +79,7 @@ add-peek-2 c =
     let c3 = c2 .before in
     let c9 = c3 .before .before .before .before .before .before in
     let a = c9 .args in
-    let second = ap (between 0x80 0xbf) (sym (c3 .peek2 .ensures)) ∙ sym (c2 .is-continuation .ensures) ∙ not-false _ (c .before .if4 .left) in
+    let second = ap (between 0x80 0xbf) (sym (c3 .peek2 .ensures)) ∙ sym (c2 .is-between .ensures) ∙ not-false _ (c .before .if4 .left) in
     omega (arith, nonzero-inside (a .bytes .now) (a .at + 1) (omega (arith, from-low _ _ _ second)))
 
 returns-6 : tie.Need-returns-6
@@ -92,8 +92,8 @@ returns-6 c =
     let c11 = c9 .before .before in
     let a = c11 .args in
     let first = within _ _ _ (rw (c9 .peek .ensures) at (c6 .before .before .if1 .left)) (rw (c9 .peek .ensures) at (c6 .before .if2 .left)) in
-    let second = ap (between 0x80 0xbf) (sym (c5 .peek2 .ensures)) ∙ sym (c4 .is-continuation .ensures) ∙ not-false _ (c2 .before .if4 .left) in
-    let third = c .is-continuation2 .ensures ∙ ap (between 0x80 0xbf) (c .before .peek3 .ensures) in (
+    let second = ap (between 0x80 0xbf) (sym (c5 .peek2 .ensures)) ∙ sym (c4 .is-between .ensures) ∙ not-false _ (c2 .before .if4 .left) in
+    let third = c .is-between2 .ensures ∙ ap (between 0x80 0xbf) (c .before .peek3 .ensures) in (
       third ∙ third-last (a .bytes .now) (a .at) _ _ _ (c11 .pre .2) first (three _ (c11 .pre .0) (c11 .pre .1) (c6 .if3 .left) (c2 .if5 .left)) second,
       λ e. omega (arith, nonzero-inside (a .bytes .now) (a .at + 2) (omega (arith, from-low _ _ _ (sym third ∙ e)))),
     )
