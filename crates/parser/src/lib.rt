@@ -113,7 +113,7 @@ fn refusal(
 ) -> u32
     ensures { λ r. ⌜ r ≡ refusal n nodes types lists roots diagnostics ⌝ }
 {
-    if Parsed::MAX_BYTES < n {
+    if Parser::MAX_BYTES < n {
         return 1;
     }
     if nodes < 16 * n {

@@ -7,6 +7,7 @@ use lex::next_token;
 use rules::Node;
 use rules::NodeId;
 use rules::NodeKind;
+use rules::Parsed;
 use rules::Run;
 use rules::TypeExpr;
 use rules::TypeExprId;
@@ -49,6 +50,8 @@ pub struct Parser {
 }
 
 impl Parser {
+    pub const MAX_BYTES: usize = Parsed::MAX_BYTES;
+
     pub const MAX_LEVELS: usize = 128;
 }
 
