@@ -1,8 +1,9 @@
 -- What the rules say of a script, for antt to compute.
 use mathlib.Core.Bool.{Bool}
 use mathlib.Core.Option.{Option, none}
-use mathlib.Core.List.{List, [], _∷_, flatten}
-use Prim.Native.Nat.{ℕ}
+use mathlib.Core.List.{List, [], _∷_, _++_, map, flatten}
+use Prim.Native.Nat.{ℕ, zero, suc}
+use lib.ListN.{length}
 use Prim.Native.Char.{code}
 use Prim.Native.String.{String, [] as []ˢ, _∷_ as _∷ˢ_}
 use Rattle.lex.specs.Bytes as Bytes
@@ -15,12 +16,28 @@ use Rattle.rules.specs.Rules as Rules
 use Rattle.rules.specs.Parse as Parse
 use Rattle.rules.specs.Shape as Shape
 use Rattle.rules.specs.Strike as Strike
+use Rattle.rules.specs.Law as Law
+use Rattle.rules.specs.Parents as Parents
 use Rattle.lex.specs.Lex.{Cut}
 use Rattle.rules.specs.Tree.{Notes}
 use Rattle.rules.specs.Rules.{stageOne}
 use Rattle.rules.specs.Parse.{Reading, read, ended, parse, parseCollect}
 use Rattle.rules.specs.Shape.{Word, Shapes, shapeOf}
 use Rattle.rules.specs.Strike.{strike, noDocBeforeImport, notesOf}
+
+-- what a tree names, and each node's parent
+pub record Named : Type 0 where
+  pub occurrences : Option (List Law.Child)
+  pub parents : List ℕ
+
+-- the numbers below one, in order
+unfoldable pub numbersTo : ℕ → List ℕ
+numbersTo zero = []
+numbersTo (suc n) = numbersTo n ++ (n ∷ [])
+
+unfoldable pub namedIn : Reading → Named
+namedIn (read t es) = record { occurrences = Law.occurrences t; parents = map (Parents.parentOf (t .arena)) (numbersTo (length (t .arena .nodes))) }
+namedIn (ended e) = record { occurrences = none; parents = [] }
 
 pub record Computed : Type 0 where
   pub cut : Cut
@@ -32,6 +49,10 @@ pub record Computed : Type 0 where
   pub words : List Word
   pub notes : Notes
   pub docs : Bool
+  -- for each resynchronising, how many tokens are taken where it begins
+  pub resynchronisings : List ℕ
+  -- what is named in the tree of collecting mode, and the parent of each of its nodes
+  pub named : Named
 
 unfoldable pub shapeIn : List ℕ → Reading → Option Shapes
 shapeIn script (read t es) = shapeOf script t
@@ -48,6 +69,7 @@ unfolding
     Rules.stageOne Rules.openAngle Rules.atomType Rules.foreignType Rules.suppliedVoid Rules.importPath Rules.bracketedPaths Rules.strikeSingle Rules.parseImport Rules.atom Rules.ident Rules.isCallableTarget Rules.callable Rules.fieldAccess Rules.breaksOff Rules.requireNoDocs Rules.noteAfterDefault Rules.nodeMember Rules.typedName Rules.optionType Rules.arrayType Rules.recordType Rules.typeByKind Rules.parseType Rules.parseBody Rules.parseArgs Rules.returnType Rules.parseLet Rules.parseFn Rules.externFn Rules.parseExtern Rules.defaultCase Rules.conditionCase Rules.nextCase Rules.parseMatch Rules.parsePrefix Rules.field Rules.recordLiteral Rules.arrayLiteral Rules.group Rules.unary Rules.operand Rules.call Rules.postfix Rules.cast Rules.binary Rules.infixes Rules.parseExpr Rules.readers
     Parse.begin Parse.synchronizeRoot Parse.merged Parse.parseRoots Parse.parse Parse.recover Parse.parseRootsCollect Parse.parseCollect
     Spelling.spellingOffset Spelling.spellingStart Shape.wordOf Shape.wellFormed Shape.word Shape.map₁ Shape.map₂ Shape.map₃ Shape.map₄ Shape.map₅ Shape.andThen Shape.decoded Shape.chain Shape.number Shape.token Shape.run Shape.resolve Shape.both Shape.items Shape.from Shape.listAt Shape.w Shape.wordIn Shape.paramIn Shape.fieldIn Shape.words Shape.params Shape.shapes Shape.fields Shape.caseIn Shape.cases Shape.fnIn Shape.fns Shape.typeShape Shape.nodeShape Shape.lookup Shape.tabulate Shape.typeIn Shape.typeAt Shape.nodeIn Shape.nodeAt Shape.shapesOf Shape.shapeOf
+    Law.listed Law.nodeIn Law.typeIn Law.fieldIn Law.paramIn Law.caseIn Law.fnIn Law.childrenOf Law.innerOf Law.same Law.times Law.allOf Law.occurrences Law.resynchronisings Parents.isAmong Parents.parentFrom Parents.parentOf numbersTo namedIn
     Strike.keep Strike.noDocBeforeImport Strike.notesOf Strike.strike
 computedFrom script = record {
   cut = Lex.cut script;
@@ -57,6 +79,8 @@ computedFrom script = record {
   words = strike stageOne script;
   notes = notesOf stageOne script;
   docs = noDocBeforeImport (Lex.tokensOf (Lex.cut script));
+  resynchronisings = Law.resynchronisings stageOne script;
+  named = namedIn (parseCollect stageOne script);
 }
 
 -- a text of ASCII characters

@@ -7,3 +7,7 @@ pub mod Layout
 pub mod Promise
 pub mod Shape
 pub mod Strike
+pub mod Law
+pub mod Parents
+pub mod Merge
+pub mod MergedCells

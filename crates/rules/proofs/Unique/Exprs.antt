@@ -49,11 +49,11 @@ module _ (script : List ℕ) (d : Readers) (deep : ReadersOk script d) where
   abbrev w : Token → Word
   w t = wordOf script t
 
-  pub nodeMember-ok : (x : Rule NodeId) → ((s : State) → Invariant script s → Holds (NodeDone script s) (x s)) → (s : State) → Invariant script s → Holds (ItemDone script (nodeRd script) print s) (Q.nodeMember x s)
+  pub nodeMember-ok : (x : Rule NodeId) → ((s : State) → Invariant script s → Holds script (NodeDone script s) (x s)) → (s : State) → Invariant script s → Holds script (ItemDone script (nodeRd script) print s) (Q.nodeMember x s)
   unfolding Q.nodeMember resolve chain decoded number andThen map₁
   nodeMember-ok x h s c = bind-ok _ _ s (h s c) (λ n s₁ q. pure-ok _ s₁ (record { value = q .shape; is = rw (q .is); consumed = q .consumed }))
 
-  pub field-ok : (s : State) → Invariant script s → Holds (ItemDone script (fieldRd script) printField s) (Q.field d s)
+  pub field-ok : (s : State) → Invariant script s → Holds script (ItemDone script (fieldRd script) printField s) (Q.field d s)
   unfolding Q.field printField S.fieldIn S.wordIn S.w tokenCells both resolve chain decoded number token andThen map₁
   field-ok s c =
       bind-ok _ _ s (expectIdent-ok script s c) (λ name s₁ d₁.
@@ -61,34 +61,34 @@ module _ (script : List ℕ) (d : Readers) (deep : ReadersOk script d) where
       bind-ok _ _ s₂ (deep .expr 0 s₂ (d₂ .invariant)) (λ t s₃ d₃.
       pure-ok _ s₃ (record { value = (w name, d₃ .shape); is = rw (d₁ .isWellFormed, d₃ .is); consumed = d₁ .consumed ▷ d₂ ▷ d₃ .consumed }))))
 
-  pub recordLiteral-ok : (s : State) → Invariant script s → current (s .left) .kind ≡ kCurlyLeft → Holds (NodeDone script s) (Q.recordLiteral d s)
+  pub recordLiteral-ok : (s : State) → Invariant script s → current (s .left) .kind ≡ kCurlyLeft → Holds script (NodeDone script s) (Q.recordLiteral d s)
   unfolding Q.recordLiteral nodeShape S.w S.fields print map₁ map₂
   recordLiteral-ok s c e =
       bind-ok _ _ s (advance-ok script kCurlyLeft s c e refl) (λ src s₁ d₁.
       bind-ok _ _ s₁ (listUntil-ok script (fieldRd script) printField (fieldRd-mono script) noField (λ p. fieldS (p .0) (p .1)) kCurlyRight _ refl refl field-ok s₁ (d₁ .consumed)) (λ r s₂ q.
       node-end script s₂ 0 _ (S.recordS (w src) (fold noField (λ p. fieldS (p .0) (p .1)) (q .values))) (q .consumed) (λ id. ap₂ (map₂ S.recordS) (d₁ .isWellFormed) (q .is)) (ap (λ (ws : List Word). w src ∷ (ws ++ (fixed kCurlyRight ∷ []))) (sym (fields-fold (q .values))))))
 
-  pub arrayLiteral-ok : (s : State) → Invariant script s → current (s .left) .kind ≡ kBraketLeft → Holds (NodeDone script s) (Q.arrayLiteral d s)
+  pub arrayLiteral-ok : (s : State) → Invariant script s → current (s .left) .kind ≡ kBraketLeft → Holds script (NodeDone script s) (Q.arrayLiteral d s)
   unfolding Q.arrayLiteral nodeShape S.w S.shapes print map₁ map₂
   arrayLiteral-ok s c e =
       bind-ok _ _ s (advance-ok script kBraketLeft s c e refl) (λ src s₁ d₁.
       bind-ok _ _ s₁ (listUntil-ok script (nodeRd script) print (nodeRd-mono script) noShape shape kBraketRight _ refl refl (nodeMember-ok (d .expr 0) (deep .expr 0)) s₁ (d₁ .consumed)) (λ r s₂ q.
       node-end script s₂ 0 _ (S.array (w src) (fold noShape shape (q .values))) (q .consumed) (λ id. ap₂ (map₂ S.array) (d₁ .isWellFormed) (q .is)) (ap (λ (ws : List Word). w src ∷ (ws ++ (fixed kBraketRight ∷ []))) (sym (shapes-fold (q .values))))))
 
-  pub atom-ok : (k : ℕ) → eqb k kEof ≡ false → (s : State) → Invariant script s → current (s .left) .kind ≡ k → Holds (NodeDone script s) (Q.atom s)
+  pub atom-ok : (k : ℕ) → eqb k kEof ≡ false → (s : State) → Invariant script s → current (s .left) .kind ≡ k → Holds script (NodeDone script s) (Q.atom s)
   unfolding Q.atom nodeShape S.w print map₁
   atom-ok k ne s c e =
       bind-ok _ _ s (advance-ok script k s c e ne) (λ t s₁ d₁.
       node-end script s₁ 0 _ (S.atom (w t)) (d₁ .consumed) (λ id. ap (map₁ S.atom) (d₁ .isWellFormed)) refl)
 
-  pub ident-ok : (s : State) → Invariant script s → current (s .left) .kind ≡ kIdent → Holds (NodeDone script s) (Q.ident s)
+  pub ident-ok : (s : State) → Invariant script s → current (s .left) .kind ≡ kIdent → Holds script (NodeDone script s) (Q.ident s)
   unfolding Q.ident nodeShape S.w print map₁
   ident-ok s c e =
       bind-ok _ _ s (advance-ok script kIdent s c e refl) (λ t s₁ d₁.
       node-end script s₁ 0 _ (S.ident (w t)) (d₁ .consumed) (λ id. ap (map₁ S.ident) (d₁ .isWellFormed)) refl)
 
   -- the brackets about an operand are struck out
-  pub group-ok : (s : State) → Invariant script s → current (s .left) .kind ≡ kBraceLeft → Holds (NodeDone script s) (Q.group d s)
+  pub group-ok : (s : State) → Invariant script s → current (s .left) .kind ≡ kBraceLeft → Holds script (NodeDone script s) (Q.group d s)
   unfolding Q.group
   group-ok s c e =
       then-ok _ _ s (struck-advance-ok script kBraceLeft s c e refl) (λ t s₁ d₁.
@@ -96,14 +96,14 @@ module _ (script : List ℕ) (d : Readers) (deep : ReadersOk script d) where
       then-ok _ _ s₂ (struck-expect-ok script kBraceRight s₂ (d₂ .consumed .invariant) refl) (λ t s₃ d₃.
       pure-ok n s₃ (record { shape = d₂ .shape; is = d₃ .grows .nodes _ _ (d₂ .is); consumed = consumed-end (d₁ ▷ d₂ .consumed) d₃ }))))
 
-  pub unary-ok : (k : ℕ) → eqb k kEof ≡ false → (s : State) → Invariant script s → current (s .left) .kind ≡ k → Holds (NodeDone script s) (Q.unary d s)
+  pub unary-ok : (k : ℕ) → eqb k kEof ≡ false → (s : State) → Invariant script s → current (s .left) .kind ≡ k → Holds script (NodeDone script s) (Q.unary d s)
   unfolding Q.unary nodeShape S.w print map₁ map₂
   unary-ok k ne s c e =
       bind-ok _ _ s (advance-ok script k s c e ne) (λ op s₁ d₁.
       bind-ok _ _ s₁ (deep .expr Q.prefixPower s₁ (d₁ .consumed .invariant)) (λ rhs s₂ d₂.
       node-end script s₂ 0 _ (S.unary (w op) (d₂ .shape)) (d₁ .consumed ▷ d₂ .consumed) (λ id. ap₂ (map₂ S.unary) (d₁ .isWellFormed) (d₂ .is)) refl))
 
-  pub operand-ok : (s : State) → Invariant script s → Holds (NodeDone script s) (Q.operand d s)
+  pub operand-ok : (s : State) → Invariant script s → Holds script (NodeDone script s) (Q.operand d s)
   unfolding Q.operand
   operand-ok s c =
       table-ok _ _ s
@@ -118,7 +118,7 @@ module _ (script : List ℕ) (d : Readers) (deep : ReadersOk script d) where
       (entry-ok _ _ _ _ s (group-ok s c)
       (entry-ok _ _ _ _ s (unary-ok kPlus refl s c)
       (entry-ok _ _ _ _ s (unary-ok kMinus refl s c)
-      (other-ok _ _ s (fail-ok 19 0 s tt)))))))))))))
+      (other-ok _ _ s (fail-ok 19 0 s (c .allShaped))))))))))))))
 
   -- ---- what goes on with the left side read so far, which began at `s₀`
 
@@ -126,7 +126,7 @@ module _ (script : List ℕ) (d : Readers) (deep : ReadersOk script d) where
     abbrev Goes : ControlFlow NodeId → State → Type 0
     Goes t s′ = NodeDone script s₀ (flowValue t) s′
 
-    fieldAccess-ok : (n : NodeId) (s : State) → NodeDone script s₀ n s → current (s .left) .kind ≡ kDot → Holds Goes (Q.fieldAccess n s)
+    fieldAccess-ok : (n : NodeId) (s : State) → NodeDone script s₀ n s → current (s .left) .kind ≡ kDot → Holds script Goes (Q.fieldAccess n s)
     unfolding Q.fieldAccess nodeShape S.w print map₁ map₂
     fieldAccess-ok n s q e =
         then-ok _ _ s (sign-took script kDot s (q .consumed .invariant) e refl refl) (λ t s₁ d₁.
@@ -134,7 +134,7 @@ module _ (script : List ℕ) (d : Readers) (deep : ReadersOk script d) where
         bind-ok _ _ s₂ (node-end script s₂ 0 _ (S.field (q .shape) (w name)) (q .consumed ▷ d₁ ▷ d₂ .consumed) (λ id. ap₂ (map₂ S.field) ((d₁ ▷ d₂ .consumed) .grows .nodes _ _ (q .is)) (d₂ .isWellFormed)) (append-assoc (print (q .shape)) (fixed kDot ∷ []) (w name ∷ []))) (λ m s₃ r.
         pure-ok _ s₃ r)))
 
-    call-ok : (n : NodeId) (s : State) → NodeDone script s₀ n s → current (s .left) .kind ≡ kBraceLeft → Holds Goes (Q.call d n s)
+    call-ok : (n : NodeId) (s : State) → NodeDone script s₀ n s → current (s .left) .kind ≡ kBraceLeft → Holds script Goes (Q.call d n s)
     unfolding Q.call nodeShape S.w S.shapes print inRound map₁ map₂
     call-ok n s q e =
         then-ok _ _ s (sign-took script kBraceLeft s (q .consumed .invariant) e refl refl) (λ t s₁ d₁.
@@ -142,7 +142,7 @@ module _ (script : List ℕ) (d : Readers) (deep : ReadersOk script d) where
         bind-ok _ _ s₂ (node-end script s₂ 0 _ (S.call (q .shape) (fold noShape shape (l .values))) (q .consumed ▷ l .consumed) (λ id. rw (l .consumed .grows .nodes _ _ (q .is)) (ap (map₁ (S.call (q .shape))) (l .is))) (ap (λ (ws : List Word). print (q .shape) ++ (fixed kBraceLeft ∷ (ws ++ (fixed kBraceRight ∷ [])))) (sym (shapes-fold (l .values))))) (λ m s₃ z.
         pure-ok _ s₃ z)))
 
-    cast-ok : (n : NodeId) (s : State) → NodeDone script s₀ n s → current (s .left) .kind ≡ kAs → Holds Goes (Q.cast d n s)
+    cast-ok : (n : NodeId) (s : State) → NodeDone script s₀ n s → current (s .left) .kind ≡ kAs → Holds script Goes (Q.cast d n s)
     unfolding Q.cast nodeShape S.w print map₁ map₂ map₃
     cast-ok n s q e =
         bind-ok _ _ s (advance-ok script kAs s (q .consumed .invariant) e refl) (λ src s₁ d₁.
@@ -150,7 +150,7 @@ module _ (script : List ℕ) (d : Readers) (deep : ReadersOk script d) where
         bind-ok _ _ s₂ (node-end script s₂ 0 _ (S.cast (w src) (q .shape) (d₂ .shape)) (q .consumed ▷ (d₁ .consumed ▷ d₂ .consumed)) (λ id. rw (d₁ .isWellFormed, (d₁ .consumed ▷ d₂ .consumed) .grows .nodes _ _ (q .is), d₂ .is)) refl) (λ m s₃ z.
         pure-ok _ s₃ z)))
 
-    binary-ok : (n : NodeId) (left : Powers) (s : State) → NodeDone script s₀ n s → (k : ℕ) → current (s .left) .kind ≡ k → eqb k kEof ≡ false → Holds Goes (Q.binary d n left s)
+    binary-ok : (n : NodeId) (left : Powers) (s : State) → NodeDone script s₀ n s → (k : ℕ) → current (s .left) .kind ≡ k → eqb k kEof ≡ false → Holds script Goes (Q.binary d n left s)
     unfolding Q.binary nodeShape S.w print map₁ map₂ map₃
     binary-ok n left s q k e ne =
         bind-ok _ _ s (advance-ok script k s (q .consumed .invariant) e ne) (λ op s₁ d₁.
@@ -158,15 +158,15 @@ module _ (script : List ℕ) (d : Readers) (deep : ReadersOk script d) where
         bind-ok _ _ s₂ (node-end script s₂ 0 _ (S.bin (w op) (q .shape) (d₂ .shape)) (q .consumed ▷ (d₁ .consumed ▷ d₂ .consumed)) (λ id. rw (d₁ .isWellFormed, (d₁ .consumed ▷ d₂ .consumed) .grows .nodes _ _ (q .is), d₂ .is)) refl) (λ m s₃ z.
         pure-ok _ s₃ z)))
 
-    postfixed-ok : (n : NodeId) (s : State) → NodeDone script s₀ n s → Holds (NodeDone script s₀) (Q.postfix d n s)
+    postfixed-ok : (n : NodeId) (s : State) → NodeDone script s₀ n s → Holds script (NodeDone script s₀) (Q.postfix d n s)
     unfolding Q.postfix Q.callable
     postfixed-ok n s q = loop-ok (NodeDone script s₀) _
         (λ lhs s₁ r. ifKind-ok _ _ _ s₁ (fieldAccess-ok lhs s₁ r) (ifKind-ok _ _ _ s₁
-        (λ e. bind-ok {P = λ b s₂. s₂ ≡ s₁} _ _ s₁ (holds refl) (λ b s₂ z. subst (λ (s₃ : State). Holds Goes (elim b as (λ b′. Rule (ControlFlow NodeId)) [ true ↦ Q.call d lhs | false ↦ R.pure (break lhs) ] s₃)) (sym z) (called lhs s₁ r e b)))
+        (λ e. bind-ok {P = λ b s₂. s₂ ≡ s₁} _ _ s₁ (holds refl) (λ b s₂ z. subst (λ (s₃ : State). Holds script Goes (elim b as (λ b′. Rule (ControlFlow NodeId)) [ true ↦ Q.call d lhs | false ↦ R.pure (break lhs) ] s₃)) (sym z) (called lhs s₁ r e b)))
         (pure-ok _ s₁ r)))
         n s q
       where
-        called : (lhs : NodeId) (s₁ : State) → NodeDone script s₀ lhs s₁ → current (s₁ .left) .kind ≡ kBraceLeft → (b : Bool) → Holds Goes (elim b as (λ b′. Rule (ControlFlow NodeId)) [ true ↦ Q.call d lhs | false ↦ R.pure (break lhs) ] s₁)
+        called : (lhs : NodeId) (s₁ : State) → NodeDone script s₀ lhs s₁ → current (s₁ .left) .kind ≡ kBraceLeft → (b : Bool) → Holds script Goes (elim b as (λ b′. Rule (ControlFlow NodeId)) [ true ↦ Q.call d lhs | false ↦ R.pure (break lhs) ] s₁)
         called lhs s₁ r e true = call-ok lhs s₁ r e
         called lhs s₁ r e false = pure-ok _ s₁ r
 
@@ -179,26 +179,26 @@ module _ (script : List ℕ) (d : Readers) (deep : ReadersOk script d) where
           go true p = none≢some left (sym eof ∙ ap power (sym (eqb→eq k kEof (rw p tt))) ∙ e)
           go false p = refl
 
-      infixed-ok : (least : ℕ) (n : NodeId) (s : State) → NodeDone script s₀ n s → Holds (NodeDone script s₀) (Q.infixes d power script least n s)
+      infixed-ok : (least : ℕ) (n : NodeId) (s : State) → NodeDone script s₀ n s → Holds script (NodeDone script s₀) (Q.infixes d power script least n s)
       unfolding Q.infixes R.cur
       infixed-ok least n s q = loop-ok (NodeDone script s₀) _
           (λ lhs s₁ r. ifKind-ok _ _ _ s₁ (cast-ok lhs s₁ r)
           (cur-ok _ s₁ (go lhs s₁ r (power (current (s₁ .left) .kind)) refl)))
           n s q
         where
-          go₃ : (lhs : NodeId) (s₁ : State) → NodeDone script s₀ lhs s₁ → (left : Powers) → power (current (s₁ .left) .kind) ≡ some left → (b : Bool) → Holds Goes (elim b as (λ b′. Rule (ControlFlow NodeId)) [ true ↦ R.pure (break lhs) | false ↦ Q.binary d lhs left ] s₁)
+          go₃ : (lhs : NodeId) (s₁ : State) → NodeDone script s₀ lhs s₁ → (left : Powers) → power (current (s₁ .left) .kind) ≡ some left → (b : Bool) → Holds script Goes (elim b as (λ b′. Rule (ControlFlow NodeId)) [ true ↦ R.pure (break lhs) | false ↦ Q.binary d lhs left ] s₁)
           go₃ lhs s₁ r left e true = pure-ok _ s₁ r
           go₃ lhs s₁ r left e false = binary-ok lhs left s₁ r (current (s₁ .left) .kind) refl (notEof _ left e)
 
-          go₂ : (lhs : NodeId) (s₁ : State) → NodeDone script s₀ lhs s₁ → (left : Powers) → power (current (s₁ .left) .kind) ≡ some left → (b : Bool) → Holds Goes (elim b as (λ b′. Rule (ControlFlow NodeId)) [ true ↦ R.pure (break lhs) | false ↦ elim (ltb (left .left) least) as (λ b′. Rule (ControlFlow NodeId)) [ true ↦ R.pure (break lhs) | false ↦ Q.binary d lhs left ] ] s₁)
+          go₂ : (lhs : NodeId) (s₁ : State) → NodeDone script s₀ lhs s₁ → (left : Powers) → power (current (s₁ .left) .kind) ≡ some left → (b : Bool) → Holds script Goes (elim b as (λ b′. Rule (ControlFlow NodeId)) [ true ↦ R.pure (break lhs) | false ↦ elim (ltb (left .left) least) as (λ b′. Rule (ControlFlow NodeId)) [ true ↦ R.pure (break lhs) | false ↦ Q.binary d lhs left ] ] s₁)
           go₂ lhs s₁ r left e true = pure-ok _ s₁ r
           go₂ lhs s₁ r left e false = go₃ lhs s₁ r left e (ltb (left .left) least)
 
-          go : (lhs : NodeId) (s₁ : State) → NodeDone script s₀ lhs s₁ → (o : Option Powers) → power (current (s₁ .left) .kind) ≡ o → Holds Goes (elim o as (λ o′. Rule (ControlFlow NodeId)) [ none ↦ R.pure (break lhs) | some left ↦ elim (Q.breaksOff script (current (s₁ .left))) as (λ b′. Rule (ControlFlow NodeId)) [ true ↦ R.pure (break lhs) | false ↦ elim (ltb (left .left) least) as (λ b′. Rule (ControlFlow NodeId)) [ true ↦ R.pure (break lhs) | false ↦ Q.binary d lhs left ] ] ] s₁)
+          go : (lhs : NodeId) (s₁ : State) → NodeDone script s₀ lhs s₁ → (o : Option Powers) → power (current (s₁ .left) .kind) ≡ o → Holds script Goes (elim o as (λ o′. Rule (ControlFlow NodeId)) [ none ↦ R.pure (break lhs) | some left ↦ elim (Q.breaksOff script (current (s₁ .left))) as (λ b′. Rule (ControlFlow NodeId)) [ true ↦ R.pure (break lhs) | false ↦ elim (ltb (left .left) least) as (λ b′. Rule (ControlFlow NodeId)) [ true ↦ R.pure (break lhs) | false ↦ Q.binary d lhs left ] ] ] s₁)
           go lhs s₁ r none e = pure-ok _ s₁ r
           go lhs s₁ r (some left) e = go₂ lhs s₁ r left e (Q.breaksOff script (current (s₁ .left)))
 
-  pub parseExpr-ok : (power : ℕ → Option Powers) (eof : power kEof ≡ none) (least : ℕ) (s : State) → Invariant script s → Holds (NodeDone script s) (Q.parseExpr d power script least s)
+  pub parseExpr-ok : (power : ℕ → Option Powers) (eof : power kEof ≡ none) (least : ℕ) (s : State) → Invariant script s → Holds script (NodeDone script s) (Q.parseExpr d power script least s)
   unfolding Q.parseExpr
   parseExpr-ok power eof least s c =
       bind-ok _ _ s (operand-ok s c) (λ x s₁ q.

@@ -66,7 +66,7 @@ module _ (script : List ℕ) where
   fold-id (v ∷ vs) = ap {B = List _} (λ z. v ∷ z) (fold-id vs)
 
   -- tokens written as a list
-  wordList-ok : {s₀ : State} {ws : List Word} (s : State) (ts : List Token) → AllWellFormed script ts → Consumed script s₀ s ws → Holds (λ r s′. (S.words (envOf script (s′ .arena)) r ≡ some (map w ts)) × Consumed script s₀ s′ ws × (s′ .left ≡ s .left)) (R.allocSlice (map tokenCells ts) s)
+  wordList-ok : {s₀ : State} {ws : List Word} (s : State) (ts : List Token) → AllWellFormed script ts → Consumed script s₀ s ws → Holds script (λ r s′. (S.words (envOf script (s′ .arena)) r ≡ some (map w ts)) × Consumed script s₀ s′ ws × (s′ .left ≡ s .left)) (R.allocSlice (map tokenCells ts) s)
   unfolding S.words
   wordList-ok s ts h d = weaken (allocSlice-ok script wordRd (λ x. x ∷ []) wordRd-mono [] _∷_ s (map tokenCells ts) (map w ts) d (words-all (s .arena) ts h)) (λ r s′ q. (q .0 ∙ ap some (fold-id (map w ts)), q .1, q .2))
 
@@ -75,7 +75,7 @@ module _ (script : List ℕ) where
     pub consumed : Consumed script s₀ (withDocs [] s) (map w (s .docs))
     pub docsWellFormed : AllWellFormed script (s .docs)
 
-  takeDocs-ok : (s₀ s : State) → Waits s₀ s → Holds (λ r s′. (S.words (envOf script (s′ .arena)) r ≡ some (map w (s .docs))) × Consumed script s₀ s′ (map w (s .docs)) × (s′ .left ≡ s .left)) (R.takeDocs s)
+  takeDocs-ok : (s₀ s : State) → Waits s₀ s → Holds script (λ r s′. (S.words (envOf script (s′ .arena)) r ≡ some (map w (s .docs))) × Consumed script s₀ s′ (map w (s .docs)) × (s′ .left ≡ s .left)) (R.takeDocs s)
   unfolding R.takeDocs withDocs
   takeDocs-ok s₀ s d = wordList-ok (withDocs [] s) (s .docs) (d .docsWellFormed) (d .consumed)
 
@@ -93,7 +93,7 @@ module _ (script : List ℕ) where
   tokensOk-doc (t ∷ []) g D e = absurd (omega (arith, sym (g .0) ∙ e))
   tokensOk-doc (t ∷ (u ∷ ts)) g D e = g .1 D e
 
-  collect-step : (s : State) (n : ℕ) (s₁ : State) → DocsDone s n s₁ → current (s₁ .left) .kind ≡ kDoc → Holds (λ t s′. DocsDone s (flowValue t) s′) (R._>>=_ R.advance (λ x s₂. ok (continue n) (withDocs (s₂ .docs ++ (x ∷ [])) s₂)) s₁)
+  collect-step : (s : State) (n : ℕ) (s₁ : State) → DocsDone s n s₁ → current (s₁ .left) .kind ≡ kDoc → Holds script (λ t s′. DocsDone s (flowValue t) s′) (R._>>=_ R.advance (λ x s₂. ok (continue n) (withDocs (s₂ .docs ++ (x ∷ [])) s₂)) s₁)
   unfolding R.advance R._>>=_ withDocs
   collect-step s n s₁ d e = holds (record {
     waits = record {
@@ -119,12 +119,12 @@ module _ (script : List ℕ) where
       even = refl;
       kept = λ l D. (l, ap (map w) (sym (c .docs D)));
       grows = grows-refl script (s .arena);
-      invariant = record { docs = λ D. refl; tokensOk = c .tokensOk; docsWellFormed = tt };
+      invariant = record { docs = λ D. refl; tokensOk = c .tokensOk; docsWellFormed = tt; allShaped = c .allShaped };
     };
     docsWellFormed = c .docsWellFormed;
   }
 
-  pub collectDocs-ok : (s : State) → Invariant script s → Holds (DocsDone s) (R.collectDocs s)
+  pub collectDocs-ok : (s : State) → Invariant script s → Holds script (DocsDone s) (R.collectDocs s)
   unfolding R.collectDocs
   collectDocs-ok s c = loop-ok (DocsDone s) _
       (λ n s₁ d. ifKind-ok _ _ _ s₁ (λ e. collect-step s n s₁ d e) (pure-ok _ s₁ d))
@@ -133,25 +133,25 @@ module _ (script : List ℕ) where
   -- ---- bodies, arguments, return types
 
   module _ (d : Readers) (deep : ReadersOk script d) where
-    pub parseBody-ok : (s : State) → Invariant script s → Holds (BodyDone s) (Q.parseBody d s)
+    pub parseBody-ok : (s : State) → Invariant script s → Holds script (BodyDone s) (Q.parseBody d s)
     unfolding Q.parseBody S.shapes inCurly
     parseBody-ok s c =
         then-ok _ _ s (sign-ok script kCurlyLeft s c refl refl) (λ t s₁ d₁.
         weaken (listUntil-ok script (nodeRd script) print (nodeRd-mono script) noShape shape kCurlyRight _ refl refl (nodeMember-ok script d deep (d .prefix) (deep .prefix)) s₁ d₁) (λ r s₂ q.
         record { shapes = fold noShape shape (q .values); is = q .is; consumed = consumed-as (ap (λ (ws : List Word). fixed kCurlyLeft ∷ (ws ++ (fixed kCurlyRight ∷ []))) (sym (shapes-fold (q .values)))) (q .consumed) }))
 
-    pub parseArgs-ok : (s : State) → Invariant script s → Holds (ArgsDone s) (Q.parseArgs d s)
+    pub parseArgs-ok : (s : State) → Invariant script s → Holds script (ArgsDone s) (Q.parseArgs d s)
     unfolding Q.parseArgs S.params inRound
     parseArgs-ok s c =
         then-ok _ _ s (sign-ok script kBraceLeft s c refl refl) (λ t s₁ d₁.
         weaken (listUntil-ok script (paramRd script) printParam (paramRd-mono script) noParam (λ p. param (p .0) (p .1)) kBraceRight _ refl refl (typedName-ok script d deep) s₁ d₁) (λ r s₂ q.
         record { params = fold noParam (λ p. param (p .0) (p .1)) (q .values); is = q .is; consumed = consumed-as (ap (λ (ws : List Word). fixed kBraceLeft ∷ (ws ++ (fixed kBraceRight ∷ []))) (sym (params-fold (q .values)))) (q .consumed) }))
 
-    pub suppliedVoid-ok : (s : State) → Invariant script s → Holds (ReturnDone s) (Q.suppliedVoid s)
+    pub suppliedVoid-ok : (s : State) → Invariant script s → Holds script (ReturnDone s) (Q.suppliedVoid s)
     unfolding Q.suppliedVoid typeShape S.w word wellFormed Rattle.lex.specs.Bytes.between wordOf printReturn map₁
     suppliedVoid-ok s c = cur-ok _ s (weaken (type-ok script s _ _ (consumed-refl script s c) refl) (λ t s₁ q. record { shape = _; is = q .0; consumed = q .1 }))
 
-    pub returnType-ok : (s : State) → Invariant script s → Holds (ReturnDone s) (Q.returnType d s)
+    pub returnType-ok : (s : State) → Invariant script s → Holds script (ReturnDone s) (Q.returnType d s)
     unfolding Q.returnType
     returnType-ok s c = ifKind-else kVoid _ _ s
         (λ e. struck-ok script (d .type) s (deep .type s c) (λ t s₁ q. record { shape = q .shape; is = q .is; consumed = consumed-as (sym (q .ret ∙ ap (λ (z : ℕ). elim (eqb z kVoid) as (λ b. List Word) [ true ↦ [] | false ↦ printT (q .shape) ]) e)) (struck-consumed script (q .consumed)) }))
@@ -159,7 +159,7 @@ module _ (script : List ℕ) where
 
     -- ---- let, fn, extern
 
-    pub parseLet-ok : (s₀ s : State) → Waits s₀ s → Holds (NodeDone script s₀) (Q.parseLet d s)
+    pub parseLet-ok : (s₀ s : State) → Waits s₀ s → Holds script (NodeDone script s₀) (Q.parseLet d s)
     unfolding Q.parseLet nodeShape S.w print map₁ map₂ map₃
     parseLet-ok s₀ s dd =
         bind-ok _ _ s (takeDocs-ok s₀ s dd) (λ docs s₁ a.
@@ -170,7 +170,7 @@ module _ (script : List ℕ) where
         let z : Consumed script s₁ s₅ _ = d₂ ▷ d₃ .consumed ▷ d₄ ▷ d₅ .consumed in
         node-end script s₅ 0 _ (S.letS (map w (s .docs)) (w name) (d₅ .shape)) (a .1 ▷ z) (λ id. rw (words-grows script (z .grows) docs _ (a .0), d₃ .isWellFormed, d₅ .is)) refl)))))
 
-    pub parseFn-ok : (s₀ s : State) → Waits s₀ s → current (s .left) .kind ≡ kFn → Holds (NodeDone script s₀) (Q.parseFn d s)
+    pub parseFn-ok : (s₀ s : State) → Waits s₀ s → current (s .left) .kind ≡ kFn → Holds script (NodeDone script s₀) (Q.parseFn d s)
     unfolding Q.parseFn nodeShape S.w print map₁ map₂ map₃ map₄ map₅
     parseFn-ok s₀ s dd e =
         bind-ok _ _ s (takeDocs-ok s₀ s dd) (λ docs s₁ a.
@@ -196,11 +196,11 @@ module _ (script : List ℕ) where
     abbrev fnOf : FnCells → FnShape
     fnOf f = record { docs = f .0 .0 .0; name = f .0 .0 .1; args = f .0 .1; ret = f .1 }
 
-    externFn-ok : (s : State) → Invariant script s → Holds (ItemDone script fnRd (λ f. printFn (fnOf f)) s) (Q.externFn d s)
-    unfolding Q.externFn printFn S.fnIn S.wordIn S.w tokenCells runCells both resolve chain decoded number token run andThen map₁
+    externFn-ok : (s : State) → Invariant script s → Holds script (ItemDone script fnRd (λ f. printFn (fnOf f)) s) (Q.externFn d s)
+    unfolding Q.externFn withDocs printFn S.fnIn S.wordIn S.w tokenCells runCells both resolve chain decoded number token run andThen map₁
     externFn-ok s c =
         then-ok _ _ s (collectDocs-ok s c) (λ n s₁ dd.
-        then-ok {P = λ z s₂. s₂ ≡ s₁} _ _ s₁ (rejectKind-ok kExtern 17 s₁ refl tt) (λ z s₁′ same.
+        then-ok {P = λ z s₂. s₂ ≡ s₁} _ _ s₁ (rejectKind-ok kExtern 17 s₁ refl (dd .waits .consumed .invariant .allShaped)) (λ z s₁′ same.
         rw same (bind-ok _ _ s₁ (takeDocs-ok s s₁ (dd .waits)) (λ docs s₂ a.
         then-ok _ _ s₂ (sign-ok script kFn s₂ (a .1 .invariant) refl refl) (λ x s₃ d₃.
         bind-ok _ _ s₃ (expectIdent-ok script s₃ (d₃ .invariant)) (λ name s₄ d₄.
@@ -217,12 +217,12 @@ module _ (script : List ℕ) where
     unfolding printFns
     fns-fold vs = fold-print [] (λ f. _∷_ (fnOf f)) (λ f. printFn (fnOf f)) printFns refl (λ a l. refl) vs
 
-    pub parseExtern-ok : (s₀ s : State) → Waits s₀ s → Holds (NodeDone script s₀) (Q.parseExtern d s)
+    pub parseExtern-ok : (s₀ s : State) → Waits s₀ s → Holds script (NodeDone script s₀) (Q.parseExtern d s)
     unfolding Q.parseExtern nodeShape S.w S.fns print inCurly map₁ map₂ map₃ map₄
     parseExtern-ok s₀ s dd =
         bind-ok _ _ s (takeDocs-ok s₀ s dd) (λ docs s₁ a.
         bind-ok _ _ s₁ (expect-ok script kExtern s₁ (a .1 .invariant) refl) (λ src s₂ d₂.
-        bind-ok _ _ s₂ (ifKind-ok _ _ _ s₂ (λ e. advance-ok script kS s₂ (d₂ .consumed .invariant) e refl) (fail-ok 16 0 s₂ tt)) (λ name s₃ d₃.
+        bind-ok _ _ s₂ (ifKind-ok _ _ _ s₂ (λ e. advance-ok script kS s₂ (d₂ .consumed .invariant) e refl) (fail-ok 16 0 s₂ (d₂ .consumed .invariant .allShaped))) (λ name s₃ d₃.
         then-ok _ _ s₃ (sign-ok script kCurlyLeft s₃ (d₃ .consumed .invariant) refl refl) (λ x s₄ d₄.
         bind-ok _ _ s₄ (listUntil-ok script fnRd (λ f. printFn (fnOf f)) fnRd-mono [] (λ f. _∷_ (fnOf f)) kCurlyRight _ refl refl externFn-ok s₄ (d₂ .consumed ▷ d₃ .consumed ▷ d₄)) (λ fns s₅ q.
         node-end script s₅ 0 _ (S.externS (w src) (map w (s .docs)) (w name) (fold [] (λ f. _∷_ (fnOf f)) (q .values))) (a .1 ▷ q .consumed)
@@ -236,9 +236,9 @@ module _ (script : List ℕ) where
       pub cells : c ≡ tokenCells path
       pub took : TookToken script kS s path s′
 
-    importPath-ok : (s : State) → Invariant script s → Holds (PathDone s) (Q.importPath s)
+    importPath-ok : (s : State) → Invariant script s → Holds script (PathDone s) (Q.importPath s)
     unfolding Q.importPath
-    importPath-ok s c = ifKind-ok _ _ _ s (λ e. bind-ok _ _ s (advance-ok script kS s c e refl) (λ t s₁ q. pure-ok _ s₁ (record { path = t; cells = refl; took = q }))) (fail-ok 15 0 s tt)
+    importPath-ok s c = ifKind-ok _ _ _ s (λ e. bind-ok _ _ s (advance-ok script kS s c e refl) (λ t s₁ q. pure-ok _ s₁ (record { path = t; cells = refl; took = q }))) (fail-ok 15 0 s (c .allShaped))
 
     -- paths, and the tokens that they are, each taken and kept
     record PathsDone (s : State) (ps : List (List ℕ)) (s′ : State) : Type 0 where
@@ -262,7 +262,7 @@ module _ (script : List ℕ) where
       docsWellFormed = wellFormed-snoc script (p .tokens) (q .path) (p .docsWellFormed) (q .took .isWellFormed);
     }
 
-    paths-ok : (s : State) → Invariant script s → Holds (PathsDone s) (R.members kBraceRight (Q.importPath) s)
+    paths-ok : (s : State) → Invariant script s → Holds script (PathsDone s) (R.members kBraceRight (Q.importPath) s)
     unfolding R.members consumed-refl consumed-none
     paths-ok s c = loop-ok (PathsDone s) _
         (λ ps s₁ p. ifKind-ok _ _ _ s₁ (λ k. pure-ok _ s₁ p) (ifKind-ok _ _ _ s₁ (λ k. pure-ok _ s₁ p)
@@ -280,7 +280,7 @@ module _ (script : List ℕ) where
       pub exact : consumed .taken ≡ lb ∷ (tokens ++ (rb ∷ []))
       pub docsWellFormed : AllWellFormed script tokens
 
-    bracketedPaths-ok : (s : State) → Invariant script s → Holds (BracketsDone s) (Q.bracketedPaths s)
+    bracketedPaths-ok : (s : State) → Invariant script s → Holds script (BracketsDone s) (Q.bracketedPaths s)
     unfolding Q.bracketedPaths inRound _▷_
     bracketedPaths-ok s c =
         then-ok _ _ s (expect-ok script kBraceLeft s c refl) (λ lb s₁ d₁.
@@ -314,34 +314,34 @@ module _ (script : List ℕ) where
       even = refl;
       kept = λ z D. (b .kept z D .0, refl);
       grows = b .grows;
-      invariant = record { docs = b .invariant .docs; tokensOk = b .invariant .tokensOk; docsWellFormed = b .invariant .docsWellFormed };
+      invariant = record { docs = b .invariant .docs; tokensOk = b .invariant .tokensOk; docsWellFormed = b .invariant .docsWellFormed; allShaped = b .invariant .allShaped };
     }
 
     two≢one : (n : ℕ) → eqb (suc (suc n)) 1 ≡ false
     two≢one n = eqb·suc-suc (suc n) 0 ∙ eqb·suc-zero n
 
     about-ok : (s t : State) (ps : List (List ℕ)) (ts : List Token) (lb rb : Token) (ws : List Word) (b : Consumed script s t ws) → ps ≡ map tokenCells ts → ws ≡ inRound (map w ts) → b .taken ≡ lb ∷ (ts ++ (rb ∷ [])) → AllWellFormed script ts
-        → Holds (PathsLeft s) (elim (eqb (length ps) 1) as (λ x. Result (List (List ℕ))) [ true ↦ ok ps (oneStruck s t) | false ↦ ok ps t ])
+        → Holds script (PathsLeft s) (elim (eqb (length ps) 1) as (λ x. Result (List (List ℕ))) [ true ↦ ok ps (oneStruck s t) | false ↦ ok ps t ])
     unfolding printPaths inRound
-    about-ok s t ps [] lb rb ws b e q x h = subst (λ (ps : List (List ℕ)). Holds (PathsLeft s) (elim (eqb (length ps) 1) as (λ x. Result (List (List ℕ))) [ true ↦ ok ps (oneStruck s t) | false ↦ ok ps t ])) (sym e) (holds ([], refl, consumed-as q b, h))
-    about-ok s t ps (p ∷ []) lb rb ws b e q x h = subst (λ (ps : List (List ℕ)). Holds (PathsLeft s) (elim (eqb (length ps) 1) as (λ x. Result (List (List ℕ))) [ true ↦ ok ps (oneStruck s t) | false ↦ ok ps t ])) (sym e) (holds (p ∷ [], refl, one-consumed s t ws lb p rb b x, h))
-    about-ok s t ps (p ∷ (r ∷ ts)) lb rb ws b e q x h = subst (λ (ps : List (List ℕ)). Holds (PathsLeft s) (elim (eqb (length ps) 1) as (λ x. Result (List (List ℕ))) [ true ↦ ok ps (oneStruck s t) | false ↦ ok ps t ])) (sym e)
-        (subst (λ (z : Bool). Holds (PathsLeft s) (elim z as (λ x. Result (List (List ℕ))) [ true ↦ ok (map tokenCells (p ∷ (r ∷ ts))) (oneStruck s t) | false ↦ ok (map tokenCells (p ∷ (r ∷ ts))) t ])) (sym (two≢one (length (map tokenCells ts)))) (holds (p ∷ (r ∷ ts), refl, consumed-as q b, h)))
+    about-ok s t ps [] lb rb ws b e q x h = subst (λ (ps : List (List ℕ)). Holds script (PathsLeft s) (elim (eqb (length ps) 1) as (λ x. Result (List (List ℕ))) [ true ↦ ok ps (oneStruck s t) | false ↦ ok ps t ])) (sym e) (holds ([], refl, consumed-as q b, h))
+    about-ok s t ps (p ∷ []) lb rb ws b e q x h = subst (λ (ps : List (List ℕ)). Holds script (PathsLeft s) (elim (eqb (length ps) 1) as (λ x. Result (List (List ℕ))) [ true ↦ ok ps (oneStruck s t) | false ↦ ok ps t ])) (sym e) (holds (p ∷ [], refl, one-consumed s t ws lb p rb b x, h))
+    about-ok s t ps (p ∷ (r ∷ ts)) lb rb ws b e q x h = subst (λ (ps : List (List ℕ)). Holds script (PathsLeft s) (elim (eqb (length ps) 1) as (λ x. Result (List (List ℕ))) [ true ↦ ok ps (oneStruck s t) | false ↦ ok ps t ])) (sym e)
+        (subst (λ (z : Bool). Holds script (PathsLeft s) (elim z as (λ x. Result (List (List ℕ))) [ true ↦ ok (map tokenCells (p ∷ (r ∷ ts))) (oneStruck s t) | false ↦ ok (map tokenCells (p ∷ (r ∷ ts))) t ])) (sym (two≢one (length (map tokenCells ts)))) (holds (p ∷ (r ∷ ts), refl, consumed-as q b, h)))
 
-    strikeSingle-ok : (s : State) → Invariant script s → Holds (PathsLeft s) (Q.strikeSingle (Q.bracketedPaths) s)
+    strikeSingle-ok : (s : State) → Invariant script s → Holds script (PathsLeft s) (Q.strikeSingle (Q.bracketedPaths) s)
     unfolding Q.strikeSingle
     strikeSingle-ok s c = go (Q.bracketedPaths s) (bracketedPaths-ok s c)
       where
-        go : (r : Result (List (List ℕ))) → Holds (BracketsDone s) r → Holds (PathsLeft s) (elim r as (λ r′. Result (List (List ℕ))) [ ok ps t ↦ elim (eqb (length ps) 1) as (λ x. Result (List (List ℕ))) [ true ↦ ok ps (oneStruck s t) | false ↦ ok ps t ] | err e t ↦ err e t ])
+        go : (r : Result (List (List ℕ))) → Holds script (BracketsDone s) r → Holds script (PathsLeft s) (elim r as (λ r′. Result (List (List ℕ))) [ ok ps t ↦ elim (eqb (length ps) 1) as (λ x. Result (List (List ℕ))) [ true ↦ ok ps (oneStruck s t) | false ↦ ok ps t ] | err e t ↦ err e t ])
         go r (holds {a = ps} {s = t} b) = about-ok s t ps (b .tokens) (b .lb) (b .rb) (b .ws) (b .consumed) (b .cells) (b .words) (b .exact) (b .docsWellFormed)
         go r (fails q) = fails q
 
-    pub parseImport-ok : (s : State) → Invariant script s → current (s .left) .kind ≡ kImport → Holds (NodeDone script s) (Q.parseImport s)
+    pub parseImport-ok : (s : State) → Invariant script s → current (s .left) .kind ≡ kImport → Holds script (NodeDone script s) (Q.parseImport s)
     unfolding Q.parseImport nodeShape S.w print map₁ map₂ printPaths
     parseImport-ok s c e =
         bind-ok _ _ s (advance-ok script kImport s c e refl) (λ src s₁ d₁.
         bind-ok {P = PathsLeft s₁} _ _ s₁ (ifKind-ok _ _ _ s₁ (λ k. bind-ok _ _ s₁ (advance-ok script kS s₁ (d₁ .consumed .invariant) k refl) (λ p s₂ q. pure-ok _ s₂ (p ∷ [], refl, q .consumed, (q .isWellFormed, tt)))) (strikeSingle-ok s₁ (d₁ .consumed .invariant))) (λ ps s₂ q.
-        bind-ok _ _ s₂ (subst (λ (x : List (List ℕ)). Holds (λ r s′. (S.words (envOf script (s′ .arena)) r ≡ some (map w (q .0))) × Consumed script s s′ (w src ∷ printPaths (map w (q .0))) × (s′ .left ≡ s₂ .left)) (R.allocSlice x s₂)) (sym (q .1)) (wordList-ok s₂ (q .0) (q .3) (d₁ .consumed ▷ q .2))) (λ r s₃ z.
+        bind-ok _ _ s₂ (subst (λ (x : List (List ℕ)). Holds script (λ r s′. (S.words (envOf script (s′ .arena)) r ≡ some (map w (q .0))) × Consumed script s s′ (w src ∷ printPaths (map w (q .0))) × (s′ .left ≡ s₂ .left)) (R.allocSlice x s₂)) (sym (q .1)) (wordList-ok s₂ (q .0) (q .3) (d₁ .consumed ▷ q .2))) (λ r s₃ z.
         node-end script s₃ 0 _ (S.importS (w src) (map w (q .0))) (z .1) (λ id. ap₂ (map₂ S.importS) (d₁ .isWellFormed) (z .0)) refl)))
 
     -- ---- match
@@ -393,7 +393,7 @@ module _ (script : List ℕ) where
       invariant = b .invariant;
     }
 
-    conditionCase-ok : (c : Cases) (s : State) → Invariant script s → Holds (λ e s′. (cell : List ℕ) × (e ≡ record { cases = c .cases ++ (cell ∷ []); default = c .default }) × CaseDone s cell s′) (Q.conditionCase d c s)
+    conditionCase-ok : (c : Cases) (s : State) → Invariant script s → Holds script (λ e s′. (cell : List ℕ) × (e ≡ record { cases = c .cases ++ (cell ∷ []); default = c .default }) × CaseDone s cell s′) (Q.conditionCase d c s)
     unfolding Q.conditionCase printCase S.caseIn tokenCells runCells both resolve chain decoded number token run andThen map₁
     conditionCase-ok c s k = cur-ok _ s (
         bind-ok _ _ s (deep .expr 0 s k) (λ n s₁ d₁.
@@ -408,7 +408,7 @@ module _ (script : List ℕ) where
           },
         ))))
 
-    defaultCase-ok : (c : Cases) (s : State) → Invariant script s → Holds (λ e s′. (t : Token) × (b : Run) × (e ≡ record { cases = c .cases; default = some (t, b) }) × BodyDone s b s′ × WellFormed script t) (Q.defaultCase d c s)
+    defaultCase-ok : (c : Cases) (s : State) → Invariant script s → Holds script (λ e s′. (t : Token) × (b : Run) × (e ≡ record { cases = c .cases; default = some (t, b) }) × BodyDone s b s′ × WellFormed script t) (Q.defaultCase d c s)
     unfolding Q.defaultCase
     defaultCase-ok c s k = cur-ok _ s (bind-ok _ _ s (parseBody-ok s k) (λ b s₁ d₁. pure-ok _ s₁ (current (s .left), b, refl, d₁, tokensOk-current script (NoDocBeforeImport script) (s .left) (k .tokensOk))))
 
@@ -418,7 +418,7 @@ module _ (script : List ℕ) where
     abbrev block : Cases → Rule (ControlFlow Cases)
     block c = R._>>_ (Q.noteAfterDefault c) (R._>>=_ (R.ifKind kCurlyLeft (Q.defaultCase d c) (Q.conditionCase d c)) (λ e. R.pure (continue e)))
 
-    block-by : (s₀ : State) (cs : List (List ℕ)) (o : Option (Token × Run)) (s : State) → CasesDone s₀ (record { cases = cs; default = o }) s → Holds (λ t s′. CasesDone s₀ (flowValue t) s′) (block (record { cases = cs; default = o }) s)
+    block-by : (s₀ : State) (cs : List (List ℕ)) (o : Option (Token × Run)) (s : State) → CasesDone s₀ (record { cases = cs; default = o }) s → Holds script (λ t s′. CasesDone s₀ (flowValue t) s′) (block (record { cases = cs; default = o }) s)
     unfolding Q.noteAfterDefault R._>>_
     block-by s₀ cs none s q =
         bind-ok {P = CasesDone s₀} _ _ s (ifKind-ok _ _ _ s
@@ -431,7 +431,7 @@ module _ (script : List ℕ) where
         }))))
         (λ e s′ r. pure-ok _ s′ r)
     block-by s₀ cs (some x) s q =
-        let c : Invariant script (bumped s) = record { docs = q .default .2 .invariant .docs; tokensOk = q .default .2 .invariant .tokensOk; docsWellFormed = q .default .2 .invariant .docsWellFormed } in
+        let c : Invariant script (bumped s) = record { docs = q .default .2 .invariant .docs; tokensOk = q .default .2 .invariant .tokensOk; docsWellFormed = q .default .2 .invariant .docsWellFormed; allShaped = q .default .2 .invariant .allShaped } in
         bind-ok {P = CasesDone s₀} _ _ (bumped s) (ifKind-ok _ _ _ (bumped s)
         (λ k. weaken (defaultCase-ok _ (bumped s) c) (λ e s′ r. subst (λ (y : Cases). CasesDone s₀ y s′) (sym (r .2)) (record
         { values = q .values; are = stillCases (r .3 .consumed .grows) (q .are); default = (r .3 .shapes, r .3 .is, afterDefault-any (q .default .2) (r .3 .consumed) _, r .4) })))
@@ -442,7 +442,7 @@ module _ (script : List ℕ) where
         }))))
         (λ e s′ r. pure-ok _ s′ r)
 
-    cases-ok : (s : State) → Invariant script s → Holds (CasesDone s) (R.loop (Q.nextCase d) (record { cases = []; default = none }) s)
+    cases-ok : (s : State) → Invariant script s → Holds script (CasesDone s) (R.loop (Q.nextCase d) (record { cases = []; default = none }) s)
     unfolding Q.nextCase printAll
     cases-ok s k = loop-ok (CasesDone s) _
         (λ c s₁ q. ifKind-ok _ _ _ s₁ (λ e. pure-ok _ s₁ q) (ifKind-ok _ _ _ s₁ (λ e. pure-ok _ s₁ q) (block-by s (c .cases) (c .default) s₁ q)))
@@ -455,11 +455,11 @@ module _ (script : List ℕ) where
     foldCases vs = fold noCase (λ c. caseS (c .0 .1) (c .1)) vs
 
     match-rest : (s s₂ : State) → Consumed script s s₂ (fixed kMatch ∷ fixed kCurlyLeft ∷ []) → (t : Token) (cs : List (List ℕ)) (o : Option (Token × Run)) (s₃ : State) → CasesDone s₂ (record { cases = cs; default = o }) s₃
-        → Holds (NodeDone script s) (R._>>_ (R.expect kCurlyRight) (R._>>=_ (R.allocSlice cs) (λ r. matchEnd t r o)) s₃)
+        → Holds script (NodeDone script s) (R._>>_ (R.expect kCurlyRight) (R._>>=_ (R.allocSlice cs) (λ r. matchEnd t r o)) s₃)
     unfolding nodeShape S.w S.cases print inCurly map₁ map₂ map₃
     match-rest s s₂ u t cs none s₃ q =
         then-ok _ _ s₃ (sign-ok script kCurlyRight s₃ (q .default .invariant) refl refl) (λ x s₄ d₄.
-        bind-ok _ _ s₄ (allocSlice-ok script caseRd printCase caseRd-mono noCase (λ c. caseS (c .0 .1) (c .1)) s₄ cs (q .values) (q .default ▷ d₄) (stillCases (d₄ .grows) (q .are))) (λ r s₅ z. fails tt))
+        bind-ok _ _ s₄ (allocSlice-ok script caseRd printCase caseRd-mono noCase (λ c. caseS (c .0 .1) (c .1)) s₄ cs (q .values) (q .default ▷ d₄) (stillCases (d₄ .grows) (q .are))) (λ r s₅ z. fails (z .1 .invariant .allShaped)))
     match-rest s s₂ u t cs (some x) s₃ q =
         then-ok _ _ s₃ (sign-ok script kCurlyRight s₃ (q .default .2 .invariant) refl refl) (λ y s₄ d₄.
         bind-ok _ _ s₄ (allocSlice-ok script caseRd printCase caseRd-mono noCase (λ c. caseS (c .0 .1) (c .1)) s₄ cs (q .values) (consumed-refl script s₄ (d₄ .invariant)) (stillCases (d₄ .grows) (q .are))) (λ r s₅ z.
@@ -467,7 +467,7 @@ module _ (script : List ℕ) where
         (λ id. subst (λ (o : Option CaseShapes). map₃ S.matchS o (word script (x .0)) (S.shapes (envOf script (s₅ .arena)) (x .1)) ≡ some (S.matchS (foldCases (q .values)) (w (x .0)) (q .default .0))) (sym (z .0)) (ap₂ (map₂ (S.matchS (foldCases (q .values)))) (q .default .3) (shapes-grows script (consumed-end d₄ (z .1) .grows) (x .1) _ (q .default .1))))
         (ap (λ (ws : List Word). fixed kMatch ∷ fixed kCurlyLeft ∷ ((ws ++ inCurly (prints (q .default .0))) ++ (fixed kCurlyRight ∷ []))) (sym (cases-fold (q .values))))))
 
-    pub parseMatch-ok : (s : State) → Invariant script s → current (s .left) .kind ≡ kMatch → Holds (NodeDone script s) (Q.parseMatch d s)
+    pub parseMatch-ok : (s : State) → Invariant script s → current (s .left) .kind ≡ kMatch → Holds script (NodeDone script s) (Q.parseMatch d s)
     unfolding Q.parseMatch
     parseMatch-ok s k e =
         then-ok _ _ s (sign-took script kMatch s k e refl refl) (λ x s₁ d₁.
@@ -477,7 +477,7 @@ module _ (script : List ℕ) where
 
     -- ---- any item
 
-    pub parsePrefix-ok : (s : State) → Invariant script s → Holds (NodeDone script s) (Q.parsePrefix d s)
+    pub parsePrefix-ok : (s : State) → Invariant script s → Holds script (NodeDone script s) (Q.parsePrefix d s)
     unfolding Q.parsePrefix withDocs
     parsePrefix-ok s k =
         then-ok _ _ s (collectDocs-ok s k) (λ n s₁ q.
@@ -486,7 +486,7 @@ module _ (script : List ℕ) where
         (entry-ok _ _ _ _ s₁ (λ e. parseLet-ok s s₁ (q .waits))
         (entry-ok _ _ _ _ s₁ (λ e. parseFn-ok s s₁ (q .waits) e)
         (entry-ok _ _ _ _ s₁ (λ e. parseExtern-ok s s₁ (q .waits))
-        (other-ok _ _ s₁ (requireNoDocs-ok _ s₁ (λ e. free s₁ (idle s₁ (q .waits) e)) (λ e. tt))))))))
+        (other-ok _ _ s₁ (requireNoDocs-ok _ s₁ (λ e. free s₁ (idle s₁ (q .waits) e)) (λ e. q .waits .consumed .invariant .allShaped))))))))
       where
         -- no docs wait: nothing is done yet
         idle : (s₁ : State) → Waits s s₁ → s₁ .docs ≡ [] → Consumed script s s₁ []
@@ -509,8 +509,8 @@ module _ (script : List ℕ) where
           even = q .waits .consumed .even;
           kept = λ l D. (q .waits .consumed .kept l D .0, q .waits .consumed .kept l D .1 ∙ ap (map w) (no-docs s₁ (q .ready D) e));
           grows = q .waits .consumed .grows;
-          invariant = record { docs = λ D. no-docs s₁ (q .ready D) e; tokensOk = q .waits .consumed .invariant .tokensOk; docsWellFormed = q .waits .docsWellFormed };
+          invariant = record { docs = λ D. no-docs s₁ (q .ready D) e; tokensOk = q .waits .consumed .invariant .tokensOk; docsWellFormed = q .waits .docsWellFormed; allShaped = q .waits .consumed .invariant .allShaped };
         }
 
-        free : (s₁ : State) → Consumed script s s₁ [] → Holds (NodeDone script s) (R.ifKind kMatch (Q.parseMatch d) (d .expr 0) s₁)
+        free : (s₁ : State) → Consumed script s s₁ [] → Holds script (NodeDone script s) (R.ifKind kMatch (Q.parseMatch d) (d .expr 0) s₁)
         free s₁ a = ifKind-ok _ _ _ s₁ (λ e. weaken (parseMatch-ok s₁ (a .invariant) e) (joined a)) (weaken (deep .expr 0 s₁ (a .invariant)) (joined a))

@@ -3,8 +3,8 @@ use mathlib.Core.Path.{_≡_, refl, sym, ap, ap₂, _∙_, subst}
 use mathlib.Core.Bool.{Bool, true, false}
 use mathlib.Core.Option.{none, some}
 use mathlib.Core.List.{List, [], _∷_, _++_, map, flatten, append-assoc, append-nil, map-append}
-use Prim.Native.Nat.{ℕ, zero, suc, _+_, _-_}
-use lib.Dec.{eqb, T}
+use Prim.Native.Nat.{ℕ, zero, suc, _+_, _-_, _≤_, _<_}
+use lib.Dec.{eqb, eqb→eq, T}
 use lib.ListN.{length, length-append, length-map, replicate, length-replicate}
 use native.Mathlib.Omega.{arith}
 use Rattle.lex.specs.Kind.{kEof, kImport, kDoc, kIdent, kVoid}
@@ -14,7 +14,7 @@ use Rattle.rules.specs.Tree.{Arena, Notes, State, Result, ok, err}
 use Rattle.rules.specs.Combinators.{Rule, current, rest, advance, struck, expect, expectIdent, withArena, pushNodeAnd, pushType, allocSlice, members, listUntil}
 use Rattle.rules.specs.Shape.{Word, wordOf, word, TypeShape, Shape, map₁, andThen, Decoder, decoded, chain, items, listAt, typeAt, nodeAt, typeShape, nodeShape}
 use Rattle.rules.specs.Strike.{keep, noDocBeforeImport}
-use Rattle.rules.proofs.Results.{Ends, holds, fails, weaken, ifKind-ok, bind-ok, then-ok, pure-ok, fail-ok, loop-ok}
+use Rattle.rules.proofs.Results.{not-kind, Ends, holds, fails, weaken, ifKind-ok, bind-ok, then-ok, pure-ok, fail-ok, loop-ok}
 use Rattle.rules.proofs.Unique.Print.{fixed, printT, printReturn, print}
 use Rattle.rules.proofs.Unique.Grow.{Le, env, envOf, Grows, extend, grows-refl, grows-trans, arena-type, arena-node, from-end}
 use Rattle.lex.specs.declared.tok.Token.{Token}
@@ -26,9 +26,14 @@ use Rattle.rules.specs.declared.TypeExpr.{TypeExpr}
 
 -- ---- results
 
--- what unique reading asks of a result: nothing where a rule fails
-abbrev pub Holds : {A : Type 0} → (A → State → Type 0) → Result A → Type 0
-Holds P r = Ends P (λ s. Unit {0}) r
+-- every record has a shape
+pub record AllShaped (script : List ℕ) (m : Arena) : Type 0 where
+  pub nodes : (i : ℕ) → i < length (m .nodes) → (σ : Shape) × (nodeAt script m i ≡ some σ)
+  pub types : (j : ℕ) → j < length (m .types) → (τ : TypeShape) × (typeAt script m j ≡ some τ)
+
+-- what unique reading asks of a result: where a rule fails, only that every record made so far has a shape
+abbrev pub Holds : {A : Type 0} → List ℕ → (A → State → Type 0) → Result A → Type 0
+Holds script P r = Ends P (λ s. AllShaped script (s .arena)) r
 
 -- ---- tokens
 
@@ -65,6 +70,7 @@ pub record Invariant (script : List ℕ) (s : State) : Type 0 where
   pub docs : NoDocBeforeImport script → s .docs ≡ []
   pub tokensOk : TokensOk script (NoDocBeforeImport script) (s .left)
   pub docsWellFormed : AllWellFormed script (s .docs)
+  pub allShaped : AllShaped script (s .arena)
 
 pub keep-append : (bs cs : List Bool) (us vs : List Word) → length bs ≡ length us → keep (bs ++ cs) (us ++ vs) ≡ keep bs us ++ keep cs vs
 unfolding keep
@@ -200,23 +206,23 @@ module _ (script : List ℕ) where
       even = refl;
       kept = λ z D. (z, ap (λ (l : List Token). wordOf script (current l) ∷ []) (sym p));
       grows = grows-refl script (s .arena);
-      invariant = record { docs = c .docs; tokensOk = subst (λ (l : List Token). TokensOk script (NoDocBeforeImport script) (rest l)) (sym p) (subst (TokensOk script (NoDocBeforeImport script)) p (c .tokensOk) .2); docsWellFormed = c .docsWellFormed };
+      invariant = record { docs = c .docs; tokensOk = subst (λ (l : List Token). TokensOk script (NoDocBeforeImport script) (rest l)) (sym p) (subst (TokensOk script (NoDocBeforeImport script)) p (c .tokensOk) .2); docsWellFormed = c .docsWellFormed; allShaped = c .allShaped };
     };
     one = ap (λ (l : List Token). current l ∷ []) (sym p);
     isWellFormed = tokensOk-current script (NoDocBeforeImport script) (s .left) (c .tokensOk);
   }
 
-  pub advance-ok : (k : ℕ) (s : State) → Invariant script s → current (s .left) .kind ≡ k → eqb k kEof ≡ false → Holds (TookToken k s) (advance s)
+  pub advance-ok : (k : ℕ) (s : State) → Invariant script s → current (s .left) .kind ≡ k → eqb k kEof ≡ false → Holds script (TookToken k s) (advance s)
   unfolding advance
   advance-ok k s c e n = holds (took k s c e n (s .left) refl)
 
-  pub expect-ok : (k : ℕ) (s : State) → Invariant script s → eqb k kEof ≡ false → Holds (TookToken k s) (expect k s)
+  pub expect-ok : (k : ℕ) (s : State) → Invariant script s → eqb k kEof ≡ false → Holds script (TookToken k s) (expect k s)
   unfolding expect
-  expect-ok k s c n = ifKind-ok k _ _ s (λ e. advance-ok k s c e n) (fail-ok 11 k s tt)
+  expect-ok k s c n = ifKind-ok k _ _ s (λ e. advance-ok k s c e n) (fail-ok 11 k s (c .allShaped))
 
-  pub expectIdent-ok : (s : State) → Invariant script s → Holds (TookToken kIdent s) (expectIdent s)
+  pub expectIdent-ok : (s : State) → Invariant script s → Holds script (TookToken kIdent s) (expectIdent s)
   unfolding expectIdent
-  expectIdent-ok s c = ifKind-ok kIdent _ _ s (λ e. advance-ok kIdent s c e refl) (fail-ok 12 0 s tt)
+  expectIdent-ok s c = ifKind-ok kIdent _ _ s (λ e. advance-ok kIdent s c e refl) (fail-ok 12 0 s (c .allShaped))
 
   pub word-fixed : (k : ℕ) (t : Token) → t .kind ≡ k → hasSpelling k ≡ false → wordOf script t ≡ fixed k
   unfolding wordOf fixed
@@ -226,11 +232,11 @@ module _ (script : List ℕ) where
       go true ws q = absurd (subst T q tt)
       go false ws q = refl
 
-  pub sign-ok : (k : ℕ) (s : State) → Invariant script s → eqb k kEof ≡ false → hasSpelling k ≡ false → Holds (λ t s′. Consumed script s s′ (fixed k ∷ [])) (expect k s)
+  pub sign-ok : (k : ℕ) (s : State) → Invariant script s → eqb k kEof ≡ false → hasSpelling k ≡ false → Holds script (λ t s′. Consumed script s s′ (fixed k ∷ [])) (expect k s)
   sign-ok k s c n m = weaken (expect-ok k s c n) (λ t s′ d. consumed-as (ap (λ (x : Word). x ∷ []) (word-fixed k t (d .kind) m)) (d .consumed))
 
   -- a token of a kind with a fixed spelling, taken by its kind
-  pub sign-took : (k : ℕ) (s : State) → Invariant script s → current (s .left) .kind ≡ k → eqb k kEof ≡ false → hasSpelling k ≡ false → Holds (λ t s′. Consumed script s s′ (fixed k ∷ [])) (advance s)
+  pub sign-took : (k : ℕ) (s : State) → Invariant script s → current (s .left) .kind ≡ k → eqb k kEof ≡ false → hasSpelling k ≡ false → Holds script (λ t s′. Consumed script s s′ (fixed k ∷ [])) (advance s)
   sign-took k s c e n m = weaken (advance-ok k s c e n) (λ t s′ d. consumed-as (ap (λ (x : Word). x ∷ []) (word-fixed k t (d .kind) m)) (d .consumed))
 
   -- ---- striking
@@ -249,24 +255,56 @@ module _ (script : List ℕ) where
         even = length-replicate (length (s .left) - length (t .left)) false ∙ n;
         kept = λ z D. (d .kept z D .0, keep-none _ _ (n ∙ sym (length-map (d .taken) (wordOf script))));
         grows = d .grows;
-        invariant = record { docs = d .invariant .docs; tokensOk = d .invariant .tokensOk; docsWellFormed = d .invariant .docsWellFormed };
+        invariant = record { docs = d .invariant .docs; tokensOk = d .invariant .tokensOk; docsWellFormed = d .invariant .docsWellFormed; allShaped = d .invariant .allShaped };
       }
 
-  pub struck-ok : {A : Type 0} {P Q : A → State → Type 0} (x : Rule A) (s : State) → Holds P (x s) → ((a : A) (t : State) → P a t → Q a (struckState s t)) → Holds Q (struck x s)
+  pub struck-ok : {A : Type 0} {P Q : A → State → Type 0} (x : Rule A) (s : State) → Holds script P (x s) → ((a : A) (t : State) → P a t → Q a (struckState s t)) → Holds script Q (struck x s)
   unfolding struck
   struck-ok {A} {P} {Q} x s h k = go (x s) h
     where
-      go : (r : Result A) → Holds P r → Holds Q (elim r as (λ r′. Result A) [ ok a t ↦ ok a (struckState s t) | err e t ↦ err e t ])
+      go : (r : Result A) → Holds script P r → Holds script Q (elim r as (λ r′. Result A) [ ok a t ↦ ok a (struckState s t) | err e t ↦ err e t ])
       go r (holds {a} {s = t} p) = holds (k a t p)
       go r (fails q) = fails q
 
-  pub struck-advance-ok : (k : ℕ) (s : State) → Invariant script s → current (s .left) .kind ≡ k → eqb k kEof ≡ false → Holds (λ t s′. Consumed script s s′ []) (struck advance s)
+  pub struck-advance-ok : (k : ℕ) (s : State) → Invariant script s → current (s .left) .kind ≡ k → eqb k kEof ≡ false → Holds script (λ t s′. Consumed script s s′ []) (struck advance s)
   struck-advance-ok k s c e n = struck-ok advance s (advance-ok k s c e n) (λ t s₁ q. struck-consumed (q .consumed))
 
-  pub struck-expect-ok : (k : ℕ) (s : State) → Invariant script s → eqb k kEof ≡ false → Holds (λ t s′. Consumed script s s′ []) (struck (expect k) s)
+  pub struck-expect-ok : (k : ℕ) (s : State) → Invariant script s → eqb k kEof ≡ false → Holds script (λ t s′. Consumed script s s′ []) (struck (expect k) s)
   struck-expect-ok k s c n = struck-ok (expect k) s (expect-ok k s c n) (λ t s₁ q. struck-consumed (q .consumed))
 
   -- ---- making records
+
+  -- nothing made but lists
+  grown-shaped : (m m′ : Arena) → AllShaped script m → Grows script m m′ → m′ .nodes ≡ m .nodes → m′ .types ≡ m .types → AllShaped script m′
+  grown-shaped m m′ a g en et = record {
+    nodes = λ i h. let z = a .nodes i (omega (arith, ap length en, h)) in (z .0, g .nodes i (z .0) (z .1));
+    types = λ j h. let z = a .types j (omega (arith, ap length et, h)) in (z .0, g .types j (z .0) (z .1));
+  }
+
+  -- or one record, which has a shape
+  one-type : (m m′ : Arena) (x : TypeExpr) → AllShaped script m → m′ .cells ≡ m .cells → m′ .types ≡ m .types ++ (x ∷ []) → m′ .nodes ≡ m .nodes → (τ : TypeShape) × (typeAt script m′ (length (m .types)) ≡ some τ) → AllShaped script m′
+  one-type m m′ x a ec et en k =
+      let g : Grows script m m′ = extend script m m′ [] (x ∷ []) [] (ec ∙ sym (append-nil _)) et (en ∙ sym (append-nil _)) in
+      record {
+        nodes = λ i h. let z = a .nodes i (omega (arith, ap length en, h)) in (z .0, g .nodes i (z .0) (z .1));
+        types = λ j h. by-place g j (omega (arith, ap length et, length-append (m .types) (x ∷ []), h)) (eqb j (length (m .types))) refl;
+      }
+    where
+      by-place : Grows script m m′ → (j : ℕ) → j ≤ length (m .types) → (b : Bool) → eqb j (length (m .types)) ≡ b → (τ : TypeShape) × (typeAt script m′ j ≡ some τ)
+      by-place g j h true e = subst (λ (i : ℕ). (τ : TypeShape) × (typeAt script m′ i ≡ some τ)) (sym (eqb→eq j (length (m .types)) (rw e tt))) k
+      by-place g j h false e = let z = a .types j (omega (arith, not-kind j (length (m .types)) e, h)) in (z .0, g .types j (z .0) (z .1))
+
+  one-node : (m m′ : Arena) (x : Node) → AllShaped script m → m′ .cells ≡ m .cells → m′ .types ≡ m .types → m′ .nodes ≡ m .nodes ++ (x ∷ []) → (σ : Shape) × (nodeAt script m′ (length (m .nodes)) ≡ some σ) → AllShaped script m′
+  one-node m m′ x a ec et en k =
+      let g : Grows script m m′ = extend script m m′ [] [] (x ∷ []) (ec ∙ sym (append-nil _)) (et ∙ sym (append-nil _)) en in
+      record {
+        nodes = λ i h. by-place g i (omega (arith, ap length en, length-append (m .nodes) (x ∷ []), h)) (eqb i (length (m .nodes))) refl;
+        types = λ j h. let z = a .types j (omega (arith, ap length et, h)) in (z .0, g .types j (z .0) (z .1));
+      }
+    where
+      by-place : Grows script m m′ → (i : ℕ) → i ≤ length (m .nodes) → (b : Bool) → eqb i (length (m .nodes)) ≡ b → (σ : Shape) × (nodeAt script m′ i ≡ some σ)
+      by-place g i h true e = subst (λ (j : ℕ). (σ : Shape) × (nodeAt script m′ j ≡ some σ)) (sym (eqb→eq i (length (m .nodes)) (rw e tt))) k
+      by-place g i h false e = let z = a .nodes i (omega (arith, not-kind i (length (m .nodes)) e, h)) in (z .0, g .nodes i (z .0) (z .1))
 
   pub record NodeDone (s : State) (n : NodeId) (s′ : State) : Type 0 where
     pub shape : Shape
@@ -280,24 +318,24 @@ module _ (script : List ℕ) where
     pub ret : printReturn shape ≡ elim (eqb (current (s .left) .kind) kVoid) as (λ b. List Word) [ true ↦ [] | false ↦ printT shape ]
 
   -- a record made, after what was done before
-  pub type-ok : {s₀ : State} {ws : List Word} (s : State) (x : TypeExpr) (σ : TypeShape) → Consumed script s₀ s ws → typeShape (env script (s .arena .cells) (typeAt script (s .arena)) (λ i. none)) x ≡ some σ → Holds (λ t s′. (typeAt script (s′ .arena) (t .0) ≡ some σ) × Consumed script s₀ s′ ws) (pushType x s)
+  pub type-ok : {s₀ : State} {ws : List Word} (s : State) (x : TypeExpr) (σ : TypeShape) → Consumed script s₀ s ws → typeShape (env script (s .arena .cells) (typeAt script (s .arena)) (λ i. none)) x ≡ some σ → Holds script (λ t s′. (typeAt script (s′ .arena) (t .0) ≡ some σ) × Consumed script s₀ s′ ws) (pushType x s)
   unfolding pushType withArena
   type-ok s x σ d e =
       let m : Arena = s .arena in
       let m′ : Arena = record { nodes = m .nodes; types = m .types ++ (x ∷ []); cells = m .cells; values = m .values } in
-      holds (arena-type script m m′ x refl refl ∙ e, consumed-end d (consumed-none s (withArena m′ s) refl refl (extend script m m′ [] (x ∷ []) [] (sym (append-nil _)) refl (sym (append-nil _))) (record { docs = d .invariant .docs; tokensOk = d .invariant .tokensOk; docsWellFormed = d .invariant .docsWellFormed })))
+      holds (arena-type script m m′ x refl refl ∙ e, consumed-end d (consumed-none s (withArena m′ s) refl refl (extend script m m′ [] (x ∷ []) [] (sym (append-nil _)) refl (sym (append-nil _))) (record { docs = d .invariant .docs; tokensOk = d .invariant .tokensOk; docsWellFormed = d .invariant .docsWellFormed; allShaped = one-type m m′ x (d .invariant .allShaped) refl refl refl (_, arena-type script m m′ x refl refl ∙ e) })))
 
-  pub node-ok : {s₀ : State} {ws : List Word} (s : State) (more : ℕ) (f : ℕ → Node) (σ : Shape) → Consumed script s₀ s ws → ((id : ℕ) → nodeShape (envOf script (s .arena)) (f id) ≡ some σ) → Holds (λ n s′. (nodeAt script (s′ .arena) (n .0) ≡ some σ) × Consumed script s₀ s′ ws) (pushNodeAnd more f s)
+  pub node-ok : {s₀ : State} {ws : List Word} (s : State) (more : ℕ) (f : ℕ → Node) (σ : Shape) → Consumed script s₀ s ws → ((id : ℕ) → nodeShape (envOf script (s .arena)) (f id) ≡ some σ) → Holds script (λ n s′. (nodeAt script (s′ .arena) (n .0) ≡ some σ) × Consumed script s₀ s′ ws) (pushNodeAnd more f s)
   unfolding pushNodeAnd withArena
   node-ok s more f σ d e =
       let m : Arena = s .arena in
       let m′ : Arena = record { nodes = m .nodes ++ (f (m .values) ∷ []); types = m .types; cells = m .cells; values = m .values + (1 + more) } in
-      holds (arena-node script m m′ (f (m .values)) refl refl refl ∙ e (m .values), consumed-end d (consumed-none s (withArena m′ s) refl refl (extend script m m′ [] [] (f (m .values) ∷ []) (sym (append-nil _)) (sym (append-nil _)) refl) (record { docs = d .invariant .docs; tokensOk = d .invariant .tokensOk; docsWellFormed = d .invariant .docsWellFormed })))
+      holds (arena-node script m m′ (f (m .values)) refl refl refl ∙ e (m .values), consumed-end d (consumed-none s (withArena m′ s) refl refl (extend script m m′ [] [] (f (m .values) ∷ []) (sym (append-nil _)) (sym (append-nil _)) refl) (record { docs = d .invariant .docs; tokensOk = d .invariant .tokensOk; docsWellFormed = d .invariant .docsWellFormed; allShaped = one-node m m′ (f (m .values)) (d .invariant .allShaped) refl refl refl (_, arena-node script m m′ (f (m .values)) refl refl refl ∙ e (m .values)) })))
 
-  pub node-end : {s₀ : State} {ws : List Word} (s : State) (more : ℕ) (f : ℕ → Node) (σ : Shape) → Consumed script s₀ s ws → ((id : ℕ) → nodeShape (envOf script (s .arena)) (f id) ≡ some σ) → ws ≡ print σ → Holds (NodeDone s₀) (pushNodeAnd more f s)
+  pub node-end : {s₀ : State} {ws : List Word} (s : State) (more : ℕ) (f : ℕ → Node) (σ : Shape) → Consumed script s₀ s ws → ((id : ℕ) → nodeShape (envOf script (s .arena)) (f id) ≡ some σ) → ws ≡ print σ → Holds script (NodeDone s₀) (pushNodeAnd more f s)
   node-end s more f σ d e p = weaken (node-ok s more f σ d e) (λ n s′ q. record { shape = σ; is = q .0; consumed = consumed-as p (q .1) })
 
-  pub type-end : {s₀ : State} {ws : List Word} (s : State) (x : TypeExpr) (σ : TypeShape) → Consumed script s₀ s ws → typeShape (env script (s .arena .cells) (typeAt script (s .arena)) (λ i. none)) x ≡ some σ → ws ≡ printT σ → printReturn σ ≡ elim (eqb (current (s₀ .left) .kind) kVoid) as (λ b. List Word) [ true ↦ [] | false ↦ printT σ ] → Holds (TypeDone s₀) (pushType x s)
+  pub type-end : {s₀ : State} {ws : List Word} (s : State) (x : TypeExpr) (σ : TypeShape) → Consumed script s₀ s ws → typeShape (env script (s .arena .cells) (typeAt script (s .arena)) (λ i. none)) x ≡ some σ → ws ≡ printT σ → printReturn σ ≡ elim (eqb (current (s₀ .left) .kind) kVoid) as (λ b. List Word) [ true ↦ [] | false ↦ printT σ ] → Holds script (TypeDone s₀) (pushType x s)
   type-end s x σ d e p r = weaken (type-ok s x σ d e) (λ n s′ q. record { shape = σ; is = q .0; consumed = consumed-as p (q .1); ret = r })
 
   -- ---- lists
@@ -322,7 +360,7 @@ module _ (script : List ℕ) where
       consumed = consumed-as (sym (printAll-snoc p (d .values) (e .value))) (d .consumed ▷ e .consumed);
     }
 
-    pub members-ok : (stop : ℕ) (item : Rule (List ℕ)) → ((s : State) → Invariant script s → Holds (ItemDone rd p s) (item s)) → (s : State) → Invariant script s → Holds (ListDone rd p s) (members stop item s)
+    pub members-ok : (stop : ℕ) (item : Rule (List ℕ)) → ((s : State) → Invariant script s → Holds script (ItemDone rd p s) (item s)) → (s : State) → Invariant script s → Holds script (ListDone rd p s) (members stop item s)
     unfolding members printAll
     members-ok stop item h s c = loop-ok (ListDone rd p s) _
         (λ cs s₁ d. ifKind-ok _ _ _ s₁ (λ k. pure-ok _ s₁ d) (ifKind-ok _ _ _ s₁ (λ k. pure-ok _ s₁ d)
@@ -334,7 +372,7 @@ module _ (script : List ℕ) where
     still g l = all-mono _ _ (mono _ _ g) l
 
     -- a list written
-    pub allocSlice-ok : {L : Type 0} (nil : L) (cons : A → L → L) {s₀ : State} {ws : List Word} (s : State) (cs : List (List ℕ)) (vs : List A) → Consumed script s₀ s ws → All (rd (s .arena)) cs vs → Holds (λ r s′. (listAt (rd (s′ .arena)) nil cons (s′ .arena .cells) r ≡ some (fold nil cons vs)) × Consumed script s₀ s′ ws × (s′ .left ≡ s .left)) (allocSlice cs s)
+    pub allocSlice-ok : {L : Type 0} (nil : L) (cons : A → L → L) {s₀ : State} {ws : List Word} (s : State) (cs : List (List ℕ)) (vs : List A) → Consumed script s₀ s ws → All (rd (s .arena)) cs vs → Holds script (λ r s′. (listAt (rd (s′ .arena)) nil cons (s′ .arena .cells) r ≡ some (fold nil cons vs)) × Consumed script s₀ s′ ws × (s′ .left ≡ s .left)) (allocSlice cs s)
     unfolding allocSlice withArena listAt andThen map₁
     allocSlice-ok nil cons s cs vs d l =
         let m : Arena = s .arena in
@@ -342,7 +380,7 @@ module _ (script : List ℕ) where
         let g : Grows script m m′ = extend script m m′ (flatten cs) [] [] refl (sym (append-nil _)) (sym (append-nil _)) in
         let i : items (rd m′) nil cons (length cs) (flatten cs) ≡ some (fold nil cons vs, []) = all-items nil cons (rd m′) (mono _ _ (grows-refl script m′)) (all-mono (rd m) (rd m′) (mono _ _ g) l) in
         let w : listAt (rd m′) nil cons (m′ .cells) (record { start = length (m .cells); len = length cs }) ≡ some (fold nil cons vs) = rw (from-end (m .cells) (flatten cs), i) in
-        holds (w, consumed-end d (consumed-none s (withArena m′ s) refl refl g (record { docs = d .invariant .docs; tokensOk = d .invariant .tokensOk; docsWellFormed = d .invariant .docsWellFormed })), refl)
+        holds (w, consumed-end d (consumed-none s (withArena m′ s) refl refl g (record { docs = d .invariant .docs; tokensOk = d .invariant .tokensOk; docsWellFormed = d .invariant .docsWellFormed; allShaped = grown-shaped m m′ (d .invariant .allShaped) g refl refl })), refl)
 
     -- members, their closing token, and the list of them written
     pub record Listed {L : Type 0} (nil : L) (cons : A → L → L) (stop : ℕ) (s₀ : State) (ws : List Word) (r : Run) (s′ : State) : Type 0 where
@@ -350,8 +388,8 @@ module _ (script : List ℕ) where
       pub is : listAt (rd (s′ .arena)) nil cons (s′ .arena .cells) r ≡ some (fold nil cons values)
       pub consumed : Consumed script s₀ s′ ((ws ++ printAll p values) ++ (fixed stop ∷ []))
 
-    pub listUntil-ok : {L : Type 0} (nil : L) (cons : A → L → L) (stop : ℕ) (item : Rule (List ℕ)) → eqb stop kEof ≡ false → hasSpelling stop ≡ false → ((s : State) → Invariant script s → Holds (ItemDone rd p s) (item s))
-        → {s₀ : State} {ws : List Word} (s : State) → Consumed script s₀ s ws → Holds (Listed nil cons stop s₀ ws) (listUntil stop item s)
+    pub listUntil-ok : {L : Type 0} (nil : L) (cons : A → L → L) (stop : ℕ) (item : Rule (List ℕ)) → eqb stop kEof ≡ false → hasSpelling stop ≡ false → ((s : State) → Invariant script s → Holds script (ItemDone rd p s) (item s))
+        → {s₀ : State} {ws : List Word} (s : State) → Consumed script s₀ s ws → Holds script (Listed nil cons stop s₀ ws) (listUntil stop item s)
     unfolding listUntil
     listUntil-ok nil cons stop item n m h s d =
         bind-ok _ _ s (members-ok stop item h s (d .invariant)) (λ xs s₁ q.

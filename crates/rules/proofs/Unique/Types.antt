@@ -24,9 +24,9 @@ use Rattle.rules.specs.declared.TypeExpr.the-variants as T
 
 -- the readers one level deeper do as they should
 pub record ReadersOk (script : List ℕ) (d : Readers) : Type 0 where
-  pub prefix : (s : State) → Invariant script s → Holds (NodeDone script s) (d .prefix s)
-  pub expr : (least : ℕ) (s : State) → Invariant script s → Holds (NodeDone script s) (d .expr least s)
-  pub type : (s : State) → Invariant script s → Holds (TypeDone script s) (d .type s)
+  pub prefix : (s : State) → Invariant script s → Holds script (NodeDone script s) (d .prefix s)
+  pub expr : (least : ℕ) (s : State) → Invariant script s → Holds script (NodeDone script s) (d .expr least s)
+  pub type : (s : State) → Invariant script s → Holds script (TypeDone script s) (d .type s)
 
 unfoldable pub printParam : Word × TypeShape → List Word
 printParam p = p .0 ∷ fixed kColon ∷ printT (p .1)
@@ -45,14 +45,14 @@ module _ (script : List ℕ) where
   pub paramRd-mono : (m m′ : Arena) → Grows script m m′ → Le (paramRd m) (paramRd m′)
   paramRd-mono m m′ g = paramIn-grows script g
 
-  openAngle-ok : (k n : ℕ) → eqb k kEof ≡ false → hasSpelling k ≡ false → (s : State) → Invariant script s → current (s .left) .kind ≡ k → Holds (λ a s′. Consumed script s s′ (fixed k ∷ fixed kLessThan ∷ [])) (Q.openAngle n s)
+  openAngle-ok : (k n : ℕ) → eqb k kEof ≡ false → hasSpelling k ≡ false → (s : State) → Invariant script s → current (s .left) .kind ≡ k → Holds script (λ a s′. Consumed script s s′ (fixed k ∷ fixed kLessThan ∷ [])) (Q.openAngle n s)
   unfolding Q.openAngle
   openAngle-ok k n ne ns s c e =
       then-ok _ _ s (sign-took script k s c e ne ns) (λ t s₁ d₁.
       then-ok _ _ s₁ (sign-ok script kLessThan s₁ (d₁ .invariant) refl refl) (λ t₂ s₂ d₂.
-      rejectKind-ok kGreaterThan n s₂ (d₁ ▷ d₂) tt))
+      rejectKind-ok kGreaterThan n s₂ (d₁ ▷ d₂) (d₂ .invariant .allShaped)))
 
-  atomType-ok : (k : ℕ) → eqb k kEof ≡ false → (s : State) → Invariant script s → current (s .left) .kind ≡ k → Holds (TypeDone script s) (Q.atomType s)
+  atomType-ok : (k : ℕ) → eqb k kEof ≡ false → (s : State) → Invariant script s → current (s .left) .kind ≡ k → Holds script (TypeDone script s) (Q.atomType s)
   unfolding Q.atomType typeShape S.w printT wordOf printReturn map₁
   atomType-ok k ne s c e =
       bind-ok _ _ s (advance-ok script k s c e ne) (λ t s₁ d₁.
@@ -62,7 +62,7 @@ module _ (script : List ℕ) where
   ret-other : (s : State) (k : ℕ) → current (s .left) .kind ≡ k → eqb k kVoid ≡ false → (ws : List Word) → ws ≡ elim (eqb (current (s .left) .kind) kVoid) as (λ b. List Word) [ true ↦ [] | false ↦ ws ]
   ret-other s k e n ws = sym (ap (λ (b : Bool). elim b as (λ b′. List Word) [ true ↦ [] | false ↦ ws ]) (ap (λ (z : ℕ). eqb z kVoid) e ∙ n))
 
-  foreignType-ok : (s : State) → Invariant script s → current (s .left) .kind ≡ kForeign → Holds (TypeDone script s) (Q.foreignType s)
+  foreignType-ok : (s : State) → Invariant script s → current (s .left) .kind ≡ kForeign → Holds script (TypeDone script s) (Q.foreignType s)
   unfolding Q.foreignType typeShape S.w printT printReturn map₁
   foreignType-ok s c e =
       then-ok _ _ s (openAngle-ok kForeign 20 refl refl s c e) (λ a s₁ d₁.
@@ -71,7 +71,7 @@ module _ (script : List ℕ) where
       type-end script s₃ (T.Foreign t) (foreignT (w t)) (d₁ ▷ d₂ .consumed ▷ d₃) (ap (map₁ foreignT) (d₂ .isWellFormed)) refl (ret-other s kForeign e refl _))))
 
 module _ (script : List ℕ) (d : Readers) (deep : ReadersOk script d) where
-  pub typedName-ok : (s : State) → Invariant script s → Holds (ItemDone script (paramRd script) printParam s) (Q.typedName d s)
+  pub typedName-ok : (s : State) → Invariant script s → Holds script (ItemDone script (paramRd script) printParam s) (Q.typedName d s)
   unfolding Q.typedName printParam S.paramIn S.wordIn S.w tokenCells both resolve chain decoded number token andThen map₁
   typedName-ok s c =
       bind-ok _ _ s (expectIdent-ok script s c) (λ name s₁ d₁.
@@ -79,7 +79,7 @@ module _ (script : List ℕ) (d : Readers) (deep : ReadersOk script d) where
       bind-ok _ _ s₂ (deep .type s₂ (d₂ .invariant)) (λ t s₃ d₃.
       pure-ok _ s₃ (record { value = (w script name, d₃ .shape); is = rw (d₁ .isWellFormed, d₃ .is); consumed = d₁ .consumed ▷ d₂ ▷ d₃ .consumed }))))
 
-  recordType-ok : (s : State) → Invariant script s → current (s .left) .kind ≡ kRecord → Holds (TypeDone script s) (Q.recordType d s)
+  recordType-ok : (s : State) → Invariant script s → current (s .left) .kind ≡ kRecord → Holds script (TypeDone script s) (Q.recordType d s)
   unfolding Q.recordType typeShape S.w printT S.params printReturn S.paramIn S.wordIn map₁ map₂
   recordType-ok s c e =
       bind-ok _ _ s (advance-ok script kRecord s c e refl) (λ src s₁ d₁.
@@ -92,7 +92,7 @@ module _ (script : List ℕ) (d : Readers) (deep : ReadersOk script d) where
       → ((x : S.Env) (t : TypeExprId) → typeShape x (mk t) ≡ map₁ sh (x .type (t .0)))
       → ((σ : TypeShape) → printT (sh σ) ≡ fixed k ∷ fixed kLessThan ∷ (printT σ ++ (fixed kGreaterThan ∷ [])))
       → ((σ : TypeShape) → printReturn (sh σ) ≡ printT (sh σ))
-      → (s : State) → Invariant script s → current (s .left) .kind ≡ k → Holds (TypeDone script s) (R._>>_ (Q.openAngle n) (R._>>=_ (d .type) (λ t. R._>>_ (R.expect kGreaterThan) (R.pushType (mk t)))) s)
+      → (s : State) → Invariant script s → current (s .left) .kind ≡ k → Holds script (TypeDone script s) (R._>>_ (Q.openAngle n) (R._>>=_ (d .type) (λ t. R._>>_ (R.expect kGreaterThan) (R.pushType (mk t)))) s)
   unfolding map₁
   within-ok k n mk sh ne ns nv ht hp hr s c e =
       then-ok _ _ s (openAngle-ok script k n ne ns s c e) (λ a s₁ d₁.
@@ -100,7 +100,7 @@ module _ (script : List ℕ) (d : Readers) (deep : ReadersOk script d) where
       then-ok _ _ s₂ (sign-ok script kGreaterThan s₂ (d₂ .consumed .invariant) refl refl) (λ x s₃ d₃.
       type-end script s₃ (mk t) (sh (d₂ .shape)) (d₁ ▷ d₂ .consumed ▷ d₃) (ht _ t ∙ ap (map₁ sh) (d₃ .grows .types _ _ (d₂ .is))) (sym (hp (d₂ .shape))) (hr (d₂ .shape) ∙ ret-other script s k e nv _))))
 
-  pub parseType-ok : (s : State) → Invariant script s → Holds (TypeDone script s) (Q.parseType d s)
+  pub parseType-ok : (s : State) → Invariant script s → Holds script (TypeDone script s) (Q.parseType d s)
   unfolding Q.parseType Q.typeByKind Q.optionType Q.arrayType typeShape printT printReturn
   parseType-ok s c =
       table-ok _ _ s
@@ -113,4 +113,4 @@ module _ (script : List ℕ) (d : Readers) (deep : ReadersOk script d) where
       (entry-ok _ _ _ _ s (within-ok kOption 21 T.Option optionT refl refl refl (λ x t. refl) (λ σ. refl) (λ σ. refl) s c)
       (entry-ok _ _ _ _ s (within-ok kArray 22 T.Array arrayT refl refl refl (λ x t. refl) (λ σ. refl) (λ σ. refl) s c)
       (entry-ok _ _ _ _ s (recordType-ok s c)
-      (other-ok _ _ s (fail-ok 23 0 s tt)))))))))))
+      (other-ok _ _ s (fail-ok 23 0 s (c .allShaped))))))))))))

@@ -1,5 +1,5 @@
 -- Unique reading, for whole scripts.
-use mathlib.Core.Path.{_≡_, refl, sym, ap, ap₂, _∙_}
+use mathlib.Core.Path.{_≡_, refl, sym, ap, ap₂, _∙_, subst}
 use mathlib.Core.Bool.{Bool}
 use mathlib.Core.Option.{Option, none, some}
 use mathlib.Core.List.{List, [], _∷_, _++_, map, append-nil, map-append}
@@ -21,7 +21,7 @@ use Rattle.rules.proofs.Unique.Print.{fixed, print, prints}
 use Rattle.rules.proofs.Unique.Grow.{_⊑_}
 use Rattle.rules.proofs.Results.{holds, fails, weaken-both, both, ifKind-ok, bind-ok, pure-ok, fail-ok, loop-ok}
 use Rattle.rules.proofs.Counting.Whole.{read-tree, ended≢read, parseRoots-ends}
-use Rattle.rules.proofs.Unique.Step.{Holds, TokensOk, NoDocBeforeImport, Invariant, Consumed, _▷_, consumed-as, consumed-refl, keep-append, word-fixed, fold, printAll-snoc, NodeDone}
+use Rattle.rules.proofs.Unique.Step.{AllShaped, Holds, TokensOk, NoDocBeforeImport, Invariant, Consumed, _▷_, consumed-as, consumed-refl, keep-append, word-fixed, fold, printAll-snoc, NodeDone}
 use Rattle.rules.proofs.Unique.Types.{ReadersOk, parseType-ok}
 use Rattle.rules.proofs.Unique.Exprs.{shapes-fold, parseExpr-ok}
 use Rattle.rules.proofs.Unique.Items.{parsePrefix-ok}
@@ -33,7 +33,7 @@ use Rattle.rules.specs.declared.NodeId.{NodeId}
 
 pub readers-ok : (power : ℕ → Option Powers) → power kEof ≡ none → (script : List ℕ) (l : ℕ) → ReadersOk script (readers power script l)
 unfolding readers
-readers-ok power eof script zero = record { prefix = λ s c. fail-ok 10 0 s tt; expr = λ least s c. fail-ok 10 0 s tt; type = λ s c. fail-ok 10 0 s tt }
+readers-ok power eof script zero = record { prefix = λ s c. fail-ok 10 0 s (c .allShaped); expr = λ least s c. fail-ok 10 0 s (c .allShaped); type = λ s c. fail-ok 10 0 s (c .allShaped) }
 readers-ok power eof script (suc l) =
     let deep : ReadersOk script (readers power script l) = readers-ok power eof script l in
     record { prefix = parsePrefix-ok script _ deep; expr = parseExpr-ok script _ deep power eof; type = parseType-ok script _ deep }
@@ -90,18 +90,18 @@ module _ (script : List ℕ) where
 
   pub begin-invariant : Invariant script (begin script)
   unfolding begin
-  begin-invariant = record { docs = λ D. refl; tokensOk = tokens-ok script (NoDocBeforeImport script) (tokensOf (cut script)) (cut-ended script) (λ D. D); docsWellFormed = tt }
+  begin-invariant = record { docs = λ D. refl; tokensOk = tokens-ok script (NoDocBeforeImport script) (tokensOf (cut script)) (cut-ended script) (λ D. D); docsWellFormed = tt; allShaped = record { nodes = λ i h. absurd (omega arith); types = λ j h. absurd (omega arith) } }
 
   module _ (power : ℕ → Option Powers) (eof : power kEof ≡ none) where
-    roots-ok : Holds (RootsDone script (begin script)) (parseRoots power script (begin script))
+    roots-ok : Holds script (RootsDone script (begin script)) (parseRoots power script (begin script))
     unfolding parseRoots fold print
     roots-ok = loop-ok (RootsDone script (begin script)) _
         (λ roots s r. ifKind-ok _ _ _ s (λ e. pure-ok _ s r)
         (bind-ok _ _ s (readers-ok power eof script Q.maxLevels .prefix s (r .consumed .invariant)) (λ n s₁ q. pure-ok _ s₁ (roots-snoc script (begin script) r q))))
         [] (begin script) (record { values = []; are = are[]; consumed = consumed-refl script (begin script) begin-invariant })
 
-    parseRoots-ok : Holds Read (parseRoots power script (begin script))
-    parseRoots-ok = weaken-both (both roots-ok (parseRoots-ends power eof script)) (λ roots s q. record { roots-done = q .0; ends = q .1 .atEof }) (λ s q. tt)
+    parseRoots-ok : Holds script Read (parseRoots power script (begin script))
+    parseRoots-ok = weaken-both (both roots-ok (parseRoots-ends power eof script)) (λ roots s q. record { roots-done = q .0; ends = q .1 .atEof }) (λ s q. q .0)
 
   -- the words that are left of the tokens taken, and Eof
   words-left : (marks given : List Bool) (ts taken left : List Token) (ws : List Word) (t : Token) → marks ≡ given → ts ≡ taken ++ left → left ≡ t ∷ [] → t .kind ≡ kEof → length given ≡ length taken → keep given (map (wordOf script) taken) ≡ ws
@@ -121,12 +121,16 @@ module _ (script : List ℕ) where
     abbrev notesIn : Result (List ℕ) → Notes
     notesIn r = elim r as (λ r′. Notes) [ ok roots s ↦ s .notes | err e s ↦ s .notes ]
 
-    shape-in : (r : Result (List ℕ)) → Holds Read r → readingOf r ≡ read tree [] → (σs : Shapes) × (shapeOf script tree ≡ some σs)
+    shape-in : (r : Result (List ℕ)) → Holds script Read r → readingOf r ≡ read tree [] → (σs : Shapes) × (shapeOf script tree ≡ some σs)
     unfolding shapeOf
     shape-in r (holds {a = roots} {s} q) e = (fold noShape shape (q .roots-done .values), ap (shapeOf script) (sym (read-tree _ tree [] [] e)) ∙ are-each (q .roots-done .are))
     shape-in r (fails {e = x} u) e = ended≢read x tree [] e
 
-    words-in : (r : Result (List ℕ)) → Holds Read r → readingOf r ≡ read tree [] → notesIn r .afterDefault ≡ 0 → NoDocBeforeImport script → keep (notesIn r .marks) (map (wordOf script) (tokensOf (cut script))) ≡ printed (shapeOf script tree)
+    all-in : (r : Result (List ℕ)) → Holds script Read r → readingOf r ≡ read tree [] → AllShaped script (tree .arena)
+    all-in r (holds {a = roots} {s} q) e = subst (λ (t : Tree). AllShaped script (t .arena)) (read-tree _ tree [] [] e) (q .roots-done .consumed .invariant .allShaped)
+    all-in r (fails {e = x} u) e = ended≢read x tree [] e
+
+    words-in : (r : Result (List ℕ)) → Holds script Read r → readingOf r ≡ read tree [] → notesIn r .afterDefault ≡ 0 → NoDocBeforeImport script → keep (notesIn r .marks) (map (wordOf script) (tokensOf (cut script))) ≡ printed (shapeOf script tree)
     unfolding printed shapeOf begin
     words-in r (holds {a = roots} {s} q) e l D =
         let d = q .roots-done .consumed in
@@ -135,7 +139,7 @@ module _ (script : List ℕ) where
         ∙ ap printed (sym (are-each (q .roots-done .are)) ∙ ap (shapeOf script) (read-tree _ tree [] [] e))
     words-in r (fails {e = x} u) e l D = ended≢read x tree [] e
 
-    marks-in : (r : Result (List ℕ)) → Holds Read r → readingOf r ≡ read tree [] → length (notesIn r .marks) + 1 ≡ length (tokensOf (cut script))
+    marks-in : (r : Result (List ℕ)) → Holds script Read r → readingOf r ≡ read tree [] → length (notesIn r .marks) + 1 ≡ length (tokensOf (cut script))
     unfolding begin
     marks-in r (holds {a = roots} {s} q) e =
         let d = q .roots-done .consumed in
@@ -148,6 +152,11 @@ module _ (power : ℕ → Option Powers) (eof : power kEof ≡ none) (script : L
   pub shaped : parse power script ≡ read tree [] → (σs : Shapes) × (shapeOf script tree ≡ some σs)
   unfolding parse
   shaped e = shape-in script tree (parseRoots power script (begin script)) (parseRoots-ok script power eof) e
+
+  -- and so has every record of it, orphans included
+  pub allShaped : parse power script ≡ read tree [] → AllShaped script (tree .arena)
+  unfolding parse
+  allShaped e = all-in script tree (parseRoots power script (begin script)) (parseRoots-ok script power eof) e
 
   -- and what striking leaves is the words of that shape
   pub strike-print : Plain power script tree → strike power script ≡ printed (shapeOf script tree)

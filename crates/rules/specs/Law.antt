@@ -1,0 +1,177 @@
+-- The law of a finished tree: what each record names, how often, and from where; its values; its resynchronisings.
+use mathlib.Core.Path.{_≡_}
+use mathlib.Core.Bool.{true, false}
+use mathlib.Core.Option.{Option, none, some}
+use mathlib.Core.List.{List, [], _∷_, _++_, map}
+use Prim.Native.Nat.{ℕ, zero, suc, _+_, _≤_, _<_}
+use lib.Dec.{eqb}
+use lib.ListN.{length}
+use Rattle.lex.specs.Lex.{Occurrence}
+use Rattle.lex.specs.declared.diagnostic.Diagnostic.{Diagnostic}
+use Rattle.rules.specs.Tree.{Arena, Tree, ok, err}
+use Rattle.rules.specs.Rules.{Powers}
+use Rattle.rules.specs.Parse.{read, begin, parse, parseCollect, parseRootsCollect}
+use Rattle.rules.specs.Shape.{map₁, map₂, andThen, Decoder, decoded, chain, number, token, run, listAt}
+use Rattle.rules.specs.declared.Run.{Run}
+use Rattle.rules.specs.declared.Node.{Node}
+use Rattle.rules.specs.declared.Node.the-variants as N
+use Rattle.rules.specs.declared.TypeExpr.{TypeExpr}
+use Rattle.rules.specs.declared.TypeExpr.the-variants as T
+
+-- ---- children
+
+-- what a record names: a node or a type, by its number
+pub data Child : Type 0 where
+  aNode : ℕ → Child
+  aType : ℕ → Child
+
+-- what the members of a run name, `member` reading the cells of one; none where the run lies outside
+unfoldable pub listed : Decoder (List Child) → List ℕ → Run → Option (List Child)
+listed member cells r = listAt member [] _++_ cells r
+
+-- a member that is a node, as in a body, a call's arguments or an array
+unfoldable pub nodeIn : Decoder (List Child)
+nodeIn = chain number (λ i. decoded (some (aNode i ∷ [])))
+
+unfoldable pub typeIn : Decoder (List Child)
+typeIn = chain number (λ j. decoded (some (aType j ∷ [])))
+
+-- a name and its value
+unfoldable pub fieldIn : Decoder (List Child)
+fieldIn = chain token (λ t. nodeIn)
+
+-- a name and its type
+unfoldable pub paramIn : Decoder (List Child)
+paramIn = chain token (λ t. typeIn)
+
+-- a case: its token, its condition, its body
+unfoldable pub caseIn : List ℕ → Decoder (List Child)
+caseIn cells = chain token (λ t. chain nodeIn (λ c. chain run (λ r. decoded (map₁ (λ b. c ++ b) (listed nodeIn cells r)))))
+
+-- a fn of an extern: its docs, its name, its arguments, its return type
+unfoldable pub fnIn : List ℕ → Decoder (List Child)
+fnIn cells = chain run (λ docs. chain token (λ t. chain run (λ r. chain typeIn (λ c. decoded (map₁ (λ a. a ++ c) (listed paramIn cells r))))))
+
+-- the children of a node, in the order of its fields; none where a list of them lies outside
+unfoldable pub childrenOf : List ℕ → Node → Option (List Child)
+childrenOf cells (N.Atom id raw) = some []
+childrenOf cells (N.Ident id name) = some []
+childrenOf cells (N.Bin id op lhs rhs) = some (aNode (lhs .0) ∷ aNode (rhs .0) ∷ [])
+childrenOf cells (N.Unary id op rhs) = some (aNode (rhs .0) ∷ [])
+childrenOf cells (N.Let id docs name rhs) = some (aNode (rhs .0) ∷ [])
+childrenOf cells (N.Fn id docs name args ret body) = map₂ (λ a b. a ++ (aType (ret .0) ∷ b)) (listed paramIn cells args) (listed nodeIn cells body)
+childrenOf cells (N.Match id cases t body) = map₂ _++_ (listed (caseIn cells) cells cases) (listed nodeIn cells body)
+childrenOf cells (N.Call id target args) = map₁ (λ a. aNode (target .0) ∷ a) (listed nodeIn cells args)
+childrenOf cells (N.Field id target name) = some (aNode (target .0) ∷ [])
+childrenOf cells (N.Cast id src lhs rhs) = some (aNode (lhs .0) ∷ aType (rhs .0) ∷ [])
+childrenOf cells (N.Import id src pkgs) = some []
+childrenOf cells (N.Extern id src docs name fns) = listed (fnIn cells) cells fns
+childrenOf cells (N.Record id src fields) = listed fieldIn cells fields
+childrenOf cells (N.Array id src elements) = listed nodeIn cells elements
+
+-- the types inside of a type
+unfoldable pub innerOf : List ℕ → TypeExpr → Option (List Child)
+innerOf cells (T.Atom t) = some []
+innerOf cells (T.Foreign t) = some []
+innerOf cells (T.Option t) = some (aType (t .0) ∷ [])
+innerOf cells (T.Array t) = some (aType (t .0) ∷ [])
+innerOf cells (T.Record src fields) = listed paramIn cells fields
+
+-- ---- how often
+
+-- 1 where they are the same, else 0
+unfoldable pub same : Child → Child → ℕ
+same (aNode i) (aNode k) = elim (eqb i k) [ true ↦ 1 | false ↦ 0 ]
+same (aNode i) (aType k) = 0
+same (aType j) (aNode k) = 0
+same (aType j) (aType k) = elim (eqb j k) [ true ↦ 1 | false ↦ 0 ]
+
+-- how often it occurs in a list
+unfoldable pub times : Child → List Child → ℕ
+times c [] = 0
+times c (d ∷ ds) = same c d + times c ds
+
+-- the children of all records of a list; none where those of one are
+unfoldable pub allOf : {R : Type 0} → (R → Option (List Child)) → List R → Option (List Child)
+allOf f [] = some []
+allOf f (x ∷ xs) = map₂ _++_ (f x) (allOf f xs)
+
+-- roots and children: the children of all nodes and types, orphans included
+unfoldable pub occurrences : Tree → Option (List Child)
+occurrences t = map₁ (λ cs. map aNode (t .roots) ++ cs) (map₂ _++_ (allOf (childrenOf (t .arena .cells)) (t .arena .nodes)) (allOf (innerOf (t .arena .cells)) (t .arena .types)))
+
+-- ---- by number
+
+unfoldable pub nth : {A : Type 0} → List A → ℕ → Option A
+nth [] i = none
+nth (x ∷ xs) zero = some x
+nth (x ∷ xs) (suc i) = nth xs i
+
+unfoldable pub childrenAt : Arena → ℕ → Option (List Child)
+childrenAt m k = andThen (nth (m .nodes) k) (childrenOf (m .cells))
+
+unfoldable pub innerAt : Arena → ℕ → Option (List Child)
+innerAt m k = andThen (nth (m .types) k) (innerOf (m .cells))
+
+-- ---- values
+
+-- the value numbers that a node takes besides its own
+unfoldable pub argumentsOf : Node → ℕ
+argumentsOf (N.Atom id raw) = 0
+argumentsOf (N.Ident id name) = 0
+argumentsOf (N.Bin id op lhs rhs) = 0
+argumentsOf (N.Unary id op rhs) = 0
+argumentsOf (N.Let id docs name rhs) = 0
+argumentsOf (N.Fn id docs name args ret body) = args .len
+argumentsOf (N.Match id cases t body) = 0
+argumentsOf (N.Call id target args) = 0
+argumentsOf (N.Field id target name) = 0
+argumentsOf (N.Cast id src lhs rhs) = 0
+argumentsOf (N.Import id src pkgs) = 0
+argumentsOf (N.Extern id src docs name fns) = 0
+argumentsOf (N.Record id src fields) = 0
+argumentsOf (N.Array id src elements) = 0
+
+-- the arguments of all Fn nodes
+unfoldable pub allArguments : List Node → ℕ
+allArguments [] = 0
+allArguments (x ∷ xs) = argumentsOf x + allArguments xs
+
+-- ---- resynchronisings
+
+-- for each resynchronising of a collecting reading, how many tokens are taken where it begins: one follows each error that is gathered
+unfoldable pub resynchronisings : (ℕ → Option Powers) → List ℕ → List ℕ
+resynchronisings power script = elim (parseRootsCollect power script (begin script)) [ ok g s ↦ map (λ (e : Occurrence). e .after) (g .errors) | err e s ↦ [] ]
+
+-- each number is above the one before it
+abbrev pub Rising : List ℕ → Type 0
+Rising [] = Unit {0}
+Rising (m ∷ []) = Unit {0}
+Rising (m ∷ (n ∷ ns)) = (m < n) × Rising (n ∷ ns)
+
+-- ---- the law
+
+pub record Law (script : List ℕ) (tree : Tree) : Type 0 where
+  -- every list of children is found
+  pub all : List Child
+  pub found : occurrences tree ≡ some all
+  -- each child's number is below its parent's, and each inner type's below that of the type around it
+  pub nodesFall : (k i : ℕ) (cs : List Child) → childrenAt (tree .arena) k ≡ some cs → 0 < times (aNode i) cs → i < k
+  pub typesFall : (k j : ℕ) (cs : List Child) → innerAt (tree .arena) k ≡ some cs → 0 < times (aType j) cs → j < k
+  -- no node occurs twice among roots and children, and no type; each that occurs is one of the tree's
+  pub once : (c : Child) → times c all ≤ 1
+  pub nodesInside : (i : ℕ) → 0 < times (aNode i) all → i < length (tree .arena .nodes)
+  pub typesInside : (j : ℕ) → 0 < times (aType j) all → j < length (tree .arena .types)
+  -- the value count
+  pub values : tree .arena .values ≡ length (tree .arena .nodes) + allArguments (tree .arena .nodes)
+  -- against the bytes
+  pub fewNodes : length (tree .arena .nodes) ≤ length script
+  pub fewTypes : length (tree .arena .types) ≤ length script
+  pub fewValues : tree .arena .values ≤ length script
+
+-- for every tree that either mode returns, `power` having the infix signs; and for every collecting reading
+pub record TreeLaw (power : ℕ → Option Powers) : Type 0 where
+  pub strict : (script : List ℕ) (tree : Tree) → parse power script ≡ read tree [] → Law script tree
+  pub collecting : (script : List ℕ) (tree : Tree) (es : List Diagnostic) → parseCollect power script ≡ read tree es → Law script tree
+  -- from the beginning of one resynchronising to the beginning of the next at least one token is taken
+  pub resynchronises : (script : List ℕ) → Rising (resynchronisings power script)
