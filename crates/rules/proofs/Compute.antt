@@ -25,9 +25,10 @@ use Rattle.rules.specs.Parse.{Reading, read, ended, parse, parseCollect}
 use Rattle.rules.specs.Shape.{Word, Shapes, shapeOf}
 use Rattle.rules.specs.Strike.{strike, noDocBeforeImport, notesOf}
 
--- what a tree names, and each node's parent
+-- what a tree names, the arguments of its Fn nodes, and each node's parent
 pub record Named : Type 0 where
   pub occurrences : Option (List Law.Child)
+  pub arguments : ℕ
   pub parents : List ℕ
 
 -- the numbers below one, in order
@@ -36,8 +37,8 @@ numbersTo zero = []
 numbersTo (suc n) = numbersTo n ++ (n ∷ [])
 
 unfoldable pub namedIn : Reading → Named
-namedIn (read t es) = record { occurrences = Law.occurrences t; parents = map (Parents.parentOf (t .arena)) (numbersTo (length (t .arena .nodes))) }
-namedIn (ended e) = record { occurrences = none; parents = [] }
+namedIn (read t es) = record { occurrences = Law.occurrences t; arguments = Law.allArguments (t .arena .nodes); parents = map (Parents.parentOf (t .arena)) (numbersTo (length (t .arena .nodes))) }
+namedIn (ended e) = record { occurrences = none; arguments = 0; parents = [] }
 
 pub record Computed : Type 0 where
   pub cut : Cut
@@ -69,7 +70,7 @@ unfolding
     Rules.stageOne Rules.openAngle Rules.atomType Rules.foreignType Rules.suppliedVoid Rules.importPath Rules.bracketedPaths Rules.strikeSingle Rules.parseImport Rules.atom Rules.ident Rules.isCallableTarget Rules.callable Rules.fieldAccess Rules.breaksOff Rules.requireNoDocs Rules.noteAfterDefault Rules.nodeMember Rules.typedName Rules.optionType Rules.arrayType Rules.recordType Rules.typeByKind Rules.parseType Rules.parseBody Rules.parseArgs Rules.returnType Rules.parseLet Rules.parseFn Rules.externFn Rules.parseExtern Rules.defaultCase Rules.conditionCase Rules.nextCase Rules.parseMatch Rules.parsePrefix Rules.field Rules.recordLiteral Rules.arrayLiteral Rules.group Rules.unary Rules.operand Rules.call Rules.postfix Rules.cast Rules.binary Rules.infixes Rules.parseExpr Rules.readers
     Parse.begin Parse.synchronizeRoot Parse.merged Parse.parseRoots Parse.parse Parse.recover Parse.parseRootsCollect Parse.parseCollect
     Spelling.spellingOffset Spelling.spellingStart Shape.wordOf Shape.wellFormed Shape.word Shape.map₁ Shape.map₂ Shape.map₃ Shape.map₄ Shape.map₅ Shape.andThen Shape.decoded Shape.chain Shape.number Shape.token Shape.run Shape.resolve Shape.both Shape.items Shape.from Shape.listAt Shape.w Shape.wordIn Shape.paramIn Shape.fieldIn Shape.words Shape.params Shape.shapes Shape.fields Shape.caseIn Shape.cases Shape.fnIn Shape.fns Shape.typeShape Shape.nodeShape Shape.lookup Shape.tabulate Shape.typeIn Shape.typeAt Shape.nodeIn Shape.nodeAt Shape.shapesOf Shape.shapeOf
-    Law.listed Law.nodeIn Law.typeIn Law.fieldIn Law.paramIn Law.caseIn Law.fnIn Law.childrenOf Law.innerOf Law.same Law.times Law.allOf Law.occurrences Law.resynchronisings Parents.isAmong Parents.parentFrom Parents.parentOf numbersTo namedIn
+    Law.listed Law.nodeIn Law.typeIn Law.fieldIn Law.paramIn Law.caseIn Law.fnIn Law.childrenOf Law.innerOf Law.same Law.times Law.allOf Law.occurrences Law.argumentsOf Law.allArguments Law.resynchronisings Parents.isAmong Parents.parentFrom Parents.parentOf numbersTo namedIn
     Strike.keep Strike.noDocBeforeImport Strike.notesOf Strike.strike
 computedFrom script = record {
   cut = Lex.cut script;

@@ -1,15 +1,18 @@
--- What taking a token and adding to what is made preserve every rule preserves, whether it ends well or fails.
+-- What taking a token and adding to what is made preserve every rule preserves, whether it ends
+-- well or fails; and where it fails, it does so with one of 10 to 23.
 use mathlib.Core.Bool.{Bool, true, false}
 use mathlib.Core.Option.{Option, none, some}
 use mathlib.Core.List.{List, [], _∷_, _++_, flatten}
-use Prim.Native.Nat.{ℕ, zero, suc, _+_}
+use Prim.Native.Nat.{ℕ, zero, suc, _+_, _≤_}
 use lib.Dec.{eqb, ltb}
 use lib.ListN.{length}
-use Rattle.lex.specs.Kind.{kBraceLeft, kBraceRight, kEqual, kLessThan, kGreaterThan, kColon, kBraketRight, kCurlyLeft, kCurlyRight, kExtern, kLet, kFn}
+use native.Mathlib.Omega.{arith}
+use Rattle.lex.specs.Kind.{kEof, kBraceLeft, kBraceRight, kEqual, kLessThan, kGreaterThan, kColon, kBraketRight, kCurlyLeft, kCurlyRight, kExtern, kLet, kFn}
+use Rattle.lex.specs.declared.diagnostic.Diagnostic.{Diagnostic}
 use Rattle.lex.specs.declared.tok.Token.{Token}
 use Rattle.rules.specs.Tree.{Arena, Notes, State, Result, ok, err}
 use Rattle.rules.specs.Combinators as R
-use Rattle.rules.specs.Combinators.{Rule, current, rest, Readers, ControlFlow, break}
+use Rattle.rules.specs.Combinators.{Rule, current, rest, Readers, ControlFlow, continue, break}
 use Rattle.rules.specs.Rules as Q
 use Rattle.rules.specs.Rules.{Powers, Cases}
 use Rattle.rules.specs.declared.Run.{Run}
@@ -17,7 +20,7 @@ use Rattle.rules.specs.declared.NodeId.{NodeId}
 use Rattle.rules.specs.declared.Node.{Node}
 use Rattle.rules.specs.declared.Node.the-variants as N
 use Rattle.rules.specs.declared.TypeExpr.{TypeExpr}
-use Rattle.rules.proofs.Results.{Ends, holds, fails, ifKind-ok, bind-ok, then-ok, pure-ok, cur-ok, fail-ok, rejectKind-ok, requireNoDocs-ok, table-ok, loop-ok}
+use Rattle.rules.proofs.Results.{Ends, holds, fails}
 
 -- a property of the tokens left and of what is made, and the steps that preserve it; docs that wait and notes play no part
 pub record StepsPreserve (P : List Token → Arena → Type 0) : Type 0 where
@@ -30,46 +33,95 @@ module _ (P : List Token → Arena → Type 0) where
   abbrev pub At : State → Type 0
   At s = P (s .left) (s .arena)
 
-  -- it holds of the state that a rule leaves, whether this ended well or failed
-  abbrev pub EndsAt : {A : Type 0} → Result A → Type 0
-  EndsAt r = Ends (λ a s. At s) At r
+  -- it holds of the state that a rule leaves; an error is one of 10 to 23
+  pub data EndsAt {A : Type 0} : Result A → Type 0 where
+    well : {a : A} {s : State} → At s → EndsAt (ok a s)
+    badly : {e : Diagnostic} {s : State} → At s → 10 ≤ e .number → e .number ≤ 23 → EndsAt (err e s)
 
   abbrev pub Preserves : {A : Type 0} → Rule A → Type 0
   Preserves x = (s : State) → At s → EndsAt (x s)
 
-  pub record ReadersPreserve (d : Readers) : Type 0 where
+  pub record AllPreserve (d : Readers) : Type 0 where
     pub prefix : Preserves (d .prefix)
     pub expr : (least : ℕ) → Preserves (d .expr least)
     pub type : Preserves (d .type)
 
+  -- of the state alone
+  abbrev pub StatePreserved : {A : Type 0} → Rule A → Type 0
+  StatePreserved x = (s : State) → At s → Ends (λ a s′. At s′) At (x s)
+
+  state-preserved : {A : Type 0} {x : Rule A} → Preserves x → StatePreserved x
+  state-preserved h s p = go _ (h s p)
+    where
+      go : {A : Type 0} (r : Result A) → EndsAt r → Ends (λ a s′. At s′) At r
+      go r (well q) = holds q
+      go r (badly q least most) = fails q
+
+  pub record ReadersPreserve (d : Readers) : Type 0 where
+    pub prefix : StatePreserved (d .prefix)
+    pub expr : (least : ℕ) → StatePreserved (d .expr least)
+    pub type : StatePreserved (d .type)
+
+  pub states-preserved : {d : Readers} → AllPreserve d → ReadersPreserve d
+  states-preserved h = record { prefix = state-preserved (h .prefix); expr = λ least. state-preserved (h .expr least); type = state-preserved (h .type) }
+
 module _ (P : List Token → Arena → Type 0) (steps : StepsPreserve P) where
-  -- ---- ways to put rules together, as Results has them
+  -- ---- ways to put rules together
 
   module _ {A B : Type 0} where
-    bind : {x : Rule A} {f : A → Rule B} → Preserves P x → ((a : A) → Preserves P (f a)) → Preserves P (R._>>=_ x f)
-    bind h k s p = bind-ok _ _ s (h s p) (λ a s₁ p₁. k a s₁ p₁)
+    pub bind : {x : Rule A} {f : A → Rule B} → Preserves P x → ((a : A) → Preserves P (f a)) → Preserves P (R._>>=_ x f)
+    unfolding R._>>=_
+    bind {x} {f} h k s p = go (x s) (h s p)
+      where
+        go : (r : Result A) → EndsAt P r → EndsAt P {A = B} (elim r as (λ r′. Result B) [ ok a s₁ ↦ f a s₁ | err e s₁ ↦ err e s₁ ])
+        go r (well {a} {s = s₁} q) = k a s₁ q
+        go r (badly q least most) = badly q least most
 
-    sequence : {x : Rule A} {y : Rule B} → Preserves P x → Preserves P y → Preserves P (R._>>_ x y)
-    sequence h k s p = then-ok _ _ s (h s p) (λ a s₁ p₁. k s₁ p₁)
+    pub sequence : {x : Rule A} {y : Rule B} → Preserves P x → Preserves P y → Preserves P (R._>>_ x y)
+    unfolding R._>>_
+    sequence {x} {y} h k s p = go (x s) (h s p)
+      where
+        go : (r : Result A) → EndsAt P r → EndsAt P {A = B} (elim r as (λ r′. Result B) [ ok a s₁ ↦ y s₁ | err e s₁ ↦ err e s₁ ])
+        go r (well {s = s₁} q) = k s₁ q
+        go r (badly q least most) = badly q least most
 
   module _ {A : Type 0} where
-    branch : (k : ℕ) {x y : Rule A} → Preserves P x → Preserves P y → Preserves P (R.ifKind k x y)
-    branch k h o s p = ifKind-ok k _ _ s (λ e. h s p) (o s p)
+    pub branch : (k : ℕ) {x y : Rule A} → Preserves P x → Preserves P y → Preserves P (R.ifKind k x y)
+    unfolding R.ifKind R.byKind
+    branch k {x} {y} h o s p = go (eqb (current (s .left) .kind) k)
+      where
+        go : (b : Bool) → EndsAt P ((elim b as (λ b′. Rule A) [ true ↦ x | false ↦ y ]) s)
+        go true = h s p
+        go false = o s p
 
     current-token : {f : Token → Rule A} → ((t : Token) → Preserves P (f t)) → Preserves P (R._>>=_ R.cur f)
-    current-token h s p = cur-ok _ s (h (current (s .left)) s p)
+    unfolding R._>>=_ R.cur
+    current-token h s p = h (current (s .left)) s p
 
-    value : (a : A) → Preserves P (R.pure a)
-    value a s p = pure-ok a s p
+    pub value : (a : A) → Preserves P (R.pure a)
+    unfolding R.pure
+    value a s p = well p
 
-    failure : (number wanted : ℕ) → Preserves P {A = A} (R.failExpecting number wanted)
-    failure number wanted s p = fail-ok number wanted s p
+    failure : (number wanted : ℕ) → 10 ≤ number → number ≤ 23 → Preserves P {A = A} (R.failExpecting number wanted)
+    unfolding R.failExpecting R.atToken
+    failure number wanted least most s p = badly p least most
 
-    repeat : {f : A → Rule (ControlFlow A)} → ((a : A) → Preserves P (f a)) → (a : A) → Preserves P (R.loop f a)
-    repeat h a s p = loop-ok (λ b s₁. At P s₁) _ h a s p
+    turns : {f : A → Rule (ControlFlow A)} → ((a : A) → Preserves P (f a)) → (n : ℕ) (a : A) → Preserves P (R.iterate n f a)
+    unfolding R.iterate
+    turns h zero a s p = well p
+    turns {f} h (suc n) a s p = go (turns h n) (f a s) (h a s p)
+      where
+        go : ((b : A) → Preserves P (R.iterate n f b)) → (r : Result (ControlFlow A)) → EndsAt P r → EndsAt P {A = A} (elim r as (λ r′. Result A) [ ok t s₁ ↦ elim t as (λ t′. Result A) [ continue b ↦ R.iterate n f b s₁ | break b ↦ ok b s₁ ] | err e s₁ ↦ err e s₁ ])
+        go ih r (well {a = continue b} {s = s₁} q) = ih b s₁ q
+        go ih r (well {a = break b} q) = well q
+        go ih r (badly q least most) = badly q least most
+
+    pub repeat : {f : A → Rule (ControlFlow A)} → ((a : A) → Preserves P (f a)) → (a : A) → Preserves P (R.loop f a)
+    unfolding R.loop
+    repeat h a s p = turns h (length (s .left)) a s p
 
     -- each entry of a table
-    data Entries : List (ℕ × Rule A) → Type 0 where
+    pub data Entries : List (ℕ × Rule A) → Type 0 where
       entries[] : Entries []
       entry : {k : ℕ} {x : Rule A} {xs : List (ℕ × Rule A)} → Preserves P x → Entries xs → Entries ((k, x) ∷ xs)
 
@@ -82,45 +134,47 @@ module _ (P : List Token → Arena → Type 0) (steps : StepsPreserve P) where
         go others true = h
         go others false = others
 
-    table : {xs : List (ℕ × Rule A)} {other : Rule A} → Entries xs → Preserves P other → Preserves P (R.byKind (R.choose xs other))
-    table h o s p = table-ok _ _ s (chosen h o _ s p)
+    pub table : {xs : List (ℕ × Rule A)} {other : Rule A} → Entries xs → Preserves P other → Preserves P (R.byKind (R.choose xs other))
+    unfolding R.byKind
+    table h o s p = chosen h o _ s p
 
     struck-preserves : {x : Rule A} → Preserves P x → Preserves P (R.struck x)
     unfolding R.struck
     struck-preserves {x} h s p = go _ (x s) (h s p)
       where
         go : (notes : State → Notes) (r : Result A) → EndsAt P r → EndsAt P {A = A} (elim r as (λ r′. Result A) [ ok a t ↦ ok a (record { left = t .left; docs = t .docs; arena = t .arena; notes = notes t }) | err e t ↦ err e t ])
-        go notes r (holds q) = holds q
-        go notes r (fails q) = fails q
+        go notes r (well q) = well q
+        go notes r (badly q least most) = badly q least most
 
   -- ---- tokens, records, lists, docs
 
-  advance-preserves : Preserves P R.advance
+  pub advance-preserves : Preserves P R.advance
   unfolding R.advance
-  advance-preserves s p = holds (steps .token (s .left) (s .arena) p)
+  advance-preserves s p = well (steps .token (s .left) (s .arena) p)
 
   expect-preserves : (k : ℕ) → Preserves P (R.expect k)
   unfolding R.expect
-  expect-preserves k = branch _ advance-preserves (failure 11 k)
+  expect-preserves k = branch _ advance-preserves (failure 11 k (omega arith) (omega arith))
 
   expectIdent-preserves : Preserves P R.expectIdent
   unfolding R.expectIdent
-  expectIdent-preserves = branch _ advance-preserves (failure 12 0)
+  expectIdent-preserves = branch _ advance-preserves (failure 12 0 (omega arith) (omega arith))
 
-  rejectKind-preserves : (k n : ℕ) → Preserves P (R.rejectKind k n)
-  rejectKind-preserves k n s p = rejectKind-ok k n s p p
+  rejectKind-preserves : (k n : ℕ) → 10 ≤ n → n ≤ 23 → Preserves P (R.rejectKind k n)
+  unfolding R.rejectKind
+  rejectKind-preserves k n least most = branch _ (failure n 0 least most) (value 0)
 
   pushNode-preserves : (more : ℕ) (f : ℕ → Node) → Preserves P (R.pushNodeAnd more f)
   unfolding R.pushNodeAnd R.withArena
-  pushNode-preserves more f s p = holds (steps .node (s .left) (s .arena) (f (s .arena .values)) (s .arena .values + (1 + more)) p)
+  pushNode-preserves more f s p = well (steps .node (s .left) (s .arena) (f (s .arena .values)) (s .arena .values + (1 + more)) p)
 
   pushType-preserves : (x : TypeExpr) → Preserves P (R.pushType x)
   unfolding R.pushType R.withArena
-  pushType-preserves x s p = holds (steps .type (s .left) (s .arena) x p)
+  pushType-preserves x s p = well (steps .type (s .left) (s .arena) x p)
 
   allocSlice-preserves : (xs : List (List ℕ)) → Preserves P (R.allocSlice xs)
   unfolding R.allocSlice R.withArena
-  allocSlice-preserves xs s p = holds (steps .list (s .left) (s .arena) (flatten xs) p)
+  allocSlice-preserves xs s p = well (steps .list (s .left) (s .arena) (flatten xs) p)
 
   members-preserves : (stop : ℕ) {item : Rule (List ℕ)} → Preserves P item → Preserves P (R.members stop item)
   unfolding R.members
@@ -132,7 +186,7 @@ module _ (P : List Token → Arena → Type 0) (steps : StepsPreserve P) where
 
   collectDocs-preserves : Preserves P R.collectDocs
   unfolding R.collectDocs R.withDocs
-  collectDocs-preserves = repeat (λ n. branch _ (bind advance-preserves (λ d s p. holds p)) (value _)) 0
+  collectDocs-preserves = repeat (λ n. branch _ (bind advance-preserves (λ d s p. well p)) (value _)) 0
 
   takeDocs-preserves : Preserves P R.takeDocs
   unfolding R.takeDocs R.withDocs
@@ -140,9 +194,9 @@ module _ (P : List Token → Arena → Type 0) (steps : StepsPreserve P) where
 
   -- ---- rules that read nothing deeper
 
-  openAngle-preserves : (n : ℕ) → Preserves P (Q.openAngle n)
+  openAngle-preserves : (n : ℕ) → 10 ≤ n → n ≤ 23 → Preserves P (Q.openAngle n)
   unfolding Q.openAngle
-  openAngle-preserves n = sequence advance-preserves (sequence (expect-preserves kLessThan) (rejectKind-preserves kGreaterThan n))
+  openAngle-preserves n least most = sequence advance-preserves (sequence (expect-preserves kLessThan) (rejectKind-preserves kGreaterThan n least most))
 
   atomType-preserves : Preserves P Q.atomType
   unfolding Q.atomType
@@ -150,7 +204,7 @@ module _ (P : List Token → Arena → Type 0) (steps : StepsPreserve P) where
 
   foreignType-preserves : Preserves P Q.foreignType
   unfolding Q.foreignType
-  foreignType-preserves = sequence (openAngle-preserves 20) (bind expectIdent-preserves (λ name. sequence (expect-preserves kGreaterThan) (pushType-preserves _)))
+  foreignType-preserves = sequence (openAngle-preserves 20 (omega arith) (omega arith)) (bind expectIdent-preserves (λ name. sequence (expect-preserves kGreaterThan) (pushType-preserves _)))
 
   suppliedVoid-preserves : Preserves P Q.suppliedVoid
   unfolding Q.suppliedVoid
@@ -158,7 +212,7 @@ module _ (P : List Token → Arena → Type 0) (steps : StepsPreserve P) where
 
   importPath-preserves : Preserves P Q.importPath
   unfolding Q.importPath
-  importPath-preserves = branch _ (bind advance-preserves (λ p. value _)) (failure 15 0)
+  importPath-preserves = branch _ (bind advance-preserves (λ p. value _)) (failure 15 0 (omega arith) (omega arith))
 
   bracketedPaths-preserves : Preserves P Q.bracketedPaths
   unfolding Q.bracketedPaths
@@ -169,13 +223,13 @@ module _ (P : List Token → Arena → Type 0) (steps : StepsPreserve P) where
   strikeSingle-preserves {x} h s p = go _ (x s) (h s p)
     where
       by-length : (n : Notes) (ps : List (List ℕ)) (t : State) → At P t → (b : Bool) → EndsAt P {A = List (List ℕ)} (elim b as (λ b′. Result (List (List ℕ))) [ true ↦ ok ps (record { left = t .left; docs = t .docs; arena = t .arena; notes = n }) | false ↦ ok ps t ])
-      by-length n ps t q true = holds q
-      by-length n ps t q false = holds q
+      by-length n ps t q true = well q
+      by-length n ps t q false = well q
 
       go : (notes : State → Notes) (r : Result (List (List ℕ))) → EndsAt P r
           → EndsAt P {A = List (List ℕ)} (elim r as (λ r′. Result (List (List ℕ))) [ ok ps t ↦ elim (eqb (length ps) 1) as (λ b′. Result (List (List ℕ))) [ true ↦ ok ps (record { left = t .left; docs = t .docs; arena = t .arena; notes = notes t }) | false ↦ ok ps t ] | err e t ↦ err e t ])
-      go notes r (holds {a = ps} {s = t} q) = by-length (notes t) ps t q (eqb (length ps) 1)
-      go notes r (fails q) = fails q
+      go notes r (well {a = ps} {s = t} q) = by-length (notes t) ps t q (eqb (length ps) 1)
+      go notes r (badly q least most) = badly q least most
 
   parseImport-preserves : Preserves P Q.parseImport
   unfolding Q.parseImport
@@ -191,22 +245,31 @@ module _ (P : List Token → Arena → Type 0) (steps : StepsPreserve P) where
 
   callable-preserves : (n : NodeId) → Preserves P (Q.callable n)
   unfolding Q.callable
-  callable-preserves n s p = holds p
+  callable-preserves n s p = well p
 
   fieldAccess-preserves : (n : NodeId) → Preserves P (Q.fieldAccess n)
   unfolding Q.fieldAccess
   fieldAccess-preserves n = sequence advance-preserves (bind expectIdent-preserves (λ name. bind (pushNode-preserves 0 _) (λ m. value _)))
 
   requireNoDocs-preserves : {A : Type 0} {x : Rule A} → Preserves P x → Preserves P (Q.requireNoDocs x)
-  requireNoDocs-preserves h s p = requireNoDocs-ok _ s (λ e. h s p) (λ e. p)
+  unfolding Q.requireNoDocs R.ifKind R.byKind R.atToken
+  requireNoDocs-preserves {A} {x} h s p = by-docs (s .docs)
+    where
+      at-kind : (y z : Diagnostic) → 10 ≤ y .number → y .number ≤ 23 → 10 ≤ z .number → z .number ≤ 23 → (b : Bool) → EndsAt P {A = A} ((elim b as (λ b′. Rule A) [ true ↦ (λ t. err y t) | false ↦ (λ t. err z t) ]) s)
+      at-kind y z l m l′ m′ true = badly p l m
+      at-kind y z l m l′ m′ false = badly p l′ m′
+
+      by-docs : (l : List Token) → EndsAt P {A = A} (elim l as (λ l′. Result A) [ [] ↦ x s | d ∷ ds ↦ R.ifKind kEof (λ t. err (R.atToken 13 0 (Q.lastOf d ds)) t) (λ t. err (R.atToken 14 0 d) t) s ])
+      by-docs [] = h s p
+      by-docs (d ∷ ds) = at-kind _ _ (omega arith) (omega arith) (omega arith) (omega arith) (eqb (current (s .left) .kind) kEof)
 
   noteAfterDefault-preserves : (c : Cases) → Preserves P (Q.noteAfterDefault c)
   unfolding Q.noteAfterDefault
   noteAfterDefault-preserves c s p = go _ (c .default)
     where
       go : (n : Notes) (o : Option (Token × Run)) → EndsAt P {A = ℕ} (elim o as (λ o′. Result ℕ) [ none ↦ ok 0 s | some d ↦ ok 1 (record { left = s .left; docs = s .docs; arena = s .arena; notes = n }) ])
-      go n none = holds p
-      go n (some d) = holds p
+      go n none = well p
+      go n (some d) = well p
 
   nodeMember-preserves : {x : Rule NodeId} → Preserves P x → Preserves P (Q.nodeMember x)
   unfolding Q.nodeMember
@@ -214,18 +277,18 @@ module _ (P : List Token → Arena → Type 0) (steps : StepsPreserve P) where
 
   -- ---- the rules at one level
 
-  module _ (d : Readers) (deep : ReadersPreserve P d) where
+  module _ (d : Readers) (deep : AllPreserve P d) where
     typedName-preserves : Preserves P (Q.typedName d)
     unfolding Q.typedName
     typedName-preserves = bind expectIdent-preserves (λ name. sequence (expect-preserves kColon) (bind (deep .type) (λ t. value _)))
 
     optionType-preserves : Preserves P (Q.optionType d)
     unfolding Q.optionType
-    optionType-preserves = sequence (openAngle-preserves 21) (bind (deep .type) (λ t. sequence (expect-preserves kGreaterThan) (pushType-preserves _)))
+    optionType-preserves = sequence (openAngle-preserves 21 (omega arith) (omega arith)) (bind (deep .type) (λ t. sequence (expect-preserves kGreaterThan) (pushType-preserves _)))
 
     arrayType-preserves : Preserves P (Q.arrayType d)
     unfolding Q.arrayType
-    arrayType-preserves = sequence (openAngle-preserves 22) (bind (deep .type) (λ t. sequence (expect-preserves kGreaterThan) (pushType-preserves _)))
+    arrayType-preserves = sequence (openAngle-preserves 22 (omega arith) (omega arith)) (bind (deep .type) (λ t. sequence (expect-preserves kGreaterThan) (pushType-preserves _)))
 
     recordType-preserves : Preserves P (Q.recordType d)
     unfolding Q.recordType
@@ -233,7 +296,7 @@ module _ (P : List Token → Arena → Type 0) (steps : StepsPreserve P) where
 
     parseType-preserves : Preserves P (Q.parseType d)
     unfolding Q.parseType Q.typeByKind
-    parseType-preserves = table (entry atomType-preserves (entry atomType-preserves (entry atomType-preserves (entry atomType-preserves (entry atomType-preserves (entry foreignType-preserves (entry optionType-preserves (entry arrayType-preserves (entry recordType-preserves entries[]))))))))) (failure 23 0)
+    parseType-preserves = table (entry atomType-preserves (entry atomType-preserves (entry atomType-preserves (entry atomType-preserves (entry atomType-preserves (entry foreignType-preserves (entry optionType-preserves (entry arrayType-preserves (entry recordType-preserves entries[]))))))))) (failure 23 0 (omega arith) (omega arith))
 
     -- ---- items
 
@@ -265,14 +328,14 @@ module _ (P : List Token → Arena → Type 0) (steps : StepsPreserve P) where
     externFn-preserves : Preserves P (Q.externFn d)
     unfolding Q.externFn
     externFn-preserves =
-        sequence collectDocs-preserves (sequence (rejectKind-preserves kExtern 17) (bind takeDocs-preserves (λ docs.
+        sequence collectDocs-preserves (sequence (rejectKind-preserves kExtern 17 (omega arith) (omega arith)) (bind takeDocs-preserves (λ docs.
         sequence (expect-preserves kFn) (bind expectIdent-preserves (λ name. bind parseArgs-preserves (λ args.
         bind (branch _ suppliedVoid-preserves (branch _ suppliedVoid-preserves returnType-preserves)) (λ ret. value _)))))))
 
     parseExtern-preserves : Preserves P (Q.parseExtern d)
     unfolding Q.parseExtern
     parseExtern-preserves =
-        bind takeDocs-preserves (λ docs. bind (expect-preserves kExtern) (λ src. bind (branch _ advance-preserves (failure 16 0)) (λ name.
+        bind takeDocs-preserves (λ docs. bind (expect-preserves kExtern) (λ src. bind (branch _ advance-preserves (failure 16 0 (omega arith) (omega arith))) (λ name.
         sequence (expect-preserves kCurlyLeft) (bind (listUntil-preserves kCurlyRight externFn-preserves) (λ fns. pushNode-preserves 0 _)))))
 
     defaultCase-preserves : (c : Cases) → Preserves P (Q.defaultCase d c)
@@ -288,13 +351,13 @@ module _ (P : List Token → Arena → Type 0) (steps : StepsPreserve P) where
     nextCase-preserves c = branch _ (value _) (branch _ (value _) (sequence (noteAfterDefault-preserves c) (bind (branch _ (defaultCase-preserves c) (conditionCase-preserves c)) (λ e. value _))))
 
     parseMatch-preserves : Preserves P (Q.parseMatch d)
-    unfolding Q.parseMatch
+    unfolding Q.parseMatch R.atToken
     parseMatch-preserves =
         sequence advance-preserves (current-token (λ t. sequence (expect-preserves kCurlyLeft) (bind (repeat nextCase-preserves _) (λ c.
         sequence (expect-preserves kCurlyRight) (bind (allocSlice-preserves (c .cases)) (λ cases. finish t cases (c .default)))))))
       where
         finish : (t : Token) (r : Run) (o : Option (Token × Run)) → Preserves P {A = NodeId} (elim o as (λ o′. Rule NodeId) [ none ↦ (λ s. err (R.atToken 18 0 t) s) | some x ↦ R.pushNode (λ id. N.Match id r (x .0) (x .1)) ])
-        finish t r none = λ s p. fails p
+        finish t r none = λ s p. badly {e = R.atToken 18 0 t} p (omega arith) (omega arith)
         finish t r (some x) = pushNode-preserves 0 _
 
     parsePrefix-preserves : Preserves P (Q.parsePrefix d)
@@ -325,7 +388,7 @@ module _ (P : List Token → Arena → Type 0) (steps : StepsPreserve P) where
 
     operand-preserves : Preserves P (Q.operand d)
     unfolding Q.operand
-    operand-preserves = table (entry recordLiteral-preserves (entry arrayLiteral-preserves (entry atom-preserves (entry atom-preserves (entry atom-preserves (entry atom-preserves (entry atom-preserves (entry ident-preserves (entry group-preserves (entry unary-preserves (entry unary-preserves entries[]))))))))))) (failure 19 0)
+    operand-preserves = table (entry recordLiteral-preserves (entry arrayLiteral-preserves (entry atom-preserves (entry atom-preserves (entry atom-preserves (entry atom-preserves (entry atom-preserves (entry ident-preserves (entry group-preserves (entry unary-preserves (entry unary-preserves entries[]))))))))))) (failure 19 0 (omega arith) (omega arith))
 
     call-preserves : (n : NodeId) → Preserves P (Q.call d n)
     unfolding Q.call
@@ -374,9 +437,15 @@ module _ (P : List Token → Arena → Type 0) (steps : StepsPreserve P) where
 
   -- ---- levels
 
-  pub readers-preserve : (power : ℕ → Option Powers) (script : List ℕ) (l : ℕ) → ReadersPreserve P (Q.readers power script l)
+  pub all-preserve : (power : ℕ → Option Powers) (script : List ℕ) (l : ℕ) → AllPreserve P (Q.readers power script l)
   unfolding Q.readers
-  readers-preserve power script zero = record { prefix = failure 10 0; expr = λ least. failure 10 0; type = failure 10 0 }
-  readers-preserve power script (suc l) =
-      let deep : ReadersPreserve P (Q.readers power script l) = readers-preserve power script l in
+  all-preserve power script zero = record { prefix = too-deep; expr = λ least. too-deep; type = too-deep }
+    where
+      too-deep : {A : Type 0} → Preserves P {A = A} (R.fail 10)
+      too-deep = failure 10 0 (omega arith) (omega arith)
+  all-preserve power script (suc l) =
+      let deep : AllPreserve P (Q.readers power script l) = all-preserve power script l in
       record { prefix = parsePrefix-preserves _ deep; expr = parseExpr-preserves _ deep power script; type = parseType-preserves _ deep }
+
+  pub readers-preserve : (power : ℕ → Option Powers) (script : List ℕ) (l : ℕ) → ReadersPreserve P (Q.readers power script l)
+  readers-preserve power script l = states-preserved P (all-preserve power script l)

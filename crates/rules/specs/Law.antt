@@ -1,4 +1,5 @@
--- The law of a finished tree: what each record names, how often, and from where; its values; its resynchronisings.
+-- The law of a finished tree (Q-11): what each record names and how often, its values, its
+-- resynchronisings; then the law itself.
 use mathlib.Core.Path.{_≡_}
 use mathlib.Core.Bool.{true, false}
 use mathlib.Core.Option.{Option, none, some}
@@ -139,7 +140,11 @@ allArguments (x ∷ xs) = argumentsOf x + allArguments xs
 
 -- ---- resynchronisings
 
--- for each resynchronising of a collecting reading, how many tokens are taken where it begins: one follows each error that is gathered
+-- For each resynchronising of a collecting reading, how many tokens are taken when it begins.
+-- `recover` alone resynchronises: once after each error that is gathered, from the state in which
+-- the root failed, and the error is kept with the tokens taken before that state. So it is in the
+-- Rust: parse_roots_collect pushes the error and calls synchronize_root. No tree comes of 10, and
+-- no list here.
 unfoldable pub resynchronisings : (ℕ → Option Powers) → List ℕ → List ℕ
 resynchronisings power script = elim (parseRootsCollect power script (begin script)) [ ok g s ↦ map (λ (e : Occurrence). e .after) (g .errors) | err e s ↦ [] ]
 
@@ -149,29 +154,49 @@ Rising [] = Unit {0}
 Rising (m ∷ []) = Unit {0}
 Rising (m ∷ (n ∷ ns)) = (m < n) × Rising (n ∷ ns)
 
--- ---- the law
+-- ---- the law, sentence by sentence
 
-pub record Law (script : List ℕ) (tree : Tree) : Type 0 where
-  -- every list of children is found
+-- a record's children are found, and what `child` names among them is below `k`
+abbrev pub FoundBelow : (ℕ → Child) → ℕ → Option (List Child) → Type 0
+FoundBelow child k found = (cs : List Child) × (found ≡ some cs) × ((i : ℕ) → 0 < times (child i) cs → i < k)
+
+-- nodes and types are numbered apart: a child is a node of a node, or a type of a type
+pub record Below (m : Arena) : Type 0 where
+  pub nodes : (k : ℕ) → k < length (m .nodes) → FoundBelow aNode k (childrenAt m k)
+  pub types : (k : ℕ) → k < length (m .types) → FoundBelow aType k (innerAt m k)
+
+-- all roots and children are found, none occurs twice, and each is a record of the tree
+pub record Once (tree : Tree) : Type 0 where
   pub all : List Child
   pub found : occurrences tree ≡ some all
-  -- each child's number is below its parent's, and each inner type's below that of the type around it
-  pub nodesFall : (k i : ℕ) (cs : List Child) → childrenAt (tree .arena) k ≡ some cs → 0 < times (aNode i) cs → i < k
-  pub typesFall : (k j : ℕ) (cs : List Child) → innerAt (tree .arena) k ≡ some cs → 0 < times (aType j) cs → j < k
-  -- no node occurs twice among roots and children, and no type; each that occurs is one of the tree's
-  pub once : (c : Child) → times c all ≤ 1
+  pub nodes : (i : ℕ) → times (aNode i) all ≤ 1
+  pub types : (j : ℕ) → times (aType j) all ≤ 1
   pub nodesInside : (i : ℕ) → 0 < times (aNode i) all → i < length (tree .arena .nodes)
   pub typesInside : (j : ℕ) → 0 < times (aType j) all → j < length (tree .arena .types)
-  -- the value count
-  pub values : tree .arena .values ≡ length (tree .arena .nodes) + allArguments (tree .arena .nodes)
-  -- against the bytes
-  pub fewNodes : length (tree .arena .nodes) ≤ length script
-  pub fewTypes : length (tree .arena .types) ≤ length script
-  pub fewValues : tree .arena .values ≤ length script
 
--- for every tree that either mode returns, `power` having the infix signs; and for every collecting reading
+pub record AtMostBytes (script : List ℕ) (m : Arena) : Type 0 where
+  pub nodes : length (m .nodes) ≤ length script
+  pub types : length (m .types) ≤ length script
+  pub values : m .values ≤ length script
+
+-- The law of a finished tree: a field for each sentence of Q-11, in its order. `begun` has for each
+-- resynchronising of the reading how many tokens were taken when it began.
+pub record Law (script : List ℕ) (tree : Tree) (begun : List ℕ) : Type 0 where
+  -- 'Each child's number is below its parent's.'
+  pub below : Below (tree .arena)
+  -- 'No node occurs twice among roots and children.'
+  pub once : Once tree
+  -- 'The value count is the number of nodes plus the arguments of all Fn nodes, orphans included;
+  -- where collecting gathers one of 11 to 23 it is at least that.' It is exactly that, then too.
+  pub values : tree .arena .values ≡ length (tree .arena .nodes) + allArguments (tree .arena .nodes)
+  -- 'Nodes, types and values are each at most the number of bytes.'
+  pub few : AtMostBytes script (tree .arena)
+  -- 'From the beginning of one resynchronising to the beginning of the next at least one token is
+  -- taken.'
+  pub takes : Rising begun
+
+-- 'for both modes .., for every returned tree', `power` having the infix signs
 pub record TreeLaw (power : ℕ → Option Powers) : Type 0 where
-  pub strict : (script : List ℕ) (tree : Tree) → parse power script ≡ read tree [] → Law script tree
-  pub collecting : (script : List ℕ) (tree : Tree) (es : List Diagnostic) → parseCollect power script ≡ read tree es → Law script tree
-  -- from the beginning of one resynchronising to the beginning of the next at least one token is taken
-  pub resynchronises : (script : List ℕ) → Rising (resynchronisings power script)
+  -- strict mode never resynchronises
+  pub strict : (script : List ℕ) (tree : Tree) (es : List Diagnostic) → parse power script ≡ read tree es → Law script tree []
+  pub collecting : (script : List ℕ) (tree : Tree) (es : List Diagnostic) → parseCollect power script ≡ read tree es → Law script tree (resynchronisings power script)

@@ -10,7 +10,7 @@ use native.Mathlib.Nat.{suc-add}
 use native.Mathlib.Omega.{arith}
 use Rattle.rules.specs.Tree.{Arena, Tree}
 use Rattle.rules.specs.Shape.{map₁, map₂, andThen}
-use Rattle.rules.specs.Law.{Child, aNode, childrenOf, innerOf, times, allOf, occurrences, nth, childrenAt, Law}
+use Rattle.rules.specs.Law.{Child, aNode, childrenOf, innerOf, times, allOf, occurrences, nth, childrenAt, Below, Once}
 use Rattle.rules.specs.Layout.{nodeWidth}
 use Rattle.rules.specs.Parents.{isAmong, parentFrom, parentOf, wideWidth, widened, narrowed, allBelow, parentsRight}
 use Rattle.rules.specs.declared.Node.{Node}
@@ -135,8 +135,16 @@ pub record Sole (tree : Tree) : Type 0 where
   pub nodesFall : (k i : ℕ) (cs : List Child) → childrenAt (tree .arena) k ≡ some cs → 0 < times (aNode i) cs → i < k
   pub once : (i : ℕ) → i < length (tree .arena .nodes) → times (aNode i) all ≤ 1
 
-pub lawful-sole : (script : List ℕ) (tree : Tree) → Law script tree → Sole tree
-lawful-sole script tree l = record { all = l .all; found = l .found; nodesFall = l .nodesFall; once = λ i h. l .once (aNode i) }
+pub lawful-sole : (tree : Tree) → Below (tree .arena) → Once tree → Sole tree
+unfolding childrenAt
+lawful-sole tree below once = record {
+  all = once .all;
+  found = once .found;
+  nodesFall = λ k i cs e h.
+      let z = below .nodes k (nth-inside (tree .arena .nodes) (childrenOf (tree .arena .cells)) k cs e) in
+      z .2 i (subst (λ (ds : List Child). 0 < times (aNode i) ds) (some-inj cs (z .0) (sym e ∙ z .1)) h);
+  once = λ i h. once .nodes i;
+}
 
 module _ (tree : Tree) (lawful : Sole tree) where
   abbrev m : Arena

@@ -14,7 +14,7 @@ use Rattle.rules.specs.Rules.{Powers}
 use Rattle.rules.specs.Parse.{read, parse, parseCollect}
 use Rattle.rules.specs.Layout.{nodeWidth}
 use Rattle.rules.specs.Shape.{TypeShape, Shape, map₁, map₂, andThen, lookup, tabulate, typeIn, nodeIn, typeAt, nodeAt, shapeOf}
-use Rattle.rules.specs.Law.{Child, aNode, aType, childrenOf, innerOf, same, times, allOf, occurrences, nth, childrenAt, Law}
+use Rattle.rules.specs.Law.{Child, aNode, aType, childrenOf, innerOf, same, times, allOf, occurrences, nth, childrenAt, Once}
 use Rattle.rules.specs.Parents.{parentOf, wideWidth, widened, narrowed, allBelow, isSome, sound, onceEach, parentsRight, turnedAway, turnedBack}
 use Rattle.rules.specs.declared.Node.{Node}
 use Rattle.rules.specs.declared.TypeExpr.{TypeExpr}
@@ -199,12 +199,12 @@ module _ (script : List ℕ) (t : Tree) where
       once-in x all e h = subst (λ (y : Option (List Child)). elim y as (λ x′. Bool) [ none ↦ false | some cs ↦ allBelow (length (t .arena .nodes)) (λ i. leb (times (aNode i) cs) 1) ] ≡ true) e h
 
   -- a tree that a reading returns is not turned away
-  pub not-turned-away : Law script t → AllShaped script (t .arena) → Is (shapeOf script t) → turnedAway script t ≡ 0
+  pub not-turned-away : Once t → AllShaped script (t .arena) → Is (shapeOf script t) → turnedAway script t ≡ 0
   unfolding turnedAway onceEach
   not-turned-away l a h = if-true _ _ 4 (shaped-sound a h) ∙ if-true _ 0 45 (once-in (occurrences t) (l .found))
     where
       once-in : (x : Option (List Child)) → x ≡ some (l .all) → elim x as (λ x′. Bool) [ none ↦ false | some cs ↦ allBelow (length (t .arena .nodes)) (λ i. leb (times (aNode i) cs) 1) ] ≡ true
-      once-in x e = subst (λ (y : Option (List Child)). elim y as (λ x′. Bool) [ none ↦ false | some cs ↦ allBelow (length (t .arena .nodes)) (λ i. leb (times (aNode i) cs) 1) ] ≡ true) (sym e) (below-all (length (t .arena .nodes)) _ (λ i b. yes-true (leb (times (aNode i) (l .all)) 1) (le→leb (times (aNode i) (l .all)) 1 (l .once (aNode i)))))
+      once-in x e = subst (λ (y : Option (List Child)). elim y as (λ x′. Bool) [ none ↦ false | some cs ↦ allBelow (length (t .arena .nodes)) (λ i. leb (times (aNode i) cs) 1) ] ≡ true) (sym e) (below-all (length (t .arena .nodes)) _ (λ i b. yes-true (leb (times (aNode i) (l .all)) 1) (le→leb (times (aNode i) (l .all)) 1 (l .nodes i))))
 
   -- nor is it on the way back, once it is moved to the wide form
   pub not-turned-back : (xs : List ℕ) → length xs ≡ nodeWidth * length (t .arena .nodes) → turnedAway script t ≡ 0 → turnedBack script t (widened (parentOf (t .arena)) 0 (length (t .arena .nodes)) xs) ≡ 0
@@ -237,7 +237,7 @@ module _ (script : List ℕ) (t : Tree) where
 -- both modes
 module _ (power : ℕ → Option Powers) (eof : power kEof ≡ none) (script : List ℕ) (tree : Tree) where
   pub strict-moves : parse power script ≡ read tree [] → turnedAway script tree ≡ 0
-  strict-moves e = not-turned-away script tree (parse-law power eof script tree e) (allShaped power eof script tree e) (shaped power eof script tree e)
+  strict-moves e = not-turned-away script tree (parse-law power eof script tree e .once) (allShaped power eof script tree e) (shaped power eof script tree e)
 
   pub collecting-moves : (es : List Diagnostic) → parseCollect power script ≡ read tree es → turnedAway script tree ≡ 0
-  collecting-moves es e = not-turned-away script tree (parseCollect-law power eof script tree es e) (allShapedCollect power eof script tree es e) (shapedCollect power eof script tree es e)
+  collecting-moves es e = not-turned-away script tree (parseCollect-law power eof script tree es e .once) (allShapedCollect power eof script tree es e) (shapedCollect power eof script tree es e)

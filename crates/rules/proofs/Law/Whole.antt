@@ -13,20 +13,21 @@ use Rattle.lex.specs.declared.diagnostic.Diagnostic.{Diagnostic}
 use Rattle.rules.specs.Tree.{Arena, State, Result, ok, err, Tree}
 use Rattle.rules.specs.Combinators as R
 use Rattle.rules.specs.Combinators.{withDocs, ControlFlow, continue}
-use Rattle.rules.specs.Rules.{Powers, readers, maxLevels}
+use Rattle.rules.specs.Rules.{Powers, readers, maxLevels, stageOne}
 use Rattle.rules.specs.Parse.{Reading, read, ended, begin, synchronizeRoot, Gathered, merged, recover, parse, parseRoots, parseCollect, parseRootsCollect}
-use Rattle.rules.specs.Promise.{maxBytes, Arrays, tooShort, holding, Outcome, outcome, promised}
-use Rattle.rules.specs.declared.Counts.{Counts}
+use Rattle.rules.specs.Promise.{maxBytes, Arrays, tooShort, holding, Outcome, outcome, promised, numbersOf}
 use Rattle.rules.specs.declared.Parsed.the-variants as P
 use Rattle.rules.specs.Shape.{map₁, map₂, andThen}
-use Rattle.rules.specs.Law.{Child, aNode, aType, childrenOf, innerOf, times, allOf, occurrences, nth, childrenAt, innerAt, allArguments, resynchronisings, Rising, Law, TreeLaw}
+use Rattle.rules.specs.Law.{Child, aNode, aType, childrenOf, innerOf, times, allOf, occurrences, nth, childrenAt, innerAt, allArguments, resynchronisings, Rising, Below, Law, TreeLaw}
 use Rattle.rules.specs.declared.NodeId.{NodeId}
 use Rattle.rules.proofs.Results.{Ends, holds, fails, weaken-both, ended-ok, ifKind-ok, table-ok, entry-ok, other-ok, bind-ok, then-ok, pure-ok, flowValue, loop-ok}
 use Rattle.rules.proofs.Unique.Grow.{none≢some, some-inj}
 use Rattle.rules.proofs.Counting.Whole.{Bounded, in-bytes, read-tree, ended≢read, parse-bounded}
 use Rattle.rules.proofs.Counting.Collect.{Ascending, asc[], asc-snoc, Complete, parseRootsCollect-ends, parseCollect-bounded}
+use Rattle.rules.proofs.Numbers.{IsError, parse-error, parseCollect-error}
 use Rattle.rules.proofs.Law.Step.{Base, Named, named[], named-snoc, Holding, Held, below-lt, made, made-one, times-append, less, freeze, thaw, advance-holds}
 use Rattle.rules.proofs.Law.Rules.{nodeChild, readers-hold}
+use Rattle.rules.proofs.Law.Parents.{split}
 
 -- ---- the roots
 
@@ -111,6 +112,13 @@ module _ {R : Type 0} (f : R → Option (List Child)) where
       go ih (some us) none k h = none≢some cs h
       go ih (some us) (some vs) k h = rw (ih vs k) (ap some (sym (append-assoc us vs ds) ∙ ap (λ (l : List Child). l ++ ds) (some-inj (us ++ vs) cs h)))
 
+  -- the children of each are found
+  nth-found : (xs : List R) (all : List Child) → allOf f xs ≡ some all → (k : ℕ) → k < length xs → (cs : List Child) × (andThen (nth xs k) f ≡ some cs)
+  unfolding nth andThen
+  nth-found [] all e k h = absurd (omega arith)
+  nth-found (x ∷ xs) all e zero h = let z = split f x xs all e in (z .first, z .isFirst)
+  nth-found (x ∷ xs) all e (suc k) h = let z = split f x xs all e in nth-found xs (z .others) (z .areOthers) k (omega arith)
+
 module _ {R : Type 0} where
   -- the last of a list, or one before it
   data Place (xs : List R) (x : R) (k : ℕ) : Type 0 where
@@ -154,118 +162,6 @@ module _ {r : Child} {R : Type 0} {f : List ℕ → R → Option (List Child)} {
           let g : ds ≡ cs = some-inj ds cs (sym e ∙ ap (λ (o : Option R). andThen o (f cells)) (sym p) ∙ h) in
           (others, subst (λ (j : ℕ). times r cs ≤ limit j others) (sym i) (subst (λ (l : List Child). times r l ≤ limit (length xs) others) g l))
 
--- ---- the law
-
-module _ (tree : Tree) (q : (r : Child) → RootsHeld r (tree .roots) (tree .arena)) where
-  pub record Total (r : Child) : Type 0 where
-    pub all : List Child
-    pub found : occurrences tree ≡ some all
-    pub often : times r all ≤ made r (length (tree .arena .nodes)) (length (tree .arena .types))
-
-  total : (r : Child) → Total r
-  unfolding occurrences map₂ map₁
-  total r =
-      let c : Counted r (childrenOf (tree .arena .cells)) (tree .arena .nodes) (q r .byNodes) = counted (q r .nodes) in
-      let d : Counted r (innerOf (tree .arena .cells)) (tree .arena .types) (q r .byTypes) = counted (q r .types) in
-      record {
-        all = map aNode (tree .roots) ++ (c .all ++ d .all);
-        found = rw (c .found, d .found) refl;
-        often = omega (arith, q r .owned, c .often, d .often, times-append r (map aNode (tree .roots)) (c .all ++ d .all), times-append r (c .all) (d .all));
-      }
-
-  pub law : (script : List ℕ) → Bounded script tree → Law script tree
-  unfolding childrenAt innerAt made
-  law script b = record {
-    all = total (aNode 0) .all;
-    found = total (aNode 0) .found;
-    nodesFall = λ k i cs e h. let z = limited (q (aNode i) .nodes) k cs e in below-lt i k (omega (arith, z .1, h));
-    typesFall = λ k j cs e h. let z = limited (q (aType j) .types) k cs e in below-lt j k (omega (arith, z .1, h));
-    once = λ c. omega (arith, often c, made-one c (length (tree .arena .nodes)) (length (tree .arena .types)));
-    nodesInside = λ i h. below-lt i _ (omega (arith, often (aNode i), h));
-    typesInside = λ j h. below-lt j _ (omega (arith, often (aType j), h));
-    values = q (aNode 0) .values;
-    fewNodes = in-bytes script tree b .nodes;
-    fewTypes = omega (arith, in-bytes script tree b .made);
-    fewValues = omega (arith, in-bytes script tree b .made);
-  }
-    where
-      often : (c : Child) → times c (total (aNode 0) .all) ≤ made c (length (tree .arena .nodes)) (length (tree .arena .types))
-      often c = subst (λ (l : List Child). times c l ≤ made c (length (tree .arena .nodes)) (length (tree .arena .types))) (some-inj _ _ (sym (total c .found) ∙ total (aNode 0) .found)) (total c .often)
-
-module _ (power : ℕ → Option Powers) (eof : power kEof ≡ none) (script : List ℕ) (tree : Tree) where
-  pub parse-law : parse power script ≡ read tree [] → Law script tree
-  unfolding parse
-  parse-law e = law tree (λ r. go r (parseRoots power script (begin script)) (parseRoots-holds r power script) e) script (parse-bounded power eof script tree e)
-    where
-      go : (r : Child) (z : Result (List ℕ)) → Ends (λ roots s. RootsHeld r roots (s .arena)) (λ s. Unit {0}) z → elim z as (λ z′. Reading) [ ok roots s ↦ read (record { arena = s .arena; roots = roots }) [] | err x s ↦ ended x ] ≡ read tree [] → RootsHeld r (tree .roots) (tree .arena)
-      go r z (holds {a = roots} {s} q) e = subst (λ (t : Tree). RootsHeld r (t .roots) (t .arena)) (read-tree _ tree [] [] e) q
-      go r z (fails {e = x} q) e = ended≢read x tree [] e
-
-  pub parseCollect-law : (es : List Diagnostic) → parseCollect power script ≡ read tree es → Law script tree
-  unfolding parseCollect
-  parseCollect-law es e = law tree (λ r. go r (parseRootsCollect power script (begin script)) (parseRootsCollect-holds r power script) e) script (parseCollect-bounded power eof script tree es e)
-    where
-      fs : List Occurrence
-      fs = faultsOf 0 (cut script)
-
-      go : (r : Child) (z : Result Gathered) → Ends (λ g s. RootsHeld r (g .roots) (s .arena)) (λ s. Unit {0}) z
-          → elim z as (λ z′. Reading) [ ok g s ↦ read (record { arena = s .arena; roots = g .roots }) (merged (length fs + length (g .errors)) fs (g .errors)) | err x s ↦ ended x ] ≡ read tree es → RootsHeld r (tree .roots) (tree .arena)
-      go r z (holds {a = g} {s} q) e = subst (λ (t : Tree). RootsHeld r (t .roots) (t .arena)) (read-tree _ tree _ es e) q
-      go r z (fails {e = x} q) e = ended≢read x tree es e
-
--- ---- what is delivered
-
--- strict mode gathers nothing
-pub parse-errors : (power : ℕ → Option Powers) (script : List ℕ) (tree : Tree) (es : List Diagnostic) → parse power script ≡ read tree es → es ≡ []
-unfolding parse
-parse-errors power script tree es e = go (parseRoots power script (begin script)) e
-  where
-    go : (z : Result (List ℕ)) → elim z as (λ z′. Reading) [ ok roots s ↦ read (record { arena = s .arena; roots = roots }) [] | err x s ↦ ended x ] ≡ read tree es → es ≡ []
-    go (ok roots s) h = let k : read (record { arena = s .arena; roots = roots }) [] ≡ read tree es = h in cc
-    go (err x s) h = ended≢read x tree es h
-
--- a tree that the arrays hold, with its counts
-pub record Delivered (script : List ℕ) (o : Outcome) (l : Arrays) (c : Counts) : Type 0 where
-  pub tree : Tree
-  pub errors : List Diagnostic
-  pub lawful : Law script tree
-  pub arrays : o .arrays ≡ holding tree errors l
-  pub nodes : c .nodes ≡ length (tree .arena .nodes)
-  pub types : c .types ≡ length (tree .arena .types)
-  pub values : c .values ≡ tree .arena .values
-
-module _ (how : List ℕ → Reading) (script : List ℕ) (lawful : (tree : Tree) (es : List Diagnostic) → how script ≡ read tree es → Law script tree) (l : Arrays) (c : Counts) where
-  -- whatever is lent: where the answer is a tree, that tree is lawful
-  pub delivered : promised how script l .answer ≡ P.Tree c → Delivered script (promised how script l) l c
-  unfolding promised outcome
-  delivered = by-length (ltb maxBytes (length script))
-    where
-      of : Outcome → Type 0
-      of o = o .answer ≡ P.Tree c → Delivered script o l c
-
-      tree≢refused : (n : ℕ) {X : Type 0} → P.Refused n ≡ P.Tree c → X
-      tree≢refused n e = let z : _≡_ {A = ℕ} 0 1 = cc in absurd (omega arith)
-
-      tree≢error : (d : Diagnostic) {X : Type 0} → P.Error d ≡ P.Tree c → X
-      tree≢error d e = let z : _≡_ {A = ℕ} 0 1 = cc in absurd (omega arith)
-
-      same-counts : (k : Counts) → P.Tree k ≡ P.Tree c → k ≡ c
-      same-counts k e = cc
-
-      by-reading : (r : Reading) → how script ≡ r → (outcome r l .answer ≡ P.Tree c → Delivered script (outcome r l) l c)
-      by-reading (read t es) p e =
-          let z = same-counts _ e in
-          record { tree = t; errors = es; lawful = lawful t es p; arrays = refl; nodes = sym (ap (λ (k : Counts). k .nodes) z); types = sym (ap (λ (k : Counts). k .types) z); values = sym (ap (λ (k : Counts). k .values) z) }
-      by-reading (ended d) p e = tree≢error d e
-
-      by-room : (b : Bool) → of (elim b as (λ b′. Outcome) [ true ↦ record { answer = P.Refused 2; arrays = l } | false ↦ outcome (how script) l ])
-      by-room true e = tree≢refused 2 e
-      by-room false e = by-reading (how script) refl e
-
-      by-length : (b : Bool) → of (elim b as (λ b′. Outcome) [ true ↦ record { answer = P.Refused 1; arrays = l } | false ↦ elim (tooShort script l) as (λ b′. Outcome) [ true ↦ record { answer = P.Refused 2; arrays = l } | false ↦ outcome (how script) l ] ])
-      by-length true e = tree≢refused 1 e
-      by-length false e = by-room (tooShort script l) e
-
 -- ---- resynchronising
 
 -- the last is below
@@ -303,14 +199,136 @@ resynchronisings-rise power eof script = go (parseRootsCollect power script (beg
     go z (holds q) = ascending-rises (q .ascending) .0
     go z (fails q) = tt
 
+-- ---- the law
+
+module _ (tree : Tree) (q : (r : Child) → RootsHeld r (tree .roots) (tree .arena)) where
+  pub record Total (r : Child) : Type 0 where
+    pub all : List Child
+    pub found : occurrences tree ≡ some all
+    pub often : times r all ≤ made r (length (tree .arena .nodes)) (length (tree .arena .types))
+
+  total : (r : Child) → Total r
+  unfolding occurrences map₂ map₁
+  total r =
+      let c : Counted r (childrenOf (tree .arena .cells)) (tree .arena .nodes) (q r .byNodes) = counted (q r .nodes) in
+      let d : Counted r (innerOf (tree .arena .cells)) (tree .arena .types) (q r .byTypes) = counted (q r .types) in
+      record {
+        all = map aNode (tree .roots) ++ (c .all ++ d .all);
+        found = rw (c .found, d .found) refl;
+        often = omega (arith, q r .owned, c .often, d .often, times-append r (map aNode (tree .roots)) (c .all ++ d .all), times-append r (c .all) (d .all));
+      }
+
+  below : Below (tree .arena)
+  unfolding childrenAt innerAt made
+  below = record {
+    nodes = λ k h.
+        let z = nth-found (childrenOf (tree .arena .cells)) (tree .arena .nodes) _ (counted (q (aNode 0) .nodes) .found) k h in
+        (z .0, z .1, λ i l. below-lt i k (omega (arith, limited (q (aNode i) .nodes) k (z .0) (z .1) .1, l)));
+    types = λ k h.
+        let z = nth-found (innerOf (tree .arena .cells)) (tree .arena .types) _ (counted (q (aType 0) .types) .found) k h in
+        (z .0, z .1, λ j l. below-lt j k (omega (arith, limited (q (aType j) .types) k (z .0) (z .1) .1, l)));
+  }
+
+  pub law : (script begun : List ℕ) → Bounded script tree → Rising begun → Law script tree begun
+  unfolding made
+  law script begun b rising = record {
+    below = below;
+    once = record {
+      all = total (aNode 0) .all;
+      found = total (aNode 0) .found;
+      nodes = λ i. omega (arith, often (aNode i), made-one (aNode i) (length (tree .arena .nodes)) (length (tree .arena .types)));
+      types = λ j. omega (arith, often (aType j), made-one (aType j) (length (tree .arena .nodes)) (length (tree .arena .types)));
+      nodesInside = λ i h. below-lt i _ (omega (arith, often (aNode i), h));
+      typesInside = λ j h. below-lt j _ (omega (arith, often (aType j), h));
+    };
+    values = q (aNode 0) .values;
+    few = record {
+      nodes = in-bytes script tree b .nodes;
+      types = omega (arith, in-bytes script tree b .made);
+      values = omega (arith, in-bytes script tree b .made);
+    };
+    takes = rising;
+  }
+    where
+      often : (c : Child) → times c (total (aNode 0) .all) ≤ made c (length (tree .arena .nodes)) (length (tree .arena .types))
+      often c = subst (λ (l : List Child). times c l ≤ made c (length (tree .arena .nodes)) (length (tree .arena .types))) (some-inj _ _ (sym (total c .found) ∙ total (aNode 0) .found)) (total c .often)
+
+module _ (power : ℕ → Option Powers) (eof : power kEof ≡ none) (script : List ℕ) (tree : Tree) where
+  pub parse-law : parse power script ≡ read tree [] → Law script tree []
+  unfolding parse
+  parse-law e = law tree (λ r. go r (parseRoots power script (begin script)) (parseRoots-holds r power script) e) script [] (parse-bounded power eof script tree e) tt
+    where
+      go : (r : Child) (z : Result (List ℕ)) → Ends (λ roots s. RootsHeld r roots (s .arena)) (λ s. Unit {0}) z → elim z as (λ z′. Reading) [ ok roots s ↦ read (record { arena = s .arena; roots = roots }) [] | err x s ↦ ended x ] ≡ read tree [] → RootsHeld r (tree .roots) (tree .arena)
+      go r z (holds {a = roots} {s} q) e = subst (λ (t : Tree). RootsHeld r (t .roots) (t .arena)) (read-tree _ tree [] [] e) q
+      go r z (fails {e = x} q) e = ended≢read x tree [] e
+
+  pub parseCollect-law : (es : List Diagnostic) → parseCollect power script ≡ read tree es → Law script tree (resynchronisings power script)
+  unfolding parseCollect
+  parseCollect-law es e = law tree (λ r. go r (parseRootsCollect power script (begin script)) (parseRootsCollect-holds r power script) e) script (resynchronisings power script) (parseCollect-bounded power eof script tree es e) (resynchronisings-rise power eof script)
+    where
+      fs : List Occurrence
+      fs = faultsOf 0 (cut script)
+
+      go : (r : Child) (z : Result Gathered) → Ends (λ g s. RootsHeld r (g .roots) (s .arena)) (λ s. Unit {0}) z
+          → elim z as (λ z′. Reading) [ ok g s ↦ read (record { arena = s .arena; roots = g .roots }) (merged (length fs + length (g .errors)) fs (g .errors)) | err x s ↦ ended x ] ≡ read tree es → RootsHeld r (tree .roots) (tree .arena)
+      go r z (holds {a = g} {s} q) e = subst (λ (t : Tree). RootsHeld r (t .roots) (t .arena)) (read-tree _ tree _ es e) q
+      go r z (fails {e = x} q) e = ended≢read x tree es e
+
+-- ---- what is delivered
+
+-- strict mode gathers nothing
+pub parse-errors : (power : ℕ → Option Powers) (script : List ℕ) (tree : Tree) (es : List Diagnostic) → parse power script ≡ read tree es → es ≡ []
+unfolding parse
+parse-errors power script tree es e = go (parseRoots power script (begin script)) e
+  where
+    go : (z : Result (List ℕ)) → elim z as (λ z′. Reading) [ ok roots s ↦ read (record { arena = s .arena; roots = roots }) [] | err x s ↦ ended x ] ≡ read tree es → es ≡ []
+    go (ok roots s) h = let k : read (record { arena = s .arena; roots = roots }) [] ≡ read tree es = h in cc
+    go (err x s) h = ended≢read x tree es h
+
 -- Eof is no infix sign
 pub treeLaw : (power : ℕ → Option Powers) → power kEof ≡ none → TreeLaw power
-treeLaw power eof = record { strict = λ script tree e. parse-law power eof script tree e; collecting = λ script tree es e. parseCollect-law power eof script tree es e; resynchronises = λ script. resynchronisings-rise power eof script }
+treeLaw power eof = record {
+  strict = λ script tree es e. parse-law power eof script tree (e ∙ ap (read tree) (parse-errors power script tree es e));
+  collecting = λ script tree es e. parseCollect-law power eof script tree es e;
+}
+
+pub treeLaw-stageOne : TreeLaw stageOne
+unfolding stageOne R.choose
+treeLaw-stageOne = treeLaw stageOne refl
+
+-- a tree that the arrays hold, with the counts that are returned, and its law
+pub record Delivered (script begun : List ℕ) (lent : Arrays) (o : Outcome) : Type 0 where
+  pub tree : Tree
+  pub errors : List Diagnostic
+  pub answer : o .answer ≡ P.Tree (record { nodes = length (tree .arena .nodes); types = length (tree .arena .types); cells = length (tree .arena .cells); roots = length (tree .roots); values = tree .arena .values; diagnostics = length errors })
+  pub arrays : o .arrays ≡ holding tree errors lent
+  pub law : Law script tree begun
+
+module _ (how : List ℕ → Reading) (script begun : List ℕ) (lawful : (tree : Tree) (es : List Diagnostic) → how script ≡ read tree es → Law script tree begun) (known : (e : Diagnostic) → how script ≡ ended e → IsError e) (l : Arrays) where
+  -- whatever is lent: where the number is 0, a tree is delivered
+  delivered : numbersOf (promised how script l .answer) .number ≡ 0 → Delivered script begun l (promised how script l)
+  unfolding promised outcome numbersOf
+  delivered = by-length (ltb maxBytes (length script))
+    where
+      of : Outcome → Type 0
+      of o = numbersOf (o .answer) .number ≡ 0 → Delivered script begun l o
+
+      by-reading : (r : Reading) → how script ≡ r → of (outcome r l)
+      by-reading (read t es) p e = record { tree = t; errors = es; answer = refl; arrays = refl; law = lawful t es p }
+      by-reading (ended d) p e = absurd (omega (arith, e, known d p .0))
+
+      by-room : (b : Bool) → of (elim b as (λ b′. Outcome) [ true ↦ record { answer = P.Refused 2; arrays = l } | false ↦ outcome (how script) l ])
+      by-room true e = absurd (omega (arith, e))
+      by-room false e = by-reading (how script) refl e
+
+      by-length : (b : Bool) → of (elim b as (λ b′. Outcome) [ true ↦ record { answer = P.Refused 1; arrays = l } | false ↦ elim (tooShort script l) as (λ b′. Outcome) [ true ↦ record { answer = P.Refused 2; arrays = l } | false ↦ outcome (how script) l ] ])
+      by-length true e = absurd (omega (arith, e))
+      by-length false e = by-room (tooShort script l) e
 
 -- both modes, whatever is lent
-module _ (power : ℕ → Option Powers) (eof : power kEof ≡ none) (script : List ℕ) (l : Arrays) (c : Counts) where
-  pub strict-delivered : promised (parse power) script l .answer ≡ P.Tree c → Delivered script (promised (parse power) script l) l c
-  strict-delivered = delivered (parse power) script (λ tree es e. parse-law power eof script tree (e ∙ ap (read tree) (parse-errors power script tree es e))) l c
+module _ {power : ℕ → Option Powers} (laws : TreeLaw power) (script : List ℕ) (l : Arrays) where
+  pub strict-delivered : numbersOf (promised (parse power) script l .answer) .number ≡ 0 → Delivered script [] l (promised (parse power) script l)
+  strict-delivered = delivered (parse power) script [] (laws .strict script) (parse-error power script) l
 
-  pub collecting-delivered : promised (parseCollect power) script l .answer ≡ P.Tree c → Delivered script (promised (parseCollect power) script l) l c
-  collecting-delivered = delivered (parseCollect power) script (λ tree es e. parseCollect-law power eof script tree es e) l c
+  pub collecting-delivered : numbersOf (promised (parseCollect power) script l .answer) .number ≡ 0 → Delivered script (resynchronisings power script) l (promised (parseCollect power) script l)
+  collecting-delivered = delivered (parseCollect power) script (resynchronisings power script) (laws .collecting script) (parseCollect-error power script) l
