@@ -11,13 +11,14 @@
 //! limits     scripts of 0, 1, 65,536 and 65,537 bytes of many shapes; arrays exactly long enough, longer, and one cell short of each
 //!
 //! Without a family all are run. Of each script the numbers, all cells of all arrays, the starts of nodes, the tokens of types, spans, lines and columns
-//! are compared. The arrays are lent full of rubbish and longer than needed.
+//! are compared. The arrays are lent full of rubbish and longer than needed. Every tree is held to the law of a finished tree (law.rs).
 #![feature(allocator_api, portable_simd, core_intrinsics)]
 #![allow(internal_features)]
 
 include!(env!("RUST_MODULES")); // written by tools/oracle/rust.py: lex, diagnostic, ast, parser, counted, notes
 
 mod expected;
+mod law;
 mod library;
 #[path = "../oracle/numbers.rs"]
 mod numbers;
@@ -27,6 +28,7 @@ mod shape;
 use crate::ast::{Ast, NodeId, TypeExprId};
 use crate::diagnostic::Span;
 use crate::expected::{Expected, Rust};
+use crate::law::Law;
 use crate::lex::Type;
 use crate::library::{CELLS, Lent, MODES, Mode, NAMES, Rubbish};
 use crate::numbers::{kind_number, tokens_of};
@@ -84,6 +86,7 @@ struct Beside {
     rust: Rust,
     lent: Lent,
     expected: Expected,
+    law: Law,
 }
 
 /// What is asked of the Rust's tree: starts of some nodes, tokens of some types.
@@ -113,7 +116,7 @@ impl Asked {
 impl Beside {
     fn new(seed: u64) -> Self {
         let mut random = Random::new(seed);
-        Beside { rubbish: Rubbish::new(&mut random), random, rust: Rust::new(), lent: Lent::new(), expected: Expected::default() }
+        Beside { rubbish: Rubbish::new(&mut random), random, rust: Rust::new(), lent: Lent::new(), expected: Expected::default(), law: Law::default() }
     }
 
     /// Lengths of at least the least for `n` bytes, mostly longer.
@@ -146,6 +149,7 @@ impl Beside {
         self.same_reading(number)?;
         if number == 0 {
             count.trees += 1;
+            self.law.holds(&self.lent, script)?;
             self.same_lookups(count, script, &asked)?;
         }
         Ok(())
@@ -166,6 +170,13 @@ impl Beside {
             }
         }
         if lent.guarded() { Ok(()) } else { Err("cells outside of an array changed".to_string()) }
+    }
+
+    /// The tree that was just read is lawful.
+    fn lawful(&mut self, count: &mut Count, script: &[u8]) {
+        if let Err(what) = self.law.holds(&self.lent, script) {
+            count.differs(script, &what);
+        }
     }
 
     fn same_lookups(&mut self, count: &mut Count, script: &[u8], asked: &Asked) -> Result<(), String> {
@@ -337,9 +348,11 @@ impl Beside {
             count.trees += 2;
             self.lend(script2.len());
             self.lent.read(Mode::Strict, &script2);
+            self.lawful(&mut count, &script2);
             std::mem::swap(&mut self.lent, &mut other);
             self.lend(script.len());
             self.lent.read(Mode::Strict, &script);
+            self.lawful(&mut count, &script);
             let wanted = u64::from(left == right);
             same += wanted;
             count.lookups += 1;
@@ -370,6 +383,7 @@ impl Beside {
             self.compare(&mut count, script);
             self.lend(script.len());
             self.lent.read(mode, script);
+            self.lawful(&mut count, script);
             let counts = [self.lent.numbers[6], self.lent.numbers[7]];
             for more in [0, 1, 1000, u32::MAX - 1000] {
                 count.lookups += 3;
@@ -460,6 +474,7 @@ fn run(quick: bool, seed: u64, families: &[String]) -> u64 {
             _ => beside.pairs(if quick { 100_000 } else { 1_000_000 }),
         };
     }
+    println!("the law: {} trees, {} resynchronisings", beside.law.trees, beside.law.resynchronisings);
     differ
 }
 
