@@ -1,0 +1,24 @@
+-- How a call ends that writes a text into a lent buffer: refused with a number, or with the text's length in bytes.
+use mathlib.Core.List.{List, _++_}
+use Prim.Native.Nat.{ℕ}
+use lib.ListN.{length, drop}
+
+pub data Answer : Type 0 where
+  refused : ℕ → Answer
+  written : ℕ → Answer
+
+-- the answer, and the buffer as it is left
+pub record Result : Type 0 where
+  pub answer : Answer
+  pub buffer : List ℕ
+
+abbrev pub result : Answer → List ℕ → Result
+result a b = record { answer = a; buffer = b }
+
+-- refused, the buffer is as it was
+abbrev pub refuse : ℕ → List ℕ → Result
+refuse n buffer = result (refused n) buffer
+
+-- the text stands in front; behind it the buffer keeps what it held
+abbrev pub inFront : List ℕ → List ℕ → Result
+inFront text buffer = result (written (length text)) (text ++ drop (length text) buffer)

@@ -1,0 +1,2 @@
+-- An error in words.
+pub mod Words

@@ -1,0 +1,149 @@
+-- An error of a script in words: one line of printable ASCII that names the broken rule, the wanted kind and the seen kind or byte.
+use mathlib.Core.Path.{_≡_}
+use mathlib.Core.Bool.{Bool, true, false, _&&_, _||_}
+use mathlib.Core.Option.{Option, none, some}
+use mathlib.Core.List.{List, [], _∷_, _++_}
+use Prim.Native.Nat.{ℕ, _+_, _/_, _%_, _≤_}
+use lib.Dec.{leb, ltb, eqb}
+use lib.ListN.{length, getD}
+use Rattle.lex.specs.Kind.{kEof, kRecord}
+use Rattle.lex.specs.declared.diagnostic.Diagnostic.{Diagnostic}
+use Rattle.text.specs.Text.{bytes}
+use Rattle.text.specs.Answer.{Answer, refused, written, Result, refuse, inFront}
+use Rattle.words.specs.declared.Described.{Described}
+use Rattle.words.specs.declared.Described.the-variants as D
+
+-- ---- the tables
+
+-- what each error number says, from 0 on; empty where 01 lists no error of a script. A phrase that ends with a blank is followed by a name or a byte.
+unfoldable pub phrases : List (List ℕ)
+phrases =
+    [] ∷ [] ∷ [] ∷ [] ∷ [] ∷ [] ∷ [] ∷ [] ∷ [] ∷ [] ∷
+    bytes "the nesting is too deep, 128 levels are the most; the next would begin at " ∷
+    bytes "expected " ∷
+    bytes "a name must stand here, but found " ∷
+    bytes "the script ends with nothing left to document, yet here stands " ∷
+    bytes "only a let, fn or extern can be documented, so there is no place here for " ∷
+    bytes "an import path must be a string, but found " ∷
+    bytes "after extern there must be a string, but found " ∷
+    bytes "an extern cannot stand inside another extern, but found " ∷
+    bytes "a match needs a block without a condition, its default; this one begins with " ∷
+    bytes "an expression must stand here, but found " ∷
+    bytes "the name of a type must stand inside Foreign<>, but found " ∷
+    bytes "a type must stand inside Option<>, but found " ∷
+    bytes "a type must stand inside Array<>, but found " ∷
+    bytes "a type must stand here, but found " ∷
+    [] ∷ [] ∷ [] ∷ [] ∷ [] ∷ [] ∷ [] ∷
+    bytes "this string has no closing quote" ∷
+    bytes "this text is not valid UTF-8" ∷
+    bytes "this character is not part of the language; its byte in hexadecimal is " ∷
+    bytes "this number is not valid, for it has a second dot" ∷
+    []
+
+unfoldable pub phrase : ℕ → List ℕ
+phrase number = getD phrases number []
+
+-- what each kind of token is called, from 0 on; 0 is no kind
+unfoldable pub kindNames : List (List ℕ)
+kindNames =
+    [] ∷ bytes "the end of the script" ∷ bytes "'('" ∷ bytes "')'" ∷ bytes "'+'" ∷ bytes "'-'" ∷ bytes "'*'" ∷ bytes "'/'" ∷ bytes "'%'" ∷
+    bytes "'='" ∷ bytes "'=='" ∷ bytes "'<'" ∷ bytes "'>'" ∷ bytes "'!'" ∷ bytes "'!='" ∷ bytes "'?'" ∷ bytes "':'" ∷ bytes "'.'" ∷ bytes "'['" ∷
+    bytes "']'" ∷ bytes "'{'" ∷ bytes "'}'" ∷ bytes "a string" ∷ bytes "a number with a dot" ∷ bytes "a whole number" ∷ bytes "a name" ∷
+    bytes "a doc comment" ∷ bytes "the word 'import'" ∷ bytes "the word 'extern'" ∷ bytes "the word 'let'" ∷ bytes "the word 'fn'" ∷
+    bytes "the word 'match'" ∷ bytes "the word 'as'" ∷ bytes "the word 'true'" ∷ bytes "the word 'false'" ∷ bytes "the word 'Str'" ∷
+    bytes "the word 'Int'" ∷ bytes "the word 'Double'" ∷ bytes "the word 'Bool'" ∷ bytes "the word 'Void'" ∷ bytes "the word 'Option'" ∷
+    bytes "the word 'Array'" ∷ bytes "the word 'Foreign'" ∷ bytes "the word 'Record'" ∷ []
+
+unfoldable pub kindName : ℕ → List ℕ
+kindName kind = getD kindNames kind []
+
+-- ---- a byte in two hexadecimal digits
+
+unfoldable pub hexDigit : ℕ → ℕ
+hexDigit d = elim (ltb d 10) [ true ↦ 48 + d | false ↦ 55 + d ]
+
+unfoldable pub hex : ℕ → List ℕ
+hex b = hexDigit (b / 16 % 16) ∷ hexDigit (b % 16) ∷ []
+
+-- ---- the line of an error
+
+-- between the wanted and the seen kind
+unfoldable pub butFound : List ℕ
+butFound = bytes ", but found "
+
+-- what stands behind the phrase: for 11 both kinds, for 33 the byte, for the lexer's other faults nothing, else the seen kind
+unfoldable pub details : ℕ → ℕ → ℕ → List ℕ
+details number wanted seen =
+    elim (eqb number 11) [
+      | true ↦ kindName wanted ++ (butFound ++ kindName seen)
+      | false ↦ elim (leb number 23) [
+        | true ↦ kindName seen
+        | false ↦ elim (eqb number 33) [ true ↦ hex seen | false ↦ [] ]
+      ]
+    ]
+
+unfoldable pub line : Diagnostic → List ℕ
+line e = phrase (e .number) ++ details (e .number) (e .wanted) (e .seen)
+
+-- ---- which errors have words
+
+-- a kind of `Type`
+unfoldable pub isKind : ℕ → Bool
+isKind k = leb kEof k && leb k kRecord
+
+-- the numbers that 01 lists for scripts
+unfoldable pub isScriptError : ℕ → Bool
+isScriptError number = (leb 10 number && leb number 23) || (leb 31 number && leb number 34)
+
+-- for 11 a kind, else 0
+unfoldable pub isWanted : ℕ → ℕ → Bool
+isWanted number wanted = elim (eqb number 11) [ true ↦ isKind wanted | false ↦ eqb wanted 0 ]
+
+-- for 10 to 23 a kind, for 33 a byte, else 0
+unfoldable pub isSeen : ℕ → ℕ → Bool
+isSeen number seen = elim (leb number 23) [ true ↦ isKind seen | false ↦ elim (eqb number 33) [ true ↦ leb seen 255 | false ↦ eqb seen 0 ] ]
+
+unfoldable pub hasWords : Diagnostic → Bool
+hasWords e = (isScriptError (e .number) && isWanted (e .number) (e .wanted)) && isSeen (e .number) (e .seen)
+
+unfoldable pub words : Diagnostic → Option (List ℕ)
+words e = elim (hasWords e) [ true ↦ some (line e) | false ↦ none ]
+
+-- ---- what is promised of every line
+
+-- the most bytes of a line, and the fewest of a buffer
+abbrev pub maxLine : ℕ
+maxLine = 160
+
+-- printable ASCII
+unfoldable pub printable : List ℕ → Bool
+printable [] = true
+printable (b ∷ bs) = (leb 32 b && leb b 126) && printable bs
+
+-- the last byte, `b` standing before the first
+unfoldable pub lastByte : ℕ → List ℕ → ℕ
+lastByte b [] = b
+lastByte b (c ∷ cs) = lastByte c cs
+
+pub record IsLine (w : List ℕ) : Type 0 where
+  pub short : length w ≤ maxLine
+  pub ascii : printable w ≡ true
+  pub first : getD w 0 32 ≡ 32 → ⊥
+  pub last : lastByte 32 w ≡ 32 → ⊥
+
+-- two errors agree but for their spans
+pub record Alike (e f : Diagnostic) : Type 0 where
+  pub number : e .number ≡ f .number
+  pub wanted : e .wanted ≡ f .wanted
+  pub seen : e .seen ≡ f .seen
+
+-- ---- into a lent buffer
+
+-- 41, a buffer that is too short, is tested before 42, an error without words
+unfoldable pub described : Diagnostic → List ℕ → Result
+described e buffer = elim (ltb (length buffer) maxLine) [ true ↦ refuse 41 buffer | false ↦ elim (words e) [ none ↦ refuse 42 buffer | some w ↦ inFront w buffer ] ]
+
+-- what the code's answer means
+unfoldable pub answerOf : Described → Answer
+answerOf (D.Written n) = written n
+answerOf (D.Refused n) = refused n

@@ -1,0 +1,286 @@
+// An error of a script in words. docs/WORDS.md has the table.
+use lex::Diagnostic;
+use lex::Type;
+use text::write_byte;
+use text::write_text;
+ghost use mathlib.Core.Path.{_≡_};
+ghost use Prim.Native.Nat.{_<_};
+ghost use Rattle.text.specs.Answer.{result};
+ghost use Rattle.text.specs.Emit.{Emits};
+ghost use Rattle.words.specs.Words.{phrase, kindName, hexDigit, hex, details, isKind, isScriptError, isWanted, isSeen, hasWords, described, answerOf};
+
+// How many bytes were written; or 41 or 42, and the buffer is as it was.
+pub enum Described {
+    Written(usize),
+    Refused(u32),
+}
+
+// The most bytes of a line, and the fewest of a buffer.
+pub const MAX_LINE: usize = 160;
+
+// The phrases of the error numbers, one after the other.
+const PHRASES: [u8; 879] = *b"\
+the nesting is too deep, 128 levels are the most; the next would begin at \
+expected \
+a name must stand here, but found \
+the script ends with nothing left to document, yet here stands \
+only a let, fn or extern can be documented, so there is no place here for \
+an import path must be a string, but found \
+after extern there must be a string, but found \
+an extern cannot stand inside another extern, but found \
+a match needs a block without a condition, its default; this one begins with \
+an expression must stand here, but found \
+the name of a type must stand inside Foreign<>, but found \
+a type must stand inside Option<>, but found \
+a type must stand inside Array<>, but found \
+a type must stand here, but found \
+this string has no closing quote\
+this text is not valid UTF-8\
+this character is not part of the language; its byte in hexadecimal is \
+this number is not valid, for it has a second dot";
+
+// Where the phrase of each number begins, from 0 on; the next one's beginning is its end.
+const PHRASE_BOUNDS: [usize; 36] = [
+    0,
+    0,
+    0,
+    0,
+    0,
+    0,
+    0,
+    0,
+    0,
+    0,
+    0,
+    74,
+    83,
+    117,
+    180,
+    254,
+    297,
+    344,
+    400,
+    477,
+    518,
+    576,
+    621,
+    665,
+    699,
+    699,
+    699,
+    699,
+    699,
+    699,
+    699,
+    699,
+    731,
+    759,
+    830,
+    879,
+];
+
+// The names of the kinds, one after the other.
+const KIND_NAMES: [u8; 407] = *b"\
+the end of the script\
+'('\
+')'\
+'+'\
+'-'\
+'*'\
+'/'\
+'%'\
+'='\
+'=='\
+'<'\
+'>'\
+'!'\
+'!='\
+'?'\
+':'\
+'.'\
+'['\
+']'\
+'{'\
+'}'\
+a string\
+a number with a dot\
+a whole number\
+a name\
+a doc comment\
+the word 'import'\
+the word 'extern'\
+the word 'let'\
+the word 'fn'\
+the word 'match'\
+the word 'as'\
+the word 'true'\
+the word 'false'\
+the word 'Str'\
+the word 'Int'\
+the word 'Double'\
+the word 'Bool'\
+the word 'Void'\
+the word 'Option'\
+the word 'Array'\
+the word 'Foreign'\
+the word 'Record'";
+
+// Where the name of each kind begins, from 0 on.
+const KIND_BOUNDS: [usize; 45] = [
+    0,
+    0,
+    21,
+    24,
+    27,
+    30,
+    33,
+    36,
+    39,
+    42,
+    45,
+    49,
+    52,
+    55,
+    58,
+    62,
+    65,
+    68,
+    71,
+    74,
+    77,
+    80,
+    83,
+    91,
+    110,
+    124,
+    130,
+    143,
+    160,
+    177,
+    191,
+    204,
+    220,
+    233,
+    248,
+    264,
+    278,
+    292,
+    309,
+    324,
+    339,
+    356,
+    372,
+    390,
+    407,
+];
+
+fn write_phrase(number: u32, out: &mut [u8], at: usize) -> usize
+    ensures { λ r. ⌜ Emits (phrase number) (now (out .entry)) at (now (out .exit)) r ⌝ }
+{
+    if 34 < number {
+        return at;
+    }
+    let k = number as usize;
+    let from = PHRASE_BOUNDS[k];
+    let to = PHRASE_BOUNDS[k + 1];
+    write_text(&PHRASES[from..to], out, at)
+}
+
+fn write_kind(kind: u32, out: &mut [u8], at: usize) -> usize
+    ensures { λ r. ⌜ Emits (kindName kind) (now (out .entry)) at (now (out .exit)) r ⌝ }
+{
+    if Type::RECORD < kind {
+        return at;
+    }
+    let k = kind as usize;
+    let from = KIND_BOUNDS[k];
+    let to = KIND_BOUNDS[k + 1];
+    write_text(&KIND_NAMES[from..to], out, at)
+}
+
+fn hex_digit(d: u32) -> u8
+    requires { ⌜ d < 16 ⌝ }
+    ensures { λ r. ⌜ r ≡ hexDigit d ⌝ }
+{
+    if d < 10 { 48 + d as u8 } else { 55 + d as u8 }
+}
+
+// Two hexadecimal digits.
+fn write_hex(b: u32, out: &mut [u8], at: usize) -> usize
+    ensures { λ r. ⌜ Emits (hex b) (now (out .entry)) at (now (out .exit)) r ⌝ }
+{
+    let a = write_byte(hex_digit(b / 16 % 16), out, at);
+    write_byte(hex_digit(b % 16), out, a)
+}
+
+// What stands behind the phrase.
+fn write_details(number: u32, wanted: u32, seen: u32, out: &mut [u8], at: usize) -> usize
+    ensures { λ r. ⌜ Emits (details number wanted seen) (now (out .entry)) at (now (out .exit)) r ⌝ }
+{
+    if number == 11 {
+        let a = write_kind(wanted, out, at);
+        let b = write_text(b", but found ", out, a);
+        return write_kind(seen, out, b);
+    }
+    if number <= 23 {
+        return write_kind(seen, out, at);
+    }
+    if number == 33 {
+        return write_hex(seen, out, at);
+    }
+    at
+}
+
+fn is_kind(k: u32) -> bool
+    ensures { λ r. ⌜ r ≡ isKind k ⌝ }
+{
+    (Type::EOF <= k) & (k <= Type::RECORD)
+}
+
+fn is_script_error(number: u32) -> bool
+    ensures { λ r. ⌜ r ≡ isScriptError number ⌝ }
+{
+    ((10 <= number) & (number <= 23)) | ((31 <= number) & (number <= 34))
+}
+
+fn is_wanted(number: u32, wanted: u32) -> bool
+    ensures { λ r. ⌜ r ≡ isWanted number wanted ⌝ }
+{
+    if number == 11 {
+        return is_kind(wanted);
+    }
+    wanted == 0
+}
+
+fn is_seen(number: u32, seen: u32) -> bool
+    ensures { λ r. ⌜ r ≡ isSeen number seen ⌝ }
+{
+    if number <= 23 {
+        return is_kind(seen);
+    }
+    if number == 33 {
+        return seen <= 255;
+    }
+    seen == 0
+}
+
+// 42 is for errors that have no words.
+fn has_words(e: Diagnostic) -> bool
+    ensures { λ r. ⌜ r ≡ hasWords e ⌝ }
+{
+    is_script_error(e.number) & is_wanted(e.number, e.wanted) & is_seen(e.number, e.seen)
+}
+
+// The words of an error into the buffer `line`, with what it held behind them.
+pub fn describe(e: Diagnostic, line: &mut [u8]) -> Described
+    ensures { λ r. ⌜ result (answerOf r) (now (line .exit)) ≡ described e (now (line .entry)) ⌝ }
+{
+    if line.len() < MAX_LINE {
+        return Described::Refused(41);
+    }
+    if has_words(e) {
+        let at = write_phrase(e.number, line, 0);
+        return Described::Written(write_details(e.number, e.wanted, e.seen, line, at));
+    }
+    Described::Refused(42)
+}
