@@ -1,0 +1,3 @@
+-- The correction sheet.
+pub mod Sheet
+pub mod Count

@@ -1,0 +1,223 @@
+// The correction sheet of a paper: each error by line and column, in words.
+use ast::diagnostic::Place;
+use ast::diagnostic::Position;
+use ast::diagnostic::line_column;
+use ast::layout::cell;
+use lex::Diagnostic;
+use rules::DIAGNOSTIC_WIDTH;
+use rules::Parsed;
+use text::write_byte;
+use text::write_number;
+use text::write_text;
+use words::Described;
+use words::describe;
+ghost use mathlib.Core.Path.{_≡_};
+ghost use Prim.Native.Nat.{_-_, _*_, _≤_};
+ghost use lib.ListN.{length};
+ghost use Rattle.text.specs.Answer.{result};
+ghost use Rattle.text.specs.Emit.{Emits};
+ghost use Rattle.text.specs.Text.{number as numberOf};
+ghost use Rattle.sheet.specs.Sheet.{blanks, right, heading, body, entry, entries, errorAt, printed, answerOf};
+ghost use Rattle.sheet.specs.Count.{sized, countedOf, textIn, textsOf};
+
+// How many bytes were written; or a refusal, and the buffer is as it was.
+pub enum Printed {
+    Written(usize),
+    Refused(u32),
+}
+
+// How many lines an error takes, or why it is refused.
+pub(crate) enum Counted {
+    Lines(usize),
+    Refused(u32),
+}
+
+const LINE_FEED: u8 = 10;
+
+// The bytes of a line, with its line feed.
+const LINE_BYTES: usize = 73;
+
+// The places that the words take in a line.
+const PIECE: usize = 57;
+
+const MARGIN: usize = 15;
+
+fn write_blanks(n: usize, out: &mut [u8], at: usize) -> usize
+    ensures { λ r. ⌜ Emits (blanks n) (now (out .entry)) at (now (out .exit)) r ⌝ }
+{
+    let mut to = at;
+    let mut i = 0;
+    while i < n {
+        to = write_byte(b' ', out, to);
+        i += 1;
+    }
+    to
+}
+
+// How many blanks stand before a number in five places.
+fn blanks_before(n: u32) -> usize
+    ensures { λ r. ⌜ r ≡ 5 - length (numberOf n) ⌝ }
+{
+    if n < 10 {
+        return 4;
+    }
+    if n < 100 {
+        return 3;
+    }
+    if n < 1000 {
+        return 2;
+    }
+    if n < 10000 {
+        return 1;
+    }
+    0
+}
+
+fn write_right(n: u32, out: &mut [u8], at: usize) -> usize
+    ensures { λ r. ⌜ Emits (right (numberOf n)) (now (out .entry)) at (now (out .exit)) r ⌝ }
+{
+    let a = write_blanks(blanks_before(n), out, at);
+    write_number(n as usize, out, a)
+}
+
+// Line, column and number of an error.
+fn write_heading(p: Place, number: u32, out: &mut [u8], at: usize) -> usize
+    ensures { λ r. ⌜ Emits (heading p number) (now (out .entry)) at (now (out .exit)) r ⌝ }
+{
+    let a = write_right(p.line, out, at);
+    let b = write_blanks(1, out, a);
+    let c = write_right(p.column, out, b);
+    let d = write_blanks(1, out, c);
+    let e = write_number(number as usize, out, d);
+    write_blanks(1, out, e)
+}
+
+// The words in pieces, each but the last followed by a line feed and a margin.
+fn write_body(words: &[u8], out: &mut [u8], at: usize) -> usize
+    ensures { λ r. ⌜ Emits (body (now (words .entry))) (now (out .entry)) at (now (out .exit)) r ⌝ }
+{
+    let mut to = at;
+    let mut from = 0;
+    while PIECE < words.len() - from {
+        let next = from + PIECE;
+        to = write_text(&words[from..next], out, to);
+        to = write_byte(LINE_FEED, out, to);
+        to = write_blanks(MARGIN, out, to);
+        from = next;
+    }
+    to = write_text(&words[from..], out, to);
+    to = write_blanks(PIECE - (words.len() - from), out, to);
+    write_byte(LINE_FEED, out, to)
+}
+
+fn error_at(errors: &[u32], i: usize) -> Diagnostic
+    requires { ⌜ 5 * i ≤ length (now errors) ⌝ }
+    ensures { λ r. ⌜ r ≡ errorAt (now (errors .entry)) i ⌝ }
+{
+    let at = DIAGNOSTIC_WIDTH * i;
+    let number = cell(errors, at, 0);
+    let start = cell(errors, at, 1);
+    let len = cell(errors, at, 2);
+    let wanted = cell(errors, at, 3);
+    let seen = cell(errors, at, 4);
+    Diagnostic {
+        number,
+        start,
+        len,
+        wanted,
+        seen,
+    }
+}
+
+// The lines of an error; none where it is refused.
+fn write_entry(script: &[u8], e: Diagnostic, out: &mut [u8], at: usize) -> usize
+    ensures { λ r. ⌜ Emits (textIn (entry (now (script .entry)) e)) (now (out .entry)) at (now (out .exit)) r ⌝ }
+{
+    let mut line = [0u8; 160];
+    match describe(e, &mut line) {
+        Described::Refused(_) => at,
+        Described::Written(n) => match line_column(script, e.start) {
+            Position::Refused(_) => at,
+            Position::At(p) => {
+                let a = write_heading(p, e.number, out, at);
+                write_body(&line[..n], out, a)
+            }
+        },
+    }
+}
+
+// How many lines an error takes.
+fn count_lines(script: &[u8], e: Diagnostic) -> Counted
+    requires { ⌜ length (now script) ≤ 65536 ⌝ }
+    ensures { λ r. ⌜ countedOf r ≡ sized (entry (now (script .entry)) e) ⌝ }
+{
+    let mut line = [0u8; 160];
+    match describe(e, &mut line) {
+        Described::Refused(n) => Counted::Refused(n),
+        Described::Written(n) => {
+            let start = e.start as usize;
+            if script.len() < start {
+                return Counted::Refused(3);
+            }
+            if n <= PIECE {
+                return Counted::Lines(1);
+            }
+            if n <= 2 * PIECE {
+                return Counted::Lines(2);
+            }
+            Counted::Lines(3)
+        }
+    }
+}
+
+// How many lines all errors take, or the first refusal.
+fn count_all(script: &[u8], errors: &[u32]) -> Counted
+    requires { ⌜ length (now script) ≤ 65536 ⌝ }
+    ensures { λ r. ⌜ countedOf r ≡ sized (entries (now (script .entry)) (now (errors .entry))) ⌝ }
+{
+    let count = errors.len() / DIAGNOSTIC_WIDTH;
+    let mut lines = 0;
+    let mut i = 0;
+    while i < count {
+        match count_lines(script, error_at(errors, i)) {
+            Counted::Refused(n) => return Counted::Refused(n),
+            Counted::Lines(k) => lines += k,
+        }
+        i += 1;
+    }
+    Counted::Lines(lines)
+}
+
+// The lines of all errors.
+fn write_all(script: &[u8], errors: &[u32], out: &mut [u8]) -> usize
+    ensures { λ r. ⌜ Emits (textsOf (now (script .entry)) (now (errors .entry))) (now (out .entry)) 0 (now (out .exit)) r ⌝ }
+{
+    let count = errors.len() / DIAGNOSTIC_WIDTH;
+    let mut to = 0;
+    let mut i = 0;
+    while i < count {
+        to = write_entry(script, error_at(errors, i), out, to);
+        i += 1;
+    }
+    to
+}
+
+// The sheet of the errors, five numbers each. They are looked at before anything is written, so that the buffer is as it was where the sheet is refused.
+pub fn print_sheet(script: &[u8], errors: &[u32], sheet: &mut [u8]) -> Printed
+    ensures { λ r.
+        let left = result (answerOf r) (now (sheet .exit)) in
+        ⌜ left ≡ printed (now (script .entry)) (now (errors .entry)) (now (sheet .entry)) ⌝ }
+{
+    if Parsed::MAX_BYTES < script.len() {
+        return Printed::Refused(1);
+    }
+    match count_all(script, errors) {
+        Counted::Refused(n) => Printed::Refused(n),
+        Counted::Lines(lines) => {
+            if sheet.len() / LINE_BYTES < lines {
+                return Printed::Refused(44);
+            }
+            Printed::Written(write_all(script, errors, sheet))
+        }
+    }
+}
