@@ -3,15 +3,14 @@ use mathlib.Core.Path.{_≡_, refl, sym, _∙_, ap}
 use mathlib.Core.Bool.{Bool, true, false, false≢true, _&&_}
 use mathlib.Core.Option.{Option}
 use mathlib.Core.List.{List, [], _∷_, _++_}
-use Prim.Native.Nat.{ℕ, zero, suc, _+_, _-_, _*_, _/_, _%_, _<_, _≤_, min}
+use Prim.Native.Nat.{ℕ, zero, suc, _+_, _-_, _*_, _<_, _≤_}
 use native.Mathlib.Nat.{suc-ne-zero}
 use native.Mathlib.Numerals.{add-one}
 use native.Mathlib.Omega.{arith}
-use lib.Dec.{leb, ltb}
-use lib.ListN.{length, set, getD, take, drop, length-set, List·getD-eq-default}
-use lib.Seq.{set-out}
-use borrow.Author.Tests.{lt-ltb, le-ltb, ltb-false, le-leb, lt-leb, leb-true, eq-eqb, ne-eqb}
-use Rattle.lex.proofs.Laws.{cases, agree}
+use lib.Dec.{leb}
+use lib.ListN.{length, getD, take, drop, List·getD-eq-default}
+use borrow.Author.Tests.{le-leb, lt-leb, leb-true, eq-eqb, ne-eqb}
+use Rattle.lex.proofs.Laws.{agree}
 use Rattle.lex.specs.declared.diagnostic.Diagnostic.{Diagnostic}
 use Rattle.lex.specs.declared.tok.Token.{Token}
 use Rattle.rules.specs.declared.Run.{Run}
@@ -27,45 +26,11 @@ use Rattle.rules.specs.declared.Parsed.the-variants as P
 use Rattle.rules.specs.Layout.{nodeWidth, typeWidth}
 use Rattle.rules.specs.Promise.{Arrays}
 use Rattle.ast.specs.Decode.{nodeRead, typeRead, nodeAt, typeAt}
-use Rattle.listing.specs.Text.{bytes, malformed, gap, each, listed, digits, number, kindNames, kindName, token, node, typeExpr}
+use Rattle.text.proofs.EmitLaws.{then, nothing, by}
+use Rattle.text.specs.Text.{bytes, number}
+use Rattle.listing.specs.Text.{malformed, gap, each, listed, kindNames, kindName, token, node, typeExpr}
 use Rattle.listing.specs.Listing.{line, nodeText, typeText, numbersLine, errorLine, treeText, within, diagnosticAt, textOf}
-use Rattle.listing.specs.Emit.{Output, last, put, emit, Emits}
-
-emit-append : (a b : List ℕ) (o : Output) → emit (a ++ b) o ≡ emit b (emit a o)
-unfolding emit
-emit-append [] b o = refl
-emit-append (x ∷ a) b o = emit-append a b (put x o)
-
-module _ {a b x y z : List ℕ} {p q r : ℕ} where
-  -- a text, and then another
-  pub then : Emits a x p y q → Emits b y q z r → Emits (a ++ b) x p z r
-  then f g = record { emitted = g .emitted ∙ ap (emit b) (f .emitted) ∙ sym (emit-append a b (record { buffer = x; at = p })) }
-
--- nothing
-pub nothing : {x : List ℕ} {p : ℕ} → Emits [] x p x p
-unfolding emit
-nothing = record { emitted = refl }
-
--- the text is another by an equation
-pub by : {a b x y : List ℕ} {p q : ℕ} → a ≡ b → Emits a x p y q → Emits b x p y q
-by {x = x} {p = p} e f = record { emitted = f .emitted ∙ ap (λ (t : List ℕ). emit t (record { buffer = x; at = p })) e }
-
-length-put : (b : ℕ) (o : Output) → length (put b o .buffer) ≡ length (o .buffer)
-unfolding put
-length-put b o = go (ltb b 256)
-  where
-    go : (t : Bool) → length (elim t as (λ (_ : Bool). Output) [ true ↦ record { buffer = set (o .buffer) (o .at) b; at = min (o .at + 1) last } | false ↦ record { buffer = o .buffer; at = last } ] .buffer) ≡ length (o .buffer)
-    go true = length-set (o .buffer) (o .at) b
-    go false = refl
-
-length-emit : (text : List ℕ) (o : Output) → length (emit text o .buffer) ≡ length (o .buffer)
-unfolding emit
-length-emit [] o = refl
-length-emit (b ∷ text) o = length-emit text (put b o) ∙ length-put b o
-
--- a buffer keeps its length
-pub same-size : {a x y : List ℕ} {p q : ℕ} → Emits a x p y q → length y ≡ length x
-same-size {a} {x} {y} {p} f = ap (λ (o : Output). length (o .buffer)) (f .emitted) ∙ length-emit a (record { buffer = x; at = p })
+use Rattle.text.specs.Emit.{last, put, emit, Emits}
 
 -- ---- a loop over members
 
@@ -86,27 +51,7 @@ module _ {text : ℕ → List ℕ} {n : ℕ} {x : List ℕ} {p : ℕ} where
   pub members-all : {y : List ℕ} {q i : ℕ} → Members text n x p y q i → n ≤ i → Emits (each text n) x p y q
   members-all m h = by (ap (each text) (omega arith)) (m .written)
 
--- ---- a byte
-
-pub put-byte : (b : ℕ) (o : Output) → b < 256 → put b o ≡ record { buffer = set (o .buffer) (o .at) b; at = min (o .at + 1) last }
-unfolding put
-put-byte b o h = rw (lt-ltb b 256 h, put)
-
-output : {x y : List ℕ} {p q : ℕ} → x ≡ y → p ≡ q → _≡_ {A = Output} (record { buffer = x; at = p }) (record { buffer = y; at = q })
-output e f = cc
-
-module _ (b : ℕ) (x : List ℕ) (at : ℕ) (small : b < 256) where
-  pub byte-inside : at < last → Emits (b ∷ []) x at (set x at b) (at + 1)
-  unfolding emit
-  byte-inside h = record { emitted = output refl (omega arith) ∙ sym (put-byte b (record { buffer = x; at = at }) small) }
-
-  pub byte-behind : length x ≤ at → at < last → Emits (b ∷ []) x at x (at + 1)
-  unfolding emit
-  byte-behind l h = record { emitted = output (sym (set-out x at b l)) (omega arith) ∙ sym (put-byte b (record { buffer = x; at = at }) small) }
-
-  pub byte-last : length x ≤ at → last ≤ at → Emits (b ∷ []) x at x last
-  unfolding emit
-  byte-last l h = record { emitted = output (sym (set-out x at b l)) (omega arith) ∙ sym (put-byte b (record { buffer = x; at = at }) small) }
+-- ---- what is no byte
 
 pub no-byte : {x : List ℕ} {p : ℕ} → Emits malformed x p x last
 unfolding emit put
@@ -123,29 +68,6 @@ pub a-gap : (n : ℕ) → (n ≡ 0 → ⊥) → 32 ∷ [] ≡ gap n
 unfolding gap
 a-gap zero h = absurd (h refl)
 a-gap (suc n) h = refl
-
--- ---- numbers
-
--- more fuel makes no difference
-fuel : (f g n : ℕ) → n ≤ f → n ≤ g → digits f n ≡ digits g n
-unfolding digits
-fuel zero zero n h k = refl
-fuel zero (suc g) n h k = rw (lt-ltb n 10 (omega arith))
-fuel (suc f) zero n h k = rw (lt-ltb n 10 (omega arith))
-fuel (suc f) (suc g) n h k =
-    ap (λ (l : List ℕ). l ++ ((48 + n % 10) ∷ []))
-    (cases (λ (l : List ℕ). l ≡ elim (ltb n 10) as (λ (_ : Bool). List ℕ) [ true ↦ [] | false ↦ digits g (n / 10) ]) (ltb n 10)
-    (λ e. rw e) (λ e. let l : 10 ≤ n = ltb-false n 10 e in rw e (fuel f g (n / 10) (omega arith) (omega arith))))
-
-pub one-digit : (n : ℕ) → n < 10 → (48 + n) ∷ [] ≡ number n
-unfolding number digits
-one-digit zero h = refl
-one-digit (suc m) h = let e : suc m % 10 ≡ suc m = omega arith in rw (lt-ltb (suc m) 10 h, e)
-
-pub more-digits : (n : ℕ) → 10 ≤ n → number (n / 10) ++ ((48 + n % 10) ∷ []) ≡ number n
-unfolding number digits
-more-digits zero h = absurd (omega arith)
-more-digits (suc m) h = rw (le-ltb (suc m) 10 h, fuel (suc m / 10) m (suc m / 10) (omega arith) (omega arith))
 
 -- ---- a run of members
 

@@ -20,7 +20,8 @@ use Rattle.rules.specs.Layout.{nodeWidth, typeWidth, zeros, padded, nodeCells, 
 use Rattle.rules.specs.Promise.{Arrays, noError, holding, outcome}
 use Rattle.ast.specs.Decode.{nodeOf, typeOf, nodeAt, typeAt}
 use Rattle.ast.proofs.LayoutLaws.{node-inside, type-inside, node-length, type-length, node-trip, type-trip}
-use Rattle.listing.specs.Text.{bytes, gap, each, number}
+use Rattle.text.specs.Text.{bytes, number}
+use Rattle.listing.specs.Text.{gap, each}
 use Rattle.listing.specs.Listing.{line, nodeText, typeText, nodeLine, typeLine, rootsLine, numbersLine, treeText, countsOf, listingOf, within, diagnosticAt, textOf}
 use Rattle.listing.proofs.Stored.{stored, getD-is, length-stored}
 

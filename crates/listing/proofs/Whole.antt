@@ -2,25 +2,18 @@
 use mathlib.Core.Path.{_≡_, refl, sym, _∙_, ap}
 use mathlib.Core.Bool.{Bool, true, false, false≢true, _&&_}
 use mathlib.Core.List.{List, [], _∷_, _++_}
-use Prim.Native.Nat.{ℕ, suc, _+_, _<_, _≤_, min}
+use Prim.Native.Nat.{ℕ, _+_, _<_, _≤_, min}
 use native.Mathlib.Nat.{suc-ne-zero, zero-add}
 use native.Mathlib.Omega.{arith}
 use lib.Dec.{leb, ltb}
 use lib.ListN.{length, set, drop}
-use lib.Seq.{sets, sets-eq}
-use borrow.Author.Tests.{lt-ltb, le-ltb, ltb-true, le-leb, lt-leb, leb-true}
+use lib.Seq.{sets-eq}
+use borrow.Author.Tests.{lt-ltb, le-ltb, le-leb, lt-leb, leb-true}
 use Rattle.listing.specs.declared.Listing.the-variants as L
-use Rattle.listing.specs.Listing.{Written, plain, written}
-use Rattle.listing.specs.Emit.{Output, last, put, emit, Emits}
-use Rattle.listing.proofs.EmitLaws.{put-byte, same-size}
-
-and-left : (a b : Bool) → (a && b) ≡ true → a ≡ true
-and-left true b e = refl
-and-left false b e = e
-
-and-right : (a b : Bool) → (a && b) ≡ true → b ≡ true
-and-right true b e = e
-and-right false b e = absurd (false≢true e)
+use Rattle.text.specs.Emit.{plain}
+use Rattle.listing.specs.Listing.{Written, written}
+use Rattle.text.specs.Emit.{Output, last, put, emit, Emits}
+use Rattle.text.proofs.EmitLaws.{same-size, bytes-count, bytes-in}
 
 -- ---- positions
 
@@ -38,15 +31,6 @@ unfolding emit
 stays [] o e = e
 stays (b ∷ text) o e = stays text (put b o) (at-last b o e)
 
--- bytes, up to the last position
-bytes-count : (text : List ℕ) (o : Output) → plain text ≡ true → o .at ≤ last → emit text o .at ≡ min (o .at + length text) last
-unfolding emit plain
-bytes-count [] o e h = omega arith
-bytes-count (b ∷ text) o e h =
-    let small : b < 256 = ltb-true b 256 (and-left (ltb b 256) (plain text) e) in
-    let p : put b o .at ≡ min (o .at + 1) last = ap (λ (x : Output). x .at) (put-byte b o small) in
-    bytes-count text (put b o) (and-right (ltb b 256) (plain text) e) (omega arith) ∙ omega arith
-
 -- what is no byte
 fault : (text : List ℕ) (o : Output) → plain text ≡ false → emit text o .at ≡ last
 unfolding emit plain put
@@ -56,18 +40,6 @@ fault (b ∷ text) o e = go (ltb b 256) refl (fault text (put b o))
     go : (t : Bool) → ltb b 256 ≡ t → (plain text ≡ false → emit text (put b o) .at ≡ last) → emit text (put b o) .at ≡ last
     go true f more = more (rw f at e)
     go false f more = stays text (put b o) (rw (f, put))
-
--- bytes into a buffer
-bytes-in : (text : List ℕ) (o : Output) → plain text ≡ true → o .at + length text ≤ last → emit text o .buffer ≡ sets (o .buffer) (o .at) text
-unfolding emit plain
-bytes-in [] o e h = refl
-bytes-in (b ∷ text) o e h =
-    let small : b < 256 = ltb-true b 256 (and-left (ltb b 256) (plain text) e) in
-    let p : put b o ≡ record { buffer = set (o .buffer) (o .at) b; at = min (o .at + 1) last } = put-byte b o small in
-    let q : put b o .at ≡ suc (o .at) = ap (λ (x : Output). x .at) p ∙ omega arith in
-    bytes-in text (put b o) (and-right (ltb b 256) (plain text) e) (omega arith)
-    ∙ ap (λ (n : ℕ). sets (put b o .buffer) n text) q
-    ∙ ap (λ (x : Output). sets (x .buffer) (suc (o .at)) text) p
 
 -- ---- the three answers
 

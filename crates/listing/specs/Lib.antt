@@ -1,4 +1,3 @@
--- The listing of a reading: its text, and how it goes into a lent buffer.
+-- The listing of a reading: its text, and what of it goes into a lent buffer.
 pub mod Text
 pub mod Listing
-pub mod Emit

@@ -16,9 +16,11 @@ use Rattle.rules.specs.Tree.{Tree}
 use Rattle.rules.specs.Parse.{Reading, read, ended}
 use Rattle.rules.specs.Promise.{Arrays, noError}
 use Rattle.ast.specs.Decode.{nodeAt, typeAt}
+use Rattle.text.specs.Emit.{plain}
 use Rattle.listing.specs.declared.Listing.{Listing}
 use Rattle.listing.specs.declared.Listing.the-variants as L
-use Rattle.listing.specs.Text.{bytes, malformed, form, gap, each, number, node, typeExpr}
+use Rattle.text.specs.Text.{bytes, number}
+use Rattle.listing.specs.Text.{malformed, form, gap, each, node, typeExpr}
 
 -- ---- lines
 
@@ -106,11 +108,6 @@ textOf (P.Error e) a = errorLine e
 textOf (P.Refused n) a = line (bytes "refused") (number n ∷ [])
 
 -- ---- into a buffer
-
--- every number is a byte
-unfoldable pub plain : List ℕ → Bool
-plain [] = true
-plain (b ∷ bs) = ltb b 256 && plain bs
 
 -- the answer, and the buffer as it is left
 pub record Written : Type 0 where

@@ -1,10 +1,8 @@
--- The forms of the listing as bytes: numbers, tokens, lists, records.
+-- The forms of the listing as bytes: tokens, lists, records.
 use mathlib.Core.Bool.{true, false}
 use mathlib.Core.List.{List, [], _∷_, _++_}
-use Prim.Native.Nat.{ℕ, zero, suc, _+_, _*_, _/_, _%_}
-use Prim.Native.Char.{code}
-use Prim.Native.String.{String, [] as []ˢ, _∷_ as _∷ˢ_}
-use lib.Dec.{leb, ltb}
+use Prim.Native.Nat.{ℕ, zero, suc, _+_, _*_}
+use lib.Dec.{leb}
 use lib.ListN.{length, getD}
 use Rattle.lex.specs.declared.tok.Token.{Token}
 use Rattle.rules.specs.declared.Run.{Run}
@@ -13,11 +11,7 @@ use Rattle.rules.specs.declared.Node.the-variants as N
 use Rattle.rules.specs.declared.TypeExpr.{TypeExpr}
 use Rattle.rules.specs.declared.TypeExpr.the-variants as T
 use Rattle.ast.specs.Decode.{tokenAt, runAt}
-
--- a text of ASCII characters
-unfoldable pub bytes : String → List ℕ
-bytes []ˢ = []
-bytes (c ∷ˢ s) = code c ∷ bytes s
+use Rattle.text.specs.Text.{bytes, number}
 
 -- stands in a text, where it is no byte, for what cannot be listed: a kind that there is not, a run outside the list cells
 abbrev pub malformed : List ℕ
@@ -56,16 +50,7 @@ listed width cells member r =
       | false ↦ malformed
     ]
 
--- ---- numbers and tokens
-
--- at most `fuel` digits more than one
-unfoldable pub digits : ℕ → ℕ → List ℕ
-digits zero n = (48 + n % 10) ∷ []
-digits (suc fuel) n = elim (ltb n 10) [ true ↦ [] | false ↦ digits fuel (n / 10) ] ++ ((48 + n % 10) ∷ [])
-
--- in decimal
-unfoldable pub number : ℕ → List ℕ
-number n = digits n n
+-- ---- tokens
 
 -- the names of `Type` in its order, from 1 on
 unfoldable pub kindNames : List (List ℕ)

@@ -1,19 +1,19 @@
 // Tokens and lists. Each form has a blank in front where something stands before it.
-use crate::emit::write_byte;
 use crate::emit::write_gap;
 use crate::emit::write_malformed;
 use crate::emit::write_number;
-use crate::emit::write_text;
 use ast::layout::cell;
 use ast::layout::run_at;
 use ast::layout::token_at;
 use lex::Token;
 use lex::Type;
 use rules::Run;
+use text::write_byte;
+use text::write_text;
 ghost use mathlib.Core.List.{_++_};
 ghost use Prim.Native.Nat.{_+_, _<_};
 ghost use Rattle.listing.specs.Text.{gap, kindName, token, tokens, ids, pair, pairs, branch, branches, externFn, externFns};
-ghost use Rattle.listing.specs.Emit.{Emits};
+ghost use Rattle.text.specs.Emit.{Emits};
 
 fn write_kind(kind: u32, out: &mut [u8], at: usize) -> usize
     ensures { λ r. ⌜ Emits (kindName kind) (now (out .entry)) at (now (out .exit)) r ⌝ }

@@ -4,9 +4,9 @@ mod forms;
 mod lines;
 mod records;
 
-use crate::emit::LAST;
 use crate::lines::write_answer;
 use rules::Parsed;
+use text::LAST;
 ghost use mathlib.Core.Path.{_≡_};
 ghost use Rattle.listing.specs.Listing.{Written, textOf, written, arraysOf};
 

@@ -1,8 +1,6 @@
 // The lines of the listing.
-use crate::emit::write_byte;
 use crate::emit::write_malformed;
 use crate::emit::write_number;
-use crate::emit::write_text;
 use crate::records::write_node;
 use crate::records::write_one_number;
 use crate::records::write_type;
@@ -17,14 +15,17 @@ use rules::NodeId;
 use rules::Parsed;
 use rules::TypeExpr;
 use rules::TypeExprId;
+use text::write_byte;
+use text::write_text;
 ghost use Prim.Native.Nat.{_+_, _*_, _<_};
 ghost use mathlib.Core.Path.{_≡_};
 ghost use mathlib.Core.List.{[], _∷_, _++_};
 ghost use lib.ListN.{getD};
 ghost use Rattle.ast.specs.Decode.{nodeAt, typeAt};
-ghost use Rattle.listing.specs.Text.{bytes, gap, number, each, fields};
+ghost use Rattle.text.specs.Text.{bytes, number};
+ghost use Rattle.listing.specs.Text.{gap, each, fields};
 ghost use Rattle.listing.specs.Listing.{line, nodeText, typeText, countsLine, rootsLine, numbersLine, errorLine, treeText, within, diagnosticAt, textOf, arraysOf, nodeLine, typeLine};
-ghost use Rattle.listing.specs.Emit.{Emits};
+ghost use Rattle.text.specs.Emit.{Emits};
 
 // How many nodes, types and values there are.
 fn write_counts(c: Counts, out: &mut [u8], at: usize) -> usize

@@ -1,7 +1,5 @@
 // The records of nodes and types, fields in the order of ast.rs.
-use crate::emit::write_byte;
 use crate::emit::write_number;
-use crate::emit::write_text;
 use crate::forms::write_cases;
 use crate::forms::write_extern_fns;
 use crate::forms::write_ids;
@@ -14,9 +12,12 @@ use rules::NodeId;
 use rules::Run;
 use rules::TypeExpr;
 use rules::TypeExprId;
+use text::write_byte;
+use text::write_text;
 ghost use mathlib.Core.List.{[], _∷_, _++_};
-ghost use Rattle.listing.specs.Text.{bytes, gap, number, token, ids, tuple, fields, form, node, typeExpr};
-ghost use Rattle.listing.specs.Emit.{Emits};
+ghost use Rattle.text.specs.Text.{bytes, number};
+ghost use Rattle.listing.specs.Text.{gap, token, ids, tuple, fields, form, node, typeExpr};
+ghost use Rattle.text.specs.Emit.{Emits};
 
 // A record that is a token, as Atom and Ident.
 fn write_one_token(name: &[u8], id: u32, t: Token, out: &mut [u8], at: usize) -> usize

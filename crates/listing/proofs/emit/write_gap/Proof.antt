@@ -1,6 +1,7 @@
 -- `listing::emit::write_gap` meets its contract.
 use borrow.Author.Needs.{needs}
-use Rattle.listing.proofs.EmitLaws.{by, no-gap, a-gap}
+use Rattle.text.proofs.EmitLaws.{by}
+use Rattle.listing.proofs.EmitLaws.{no-gap, a-gap}
 use Rattle.listing.proofs.emit.write_gap.Statement.{statement}
 use Rattle.listing.proofs.emit.write_gap.Tie as tie
 

@@ -1,6 +1,6 @@
 -- `listing::emit::write_number` meets its contract.
 use borrow.Author.Needs.{needs}
-use Rattle.listing.proofs.EmitLaws.{then}
+use Rattle.text.proofs.EmitLaws.{then}
 use Rattle.listing.proofs.emit.write_number.Statement.{statement}
 use Rattle.listing.proofs.emit.write_number.Tie as tie
 
@@ -8,7 +8,7 @@ returns : tie.Need-returns
 returns c =
     let s2 = c .before .before in
     let s1 = s2 .before .before .before .before in
-    (then (s1 .write-gap .ensures) (s2 .write-decimal .ensures))
+    (then (s1 .write-gap .ensures) (s2 .write-number .ensures))
 
 pub write-number-spec : {M : Type 1} → statement M
 write-number-spec =

@@ -1,7 +1,8 @@
 -- `listing::forms::write_case` meets its contract.
 use borrow.Author.Needs.{needs}
 use Rattle.listing.specs.Text.{gap, fields, tuple, ids, branch}
-use Rattle.listing.proofs.EmitLaws.{then, same-size, run-is}
+use Rattle.text.proofs.EmitLaws.{then, same-size}
+use Rattle.listing.proofs.EmitLaws.{run-is}
 use Rattle.listing.proofs.forms.write_case.Statement.{statement}
 use Rattle.listing.proofs.forms.write_case.Tie as tie
 

@@ -1,7 +1,8 @@
 -- `listing::forms::write_extern_fn` meets its contract.
 use borrow.Author.Needs.{needs}
 use Rattle.listing.specs.Text.{gap, fields, tuple, tokens, pairs, externFn}
-use Rattle.listing.proofs.EmitLaws.{then, same-size, token-is, number-is, run-is}
+use Rattle.text.proofs.EmitLaws.{then, same-size}
+use Rattle.listing.proofs.EmitLaws.{token-is, number-is, run-is}
 use Rattle.listing.proofs.forms.write_extern_fn.Statement.{statement}
 use Rattle.listing.proofs.forms.write_extern_fn.Tie as tie
 

@@ -5,8 +5,10 @@ use mathlib.Core.Path.{_≡_, ap, _∙_}
 use Prim.Native.Nat.{ℕ, _-_, _+_, _*_}
 use mathlib.Core.List.{_++_}
 use lib.ListN.{getD}
-use Rattle.listing.specs.Text.{gap, number, ids}
-use Rattle.listing.proofs.EmitLaws.{same-size, Members, members-none, members-next, number-is, list-inside, list-outside}
+use Rattle.text.specs.Text.{number}
+use Rattle.listing.specs.Text.{gap, ids}
+use Rattle.text.proofs.EmitLaws.{same-size}
+use Rattle.listing.proofs.EmitLaws.{Members, members-none, members-next, number-is, list-inside, list-outside}
 use Rattle.listing.proofs.forms.write_ids.Statement.{statement}
 use Rattle.listing.proofs.forms.write_ids.Tie as tie
 

@@ -1,8 +1,9 @@
 -- `listing::forms::write_kind` meets its contract.
 use native.Mathlib.Omega.{arith}
 use borrow.Author.Needs.{needs}
-use Rattle.listing.specs.Text.{bytes}
-use Rattle.listing.proofs.EmitLaws.{by, kind-low, kind-high, kind-at, ends-in-order, ends-inside}
+use Rattle.text.specs.Text.{bytes}
+use Rattle.text.proofs.EmitLaws.{by}
+use Rattle.listing.proofs.EmitLaws.{kind-low, kind-high, kind-at, ends-in-order, ends-inside}
 use Rattle.listing.proofs.forms.write_kind.Statement.{statement}
 use Rattle.listing.proofs.forms.write_kind.Tie as tie
 

@@ -1,7 +1,8 @@
 -- `listing::forms::write_pair` meets its contract.
 use borrow.Author.Needs.{needs}
 use Rattle.listing.specs.Text.{gap, fields, tuple, pair}
-use Rattle.listing.proofs.EmitLaws.{then, same-size, token-is, number-is}
+use Rattle.text.proofs.EmitLaws.{then, same-size}
+use Rattle.listing.proofs.EmitLaws.{token-is, number-is}
 use Rattle.listing.proofs.forms.write_pair.Statement.{statement}
 use Rattle.listing.proofs.forms.write_pair.Tie as tie
 

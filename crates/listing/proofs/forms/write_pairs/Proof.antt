@@ -4,7 +4,8 @@ use borrow.Author.Needs.{needs}
 use Prim.Native.Nat.{_-_, _+_, _*_}
 use mathlib.Core.List.{_++_}
 use Rattle.listing.specs.Text.{gap, pair, pairs}
-use Rattle.listing.proofs.EmitLaws.{same-size, Members, members-none, members-next, list-inside, list-outside}
+use Rattle.text.proofs.EmitLaws.{same-size}
+use Rattle.listing.proofs.EmitLaws.{Members, members-none, members-next, list-inside, list-outside}
 use Rattle.listing.proofs.forms.write_pairs.Statement.{statement}
 use Rattle.listing.proofs.forms.write_pairs.Tie as tie
 

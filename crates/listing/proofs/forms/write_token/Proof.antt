@@ -1,7 +1,7 @@
 -- `listing::forms::write_token` meets its contract.
 use borrow.Author.Needs.{needs}
 use Rattle.listing.specs.Text.{fields, token}
-use Rattle.listing.proofs.EmitLaws.{then, same-size}
+use Rattle.text.proofs.EmitLaws.{then, same-size}
 use Rattle.listing.proofs.forms.write_token.Statement.{statement}
 use Rattle.listing.proofs.forms.write_token.Tie as tie
 

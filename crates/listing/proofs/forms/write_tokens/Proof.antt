@@ -5,7 +5,8 @@ use Prim.Native.Nat.{ℕ, _-_, _+_, _*_}
 use mathlib.Core.List.{_++_}
 use Rattle.ast.specs.Decode.{tokenAt}
 use Rattle.listing.specs.Text.{gap, token, tokens}
-use Rattle.listing.proofs.EmitLaws.{same-size, Members, members-none, members-next, token-is, list-inside, list-outside}
+use Rattle.text.proofs.EmitLaws.{same-size}
+use Rattle.listing.proofs.EmitLaws.{Members, members-none, members-next, token-is, list-inside, list-outside}
 use Rattle.listing.proofs.forms.write_tokens.Statement.{statement}
 use Rattle.listing.proofs.forms.write_tokens.Tie as tie
 

@@ -2,7 +2,8 @@
 use borrow.Author.Needs.{needs}
 use mathlib.Core.Path.{sym}
 use Rattle.listing.specs.Listing.{arraysOf}
-use Rattle.listing.proofs.EmitLaws.{by, same-size, tree-in, tree-out, cells-inside, error-is, refusal-is}
+use Rattle.text.proofs.EmitLaws.{by, same-size}
+use Rattle.listing.proofs.EmitLaws.{tree-in, tree-out, cells-inside, error-is, refusal-is}
 use lib.Seq.{length-take-le}
 use Rattle.listing.proofs.lines.write_answer.Statement.{statement}
 use Rattle.listing.proofs.lines.write_answer.Tie as tie

@@ -1,8 +1,9 @@
 -- `listing::lines::write_counts` meets its contract.
 use borrow.Author.Needs.{needs}
-use Rattle.listing.specs.Text.{bytes, gap, fields, form}
+use Rattle.text.specs.Text.{bytes}
+use Rattle.listing.specs.Text.{gap, fields, form}
 use Rattle.listing.specs.Listing.{line, countsLine}
-use Rattle.listing.proofs.EmitLaws.{then, same-size}
+use Rattle.text.proofs.EmitLaws.{then, same-size}
 use Rattle.listing.proofs.lines.write_counts.Statement.{statement}
 use Rattle.listing.proofs.lines.write_counts.Tie as tie
 

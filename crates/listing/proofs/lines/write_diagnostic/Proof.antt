@@ -1,9 +1,10 @@
 -- `listing::lines::write_diagnostic` meets its contract.
 use borrow.Author.Needs.{needs}
 use mathlib.Core.Path.{ap}
-use Rattle.listing.specs.Text.{bytes, form}
+use Rattle.text.specs.Text.{bytes}
+use Rattle.listing.specs.Text.{form}
 use Rattle.listing.specs.Listing.{line, numbersLine}
-use Rattle.listing.proofs.EmitLaws.{by}
+use Rattle.text.proofs.EmitLaws.{by}
 use Rattle.listing.proofs.lines.write_diagnostic.Statement.{statement}
 use Rattle.listing.proofs.lines.write_diagnostic.Tie as tie
 

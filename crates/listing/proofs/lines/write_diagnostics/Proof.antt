@@ -2,9 +2,10 @@
 use native.Mathlib.Omega.{arith}
 use borrow.Author.Needs.{needs}
 use Prim.Native.Nat.{_-_}
-use Rattle.listing.specs.Text.{bytes}
+use Rattle.text.specs.Text.{bytes}
 use Rattle.listing.specs.Listing.{numbersLine, diagnosticAt}
-use Rattle.listing.proofs.EmitLaws.{same-size, Members, members-none, members-next, members-all}
+use Rattle.text.proofs.EmitLaws.{same-size}
+use Rattle.listing.proofs.EmitLaws.{Members, members-none, members-next, members-all}
 use Rattle.listing.proofs.lines.write_diagnostics.Statement.{statement}
 use Rattle.listing.proofs.lines.write_diagnostics.Tie as tie
 

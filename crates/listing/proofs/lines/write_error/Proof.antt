@@ -1,8 +1,10 @@
 -- `listing::lines::write_error` meets its contract.
 use borrow.Author.Needs.{needs}
-use Rattle.listing.specs.Text.{bytes, fields, form}
+use Rattle.text.specs.Text.{bytes}
+use Rattle.listing.specs.Text.{fields, form}
 use Rattle.listing.specs.Listing.{line, numbersLine}
-use Rattle.listing.proofs.EmitLaws.{then, by, same-size, error-ten, error-other}
+use Rattle.text.proofs.EmitLaws.{then, by, same-size}
+use Rattle.listing.proofs.EmitLaws.{error-ten, error-other}
 use Rattle.listing.proofs.lines.write_error.Statement.{statement}
 use Rattle.listing.proofs.lines.write_error.Tie as tie
 

@@ -1,7 +1,8 @@
 -- `listing::lines::write_node_field` meets its contract.
 use borrow.Author.Needs.{needs}
 use Rattle.listing.specs.Text.{gap}
-use Rattle.listing.proofs.EmitLaws.{then, by, same-size, node-known, node-unknown}
+use Rattle.text.proofs.EmitLaws.{then, by, same-size}
+use Rattle.listing.proofs.EmitLaws.{node-known, node-unknown}
 use Rattle.listing.proofs.lines.write_node_field.Statement.{statement}
 use Rattle.listing.proofs.lines.write_node_field.Tie as tie
 

@@ -1,8 +1,9 @@
 -- `listing::lines::write_node_line` meets its contract.
 use borrow.Author.Needs.{needs}
-use Rattle.listing.specs.Text.{bytes, fields, form}
+use Rattle.text.specs.Text.{bytes}
+use Rattle.listing.specs.Text.{fields, form}
 use Rattle.listing.specs.Listing.{line, nodeLine}
-use Rattle.listing.proofs.EmitLaws.{then, same-size}
+use Rattle.text.proofs.EmitLaws.{then, same-size}
 use Rattle.listing.proofs.lines.write_node_line.Statement.{statement}
 use Rattle.listing.proofs.lines.write_node_line.Tie as tie
 

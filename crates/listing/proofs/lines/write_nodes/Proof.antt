@@ -4,7 +4,8 @@ use borrow.Author.Needs.{needs}
 use Prim.Native.Nat.{_-_}
 use Rattle.ast.specs.Decode.{nodeAt}
 use Rattle.listing.specs.Listing.{nodeLine}
-use Rattle.listing.proofs.EmitLaws.{same-size, Members, members-none, members-next, members-all}
+use Rattle.text.proofs.EmitLaws.{same-size}
+use Rattle.listing.proofs.EmitLaws.{Members, members-none, members-next, members-all}
 use Rattle.listing.proofs.lines.write_nodes.Statement.{statement}
 use Rattle.listing.proofs.lines.write_nodes.Tie as tie
 

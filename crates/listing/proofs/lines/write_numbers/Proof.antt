@@ -1,7 +1,7 @@
 -- `listing::lines::write_numbers` meets its contract.
 use borrow.Author.Needs.{needs}
 use Rattle.listing.specs.Text.{fields}
-use Rattle.listing.proofs.EmitLaws.{then, same-size}
+use Rattle.text.proofs.EmitLaws.{then, same-size}
 use Rattle.listing.proofs.lines.write_numbers.Statement.{statement}
 use Rattle.listing.proofs.lines.write_numbers.Tie as tie
 

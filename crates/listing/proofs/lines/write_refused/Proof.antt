@@ -1,8 +1,9 @@
 -- `listing::lines::write_refused` meets its contract.
 use borrow.Author.Needs.{needs}
-use Rattle.listing.specs.Text.{bytes, form}
+use Rattle.text.specs.Text.{bytes}
+use Rattle.listing.specs.Text.{form}
 use Rattle.listing.specs.Listing.{line}
-use Rattle.listing.proofs.EmitLaws.{then, same-size}
+use Rattle.text.proofs.EmitLaws.{then, same-size}
 use Rattle.listing.proofs.lines.write_refused.Statement.{statement}
 use Rattle.listing.proofs.lines.write_refused.Tie as tie
 

@@ -5,8 +5,10 @@ use mathlib.Core.List.{_++_}
 use Prim.Native.Nat.{_-_}
 use native.Mathlib.Nat.{add-zero}
 use lib.ListN.{getD}
-use Rattle.listing.specs.Text.{gap, number}
-use Rattle.listing.proofs.EmitLaws.{same-size, Members, members-none, members-next, members-all, number-is}
+use Rattle.text.specs.Text.{number}
+use Rattle.listing.specs.Text.{gap}
+use Rattle.text.proofs.EmitLaws.{same-size}
+use Rattle.listing.proofs.EmitLaws.{Members, members-none, members-next, members-all, number-is}
 use Rattle.listing.proofs.lines.write_root_ids.Statement.{statement}
 use Rattle.listing.proofs.lines.write_root_ids.Tie as tie
 

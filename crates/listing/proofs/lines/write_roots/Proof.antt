@@ -1,8 +1,8 @@
 -- `listing::lines::write_roots` meets its contract.
 use borrow.Author.Needs.{needs}
-use Rattle.listing.specs.Text.{bytes}
+use Rattle.text.specs.Text.{bytes}
 use Rattle.listing.specs.Listing.{rootsLine}
-use Rattle.listing.proofs.EmitLaws.{then, same-size}
+use Rattle.text.proofs.EmitLaws.{then, same-size}
 use Rattle.listing.proofs.lines.write_roots.Statement.{statement}
 use Rattle.listing.proofs.lines.write_roots.Tie as tie
 

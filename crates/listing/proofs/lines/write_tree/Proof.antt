@@ -1,7 +1,7 @@
 -- `listing::lines::write_tree` meets its contract.
 use borrow.Author.Needs.{needs}
 use Rattle.listing.specs.Listing.{treeText}
-use Rattle.listing.proofs.EmitLaws.{then, same-size}
+use Rattle.text.proofs.EmitLaws.{then, same-size}
 use Rattle.listing.proofs.lines.write_tree.Statement.{statement}
 use Rattle.listing.proofs.lines.write_tree.Tie as tie
 

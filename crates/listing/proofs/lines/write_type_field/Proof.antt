@@ -1,7 +1,8 @@
 -- `listing::lines::write_type_field` meets its contract.
 use borrow.Author.Needs.{needs}
 use Rattle.listing.specs.Text.{gap}
-use Rattle.listing.proofs.EmitLaws.{then, by, same-size, type-known, type-unknown}
+use Rattle.text.proofs.EmitLaws.{then, by, same-size}
+use Rattle.listing.proofs.EmitLaws.{type-known, type-unknown}
 use Rattle.listing.proofs.lines.write_type_field.Statement.{statement}
 use Rattle.listing.proofs.lines.write_type_field.Tie as tie
 

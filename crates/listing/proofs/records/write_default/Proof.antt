@@ -1,7 +1,7 @@
 -- `listing::records::write_default` meets its contract.
 use borrow.Author.Needs.{needs}
 use Rattle.listing.specs.Text.{gap, fields, tuple}
-use Rattle.listing.proofs.EmitLaws.{then, same-size}
+use Rattle.text.proofs.EmitLaws.{then, same-size}
 use Rattle.listing.proofs.records.write_default.Statement.{statement}
 use Rattle.listing.proofs.records.write_default.Tie as tie
 

@@ -1,7 +1,8 @@
 -- `listing::records::write_extern_node` meets its contract.
 use borrow.Author.Needs.{needs}
-use Rattle.listing.specs.Text.{bytes, fields, form, node}
-use Rattle.listing.proofs.EmitLaws.{then, same-size}
+use Rattle.text.specs.Text.{bytes}
+use Rattle.listing.specs.Text.{fields, form, node}
+use Rattle.text.proofs.EmitLaws.{then, same-size}
 use Rattle.listing.proofs.records.write_extern_node.Statement.{statement}
 use Rattle.listing.proofs.records.write_extern_node.Tie as tie
 

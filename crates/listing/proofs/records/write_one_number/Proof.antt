@@ -1,7 +1,7 @@
 -- `listing::records::write_one_number` meets its contract.
 use borrow.Author.Needs.{needs}
 use Rattle.listing.specs.Text.{fields}
-use Rattle.listing.proofs.EmitLaws.{then, same-size}
+use Rattle.text.proofs.EmitLaws.{then, same-size}
 use Rattle.listing.proofs.records.write_one_number.Statement.{statement}
 use Rattle.listing.proofs.records.write_one_number.Tie as tie
 

@@ -1,7 +1,7 @@
 -- `listing::records::write_token_type` meets its contract.
 use borrow.Author.Needs.{needs}
 use Rattle.listing.specs.Text.{fields}
-use Rattle.listing.proofs.EmitLaws.{then, same-size}
+use Rattle.text.proofs.EmitLaws.{then, same-size}
 use Rattle.listing.proofs.records.write_token_type.Statement.{statement}
 use Rattle.listing.proofs.records.write_token_type.Tie as tie
 

@@ -1,8 +1,9 @@
 -- `listing::records::write_type` meets its contract.
 use borrow.Author.Needs.{needs}
 use mathlib.Core.Path.{sym, ap}
-use Rattle.listing.specs.Text.{bytes, form, typeExpr}
-use Rattle.listing.proofs.EmitLaws.{by}
+use Rattle.text.specs.Text.{bytes}
+use Rattle.listing.specs.Text.{form, typeExpr}
+use Rattle.text.proofs.EmitLaws.{by}
 use Rattle.listing.proofs.records.write_type.Statement.{statement}
 use Rattle.listing.proofs.records.write_type.Tie as tie
 

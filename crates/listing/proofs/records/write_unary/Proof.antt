@@ -1,7 +1,8 @@
 -- `listing::records::write_unary` meets its contract.
 use borrow.Author.Needs.{needs}
-use Rattle.listing.specs.Text.{bytes, fields, form}
-use Rattle.listing.proofs.EmitLaws.{then, same-size}
+use Rattle.text.specs.Text.{bytes}
+use Rattle.listing.specs.Text.{fields, form}
+use Rattle.text.proofs.EmitLaws.{then, same-size}
 use Rattle.listing.proofs.records.write_unary.Statement.{statement}
 use Rattle.listing.proofs.records.write_unary.Tie as tie
 
