@@ -1,2 +1,3 @@
 -- What the exported functions return and write.
 pub mod Numbers
+pub mod Texts

@@ -1,4 +1,6 @@
 // The reader for programs in other languages: readings, lookups and comparison on numbers and slices.
+mod texts;
+
 use ast::diagnostic::Position;
 use ast::diagnostic::Span;
 use ast::diagnostic::SpanRead;

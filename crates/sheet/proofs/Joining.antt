@@ -13,13 +13,13 @@ use borrow.Author.Tests.{lt-ltb, le-ltb, ltb-true, ltb-false}
 use Rattle.rules.specs.Promise.{maxBytes}
 use Rattle.ast.specs.Answer.{Answer, refused, answer}
 use Rattle.text.specs.Emit.{Emits, last, plain}
-use Rattle.text.specs.Answer.{result}
+use Rattle.text.specs.Answer.{result, answerOf}
 use Rattle.text.proofs.EmitLaws.{whole, then, nothing, by}
 use Rattle.lex.specs.declared.diagnostic.Diagnostic.{Diagnostic}
 use Rattle.sheet.specs.declared.Counted.{Counted}
 use Rattle.sheet.specs.declared.Counted.the-variants as C
-use Rattle.sheet.specs.declared.Printed.the-variants as P
-use Rattle.sheet.specs.Sheet.{entry, errorAt, joinTo, continue, upTo, sheetOf, printed, answerOf, inLines}
+use Rattle.text.specs.declared.Writing.the-variants as W
+use Rattle.sheet.specs.Sheet.{entry, errorAt, joinTo, continue, upTo, sheetOf, printed, inLines}
 use Rattle.sheet.specs.Count.{sized, countedOf, textIn, each}
 use Rattle.sheet.proofs.Entries.{entry-lines, few-lines}
 use Rattle.sheet.proofs.Rows.{InLines, no-lines, lines-append, lines-plain, counted-lines}
@@ -119,7 +119,7 @@ abbrev texts : List ℕ → List ℕ → List ℕ
 texts script cells = textIn (upTo (λ i. entry script (errorAt cells i)) (length cells / 5))
 
 module _ (script cells buffer : List ℕ) where
-  pub too-long : maxBytes < length script → result (answerOf (P.Refused 1)) buffer ≡ printed script cells buffer
+  pub too-long : maxBytes < length script → result (answerOf (W.Refused 1)) buffer ≡ printed script cells buffer
   unfolding printed sheetOf answerOf
   too-long h = rw (lt-ltb maxBytes (length script) h, printed, sheetOf)
 
@@ -128,7 +128,7 @@ module _ (script cells buffer : List ℕ) where
     unfolding sheetOf
     sheet-is = rw (le-ltb maxBytes (length script) small, sheetOf)
 
-    pub not-printed : {n : ℕ} → refused n ≡ sized (upTo (λ i. entry script (errorAt cells i)) (length cells / 5)) → result (answerOf (P.Refused n)) buffer ≡ printed script cells buffer
+    pub not-printed : {n : ℕ} → refused n ≡ sized (upTo (λ i. entry script (errorAt cells i)) (length cells / 5)) → result (answerOf (W.Refused n)) buffer ≡ printed script cells buffer
     unfolding printed answerOf
     not-printed {n} p = rw (sheet-is ∙ not-answered (upTo (λ i. entry script (errorAt cells i)) (length cells / 5)) n (sym p), printed)
 
@@ -139,12 +139,12 @@ module _ (script cells buffer : List ℕ) where
       text-size : length (texts script cells) ≡ 73 * lines
       text-size = answered-size (upTo (λ i. entry script (errorAt cells i)) (length cells / 5)) (73 * lines) (sym p)
 
-      pub no-room : length buffer / 73 < lines → result (answerOf (P.Refused 44)) buffer ≡ printed script cells buffer
+      pub no-room : length buffer / 73 < lines → result (answerOf (W.Refused 44)) buffer ≡ printed script cells buffer
       unfolding printed answerOf
       no-room h = let s = text-size in rw (is-text, printed, lt-ltb (length buffer) (length (texts script cells)) (omega arith))
 
       pub all-printed : {out : List ℕ} {m : ℕ} → lines ≤ length buffer / 73 → length buffer ≤ last → Emits (each (λ i. textIn (entry script (errorAt cells i))) (length cells / 5)) buffer 0 out m
-          → result (answerOf (P.Written m)) out ≡ printed script cells buffer
+          → result (answerOf (W.Written m)) out ≡ printed script cells buffer
       unfolding printed answerOf
       all-printed {out} {m} h l f =
           let s = text-size in

@@ -11,10 +11,8 @@ use Rattle.ast.specs.Answer.{Answer, refused, answer}
 use Rattle.ast.specs.Position.{placeAt}
 use Rattle.ast.specs.declared.diagnostic.Place.{Place}
 use Rattle.text.specs.Text.{number}
-use Rattle.text.specs.Answer.{Answer as WriteAnswer, refused as notWritten, written, Result, refuse, inFront}
+use Rattle.text.specs.Answer.{Result, refuse, inFront}
 use Rattle.words.specs.Words.{words, printable}
-use Rattle.sheet.specs.declared.Printed.{Printed}
-use Rattle.sheet.specs.declared.Printed.the-variants as P
 
 -- ---- one error
 
@@ -90,11 +88,6 @@ printed script cells buffer =
       | refused n ↦ refuse n buffer
       | answer t ↦ elim (ltb (length buffer) (length t)) [ true ↦ refuse 44 buffer | false ↦ inFront t buffer ]
     ]
-
--- what the code's answer means
-unfoldable pub answerOf : Printed → WriteAnswer
-answerOf (P.Written n) = written n
-answerOf (P.Refused n) = notWritten n
 
 -- ---- what is promised of every sheet
 

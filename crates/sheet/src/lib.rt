@@ -6,25 +6,19 @@ use ast::layout::cell;
 use lex::Diagnostic;
 use rules::DIAGNOSTIC_WIDTH;
 use rules::Parsed;
+use text::Writing;
 use text::write_byte;
 use text::write_number;
 use text::write_text;
-use words::Described;
 use words::describe;
 ghost use mathlib.Core.Path.{_≡_};
 ghost use Prim.Native.Nat.{_-_, _*_, _≤_};
 ghost use lib.ListN.{length};
-ghost use Rattle.text.specs.Answer.{result};
+ghost use Rattle.text.specs.Answer.{result, answerOf};
 ghost use Rattle.text.specs.Emit.{Emits};
 ghost use Rattle.text.specs.Text.{number as numberOf};
-ghost use Rattle.sheet.specs.Sheet.{blanks, right, heading, body, entry, entries, errorAt, printed, answerOf};
+ghost use Rattle.sheet.specs.Sheet.{blanks, right, heading, body, entry, entries, errorAt, printed};
 ghost use Rattle.sheet.specs.Count.{sized, countedOf, textIn, textsOf};
-
-// How many bytes were written; or a refusal, and the buffer is as it was.
-pub enum Printed {
-    Written(usize),
-    Refused(u32),
-}
 
 // How many lines an error takes, or why it is refused.
 pub(crate) enum Counted {
@@ -135,8 +129,8 @@ fn write_entry(script: &[u8], e: Diagnostic, out: &mut [u8], at: usize) -> usize
 {
     let mut line = [0u8; 160];
     match describe(e, &mut line) {
-        Described::Refused(_) => at,
-        Described::Written(n) => match line_column(script, e.start) {
+        Writing::Refused(_) => at,
+        Writing::Written(n) => match line_column(script, e.start) {
             Position::Refused(_) => at,
             Position::At(p) => {
                 let a = write_heading(p, e.number, out, at);
@@ -153,8 +147,8 @@ fn count_lines(script: &[u8], e: Diagnostic) -> Counted
 {
     let mut line = [0u8; 160];
     match describe(e, &mut line) {
-        Described::Refused(n) => Counted::Refused(n),
-        Described::Written(n) => {
+        Writing::Refused(n) => Counted::Refused(n),
+        Writing::Written(n) => {
             let start = e.start as usize;
             if script.len() < start {
                 return Counted::Refused(3);
@@ -203,21 +197,21 @@ fn write_all(script: &[u8], errors: &[u32], out: &mut [u8]) -> usize
 }
 
 // The sheet of the errors, five numbers each. They are looked at before anything is written, so that the buffer is as it was where the sheet is refused.
-pub fn print_sheet(script: &[u8], errors: &[u32], sheet: &mut [u8]) -> Printed
+pub fn print_sheet(script: &[u8], errors: &[u32], sheet: &mut [u8]) -> Writing
     ensures { λ r.
         let left = result (answerOf r) (now (sheet .exit)) in
         ⌜ left ≡ printed (now (script .entry)) (now (errors .entry)) (now (sheet .entry)) ⌝ }
 {
     if Parsed::MAX_BYTES < script.len() {
-        return Printed::Refused(1);
+        return Writing::Refused(1);
     }
     match count_all(script, errors) {
-        Counted::Refused(n) => Printed::Refused(n),
+        Counted::Refused(n) => Writing::Refused(n),
         Counted::Lines(lines) => {
             if sheet.len() / LINE_BYTES < lines {
-                return Printed::Refused(44);
+                return Writing::Refused(44);
             }
-            Printed::Written(write_all(script, errors, sheet))
+            Writing::Written(write_all(script, errors, sheet))
         }
     }
 }

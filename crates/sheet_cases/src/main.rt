@@ -1,9 +1,8 @@
 // The words of every error number and every kind, and sheets with their refusals, on standard output. `stdout` is written from the table in docs/WORDS.md by tools/sheet_cases.
 use lex::Diagnostic;
 use libc::STDOUT_FILENO;
-use sheet::Printed;
 use sheet::print_sheet;
-use words::Described;
+use text::Writing;
 use words::describe;
 
 fn write(text: &[u8]) {
@@ -31,8 +30,8 @@ fn show(number: u32, wanted: u32, seen: u32) {
         seen,
     };
     match describe(e, &mut line) {
-        Described::Refused(n) => write_refused(n),
-        Described::Written(n) => {
+        Writing::Refused(n) => write_refused(n),
+        Writing::Written(n) => {
             if n <= 160 {
                 write(&line[..n]);
             }
@@ -52,8 +51,8 @@ fn show_short() {
         seen: 0,
     };
     match describe(e, &mut line) {
-        Described::Refused(n) => write_refused(n),
-        Described::Written(_) => write(b"written\n"),
+        Writing::Refused(n) => write_refused(n),
+        Writing::Written(_) => write(b"written\n"),
     }
     write(&line);
     write(b"\n");
@@ -65,8 +64,8 @@ fn print_into(script: &[u8], errors: &[u32], room: usize, buffer: &mut [u8]) {
         return;
     }
     match print_sheet(script, errors, &mut buffer[..room]) {
-        Printed::Refused(n) => write_refused(n),
-        Printed::Written(n) => {
+        Writing::Refused(n) => write_refused(n),
+        Writing::Written(n) => {
             write(b"written ");
             write_number(n as u64);
             write(b"\n");

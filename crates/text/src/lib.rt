@@ -3,6 +3,12 @@ ghost use mathlib.Core.List.{[], _∷_};
 ghost use Rattle.text.specs.Text.{number};
 ghost use Rattle.text.specs.Emit.{Emits};
 
+// How a call ends that writes a text into a lent buffer: the text's length in bytes, or the number of the refusal.
+pub enum Writing {
+    Written(usize),
+    Refused(u32),
+}
+
 // The last position: counting stops there.
 pub const LAST: usize = 18446744073709551615;
 

@@ -9,9 +9,9 @@ use lib.ListN.{length, take, drop, length-append}
 use lib.Seq.{take-append-seam}
 use borrow.Author.Tests.{le-ltb}
 use Rattle.lex.specs.declared.diagnostic.Diagnostic.{Diagnostic}
-use Rattle.text.specs.Answer.{refused, written, Result, result, refuse, inFront}
-use Rattle.words.specs.declared.Described.the-variants as D
-use Rattle.words.specs.Words.{words, described, answerOf}
+use Rattle.text.specs.Answer.{refused, written, Result, result, refuse, inFront, answerOf}
+use Rattle.text.specs.declared.Writing.the-variants as W
+use Rattle.words.specs.Words.{words, described}
 
 -- refused: there are no words
 pub record Wordless (e : Diagnostic) (n : ℕ) : Type 0 where
@@ -31,7 +31,7 @@ module _ (e : Diagnostic) (buffer : List ℕ) (h : 160 ≤ length buffer) where
   unfolding described
   by-words = rw (le-ltb (length buffer) 160 h, described)
 
-  pub wordless : {n : ℕ} {out : List ℕ} → result (answerOf (D.Refused n)) out ≡ described e buffer → Wordless e n
+  pub wordless : {n : ℕ} {out : List ℕ} → result (answerOf (W.Refused n)) out ≡ described e buffer → Wordless e n
   unfolding answerOf
   wordless {n} {out} p = go (words e) refl (p ∙ by-words)
     where
@@ -39,7 +39,7 @@ module _ (e : Diagnostic) (buffer : List ℕ) (h : 160 ≤ length buffer) where
       go none q r = record { none-there = q; number = let a : refused n ≡ refused 42 = ap (λ (x : Result). x .answer) r in cc }
       go (some w) q r = absurd (let a : refused n ≡ written (length w) = ap (λ (x : Result). x .answer) r in let z : _≡_ {A = ℕ} 0 1 = cc in omega arith)
 
-  pub wrote : {n : ℕ} {out : List ℕ} → result (answerOf (D.Written n)) out ≡ described e buffer → Wrote e n out
+  pub wrote : {n : ℕ} {out : List ℕ} → result (answerOf (W.Written n)) out ≡ described e buffer → Wrote e n out
   unfolding answerOf
   wrote {n} {out} p = go (words e) refl (p ∙ by-words)
     where

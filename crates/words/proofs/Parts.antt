@@ -11,10 +11,10 @@ use lib.ListN.{length, List·getD-eq-default}
 use borrow.Author.Tests.{eq-eqb, ne-eqb, lt-ltb, le-ltb, le-leb, lt-leb, leb-true}
 use Rattle.lex.specs.declared.diagnostic.Diagnostic.{Diagnostic}
 use Rattle.text.specs.Emit.{Emits, plain}
-use Rattle.text.specs.Answer.{result}
+use Rattle.text.specs.Answer.{result, answerOf}
 use Rattle.text.proofs.EmitLaws.{then, whole, and-left, and-right}
-use Rattle.words.specs.declared.Described.the-variants as D
-use Rattle.words.specs.Words.{phrases, phrase, kindNames, kindName, hexDigit, hex, butFound, details, line, isKind, isWanted, isSeen, hasWords, words, printable, described, answerOf}
+use Rattle.text.specs.declared.Writing.the-variants as W
+use Rattle.words.specs.Words.{phrases, phrase, kindNames, kindName, hexDigit, hex, butFound, details, line, isKind, isWanted, isSeen, hasWords, words, printable, described}
 use Rattle.words.proofs.Lines.{is-line}
 
 -- ---- outside the tables
@@ -91,16 +91,16 @@ printable-plain (b ∷ bs) h =
     rw (lt-ltb b 256 (omega arith)) (printable-plain bs (and-right (leb 32 b && leb b 126) (printable bs) h))
 
 module _ (e : Diagnostic) (x : List ℕ) where
-  pub too-short : length x < 160 → result (answerOf (D.Refused 41)) x ≡ described e x
+  pub too-short : length x < 160 → result (answerOf (W.Refused 41)) x ≡ described e x
   unfolding described answerOf
   too-short h = rw (lt-ltb (length x) 160 h, described)
 
-  pub without-words : 160 ≤ length x → hasWords e ≡ false → result (answerOf (D.Refused 42)) x ≡ described e x
+  pub without-words : 160 ≤ length x → hasWords e ≡ false → result (answerOf (W.Refused 42)) x ≡ described e x
   unfolding described words answerOf
   without-words h q = rw (le-ltb (length x) 160 h, described, q)
 
   pub with-words : {y z : List ℕ} {p m : ℕ} → 160 ≤ length x → hasWords e ≡ true → Emits (phrase (e .number)) x 0 y p → Emits (details (e .number) (e .wanted) (e .seen)) y p z m
-      → result (answerOf (D.Written m)) z ≡ described e x
+      → result (answerOf (W.Written m)) z ≡ described e x
   unfolding described words line answerOf
   with-words {y} {z} {p} {m} h q f g =
       let has : words e ≡ some (line e) = rw (q, words) in

@@ -9,9 +9,7 @@ use lib.ListN.{length, getD}
 use Rattle.lex.specs.Kind.{kEof, kRecord}
 use Rattle.lex.specs.declared.diagnostic.Diagnostic.{Diagnostic}
 use Rattle.text.specs.Text.{bytes}
-use Rattle.text.specs.Answer.{Answer, refused, written, Result, refuse, inFront}
-use Rattle.words.specs.declared.Described.{Described}
-use Rattle.words.specs.declared.Described.the-variants as D
+use Rattle.text.specs.Answer.{Result, refuse, inFront}
 
 -- ---- the tables
 
@@ -142,8 +140,3 @@ pub record Alike (e f : Diagnostic) : Type 0 where
 -- 41, a buffer that is too short, is tested before 42, an error without words
 unfoldable pub described : Diagnostic → List ℕ → Result
 described e buffer = elim (ltb (length buffer) maxLine) [ true ↦ refuse 41 buffer | false ↦ elim (words e) [ none ↦ refuse 42 buffer | some w ↦ inFront w buffer ] ]
-
--- what the code's answer means
-unfoldable pub answerOf : Described → Answer
-answerOf (D.Written n) = written n
-answerOf (D.Refused n) = refused n

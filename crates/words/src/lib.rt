@@ -1,19 +1,14 @@
 // An error of a script in words. docs/WORDS.md has the table.
 use lex::Diagnostic;
 use lex::Type;
+use text::Writing;
 use text::write_byte;
 use text::write_text;
 ghost use mathlib.Core.Path.{_≡_};
 ghost use Prim.Native.Nat.{_<_};
-ghost use Rattle.text.specs.Answer.{result};
+ghost use Rattle.text.specs.Answer.{result, answerOf};
 ghost use Rattle.text.specs.Emit.{Emits};
-ghost use Rattle.words.specs.Words.{phrase, kindName, hexDigit, hex, details, isKind, isScriptError, isWanted, isSeen, hasWords, described, answerOf};
-
-// How many bytes were written; or 41 or 42, and the buffer is as it was.
-pub enum Described {
-    Written(usize),
-    Refused(u32),
-}
+ghost use Rattle.words.specs.Words.{phrase, kindName, hexDigit, hex, details, isKind, isScriptError, isWanted, isSeen, hasWords, described};
 
 // The most bytes of a line, and the fewest of a buffer.
 pub const MAX_LINE: usize = 160;
@@ -272,15 +267,15 @@ fn has_words(e: Diagnostic) -> bool
 }
 
 // The words of an error into the buffer `line`, with what it held behind them.
-pub fn describe(e: Diagnostic, line: &mut [u8]) -> Described
+pub fn describe(e: Diagnostic, line: &mut [u8]) -> Writing
     ensures { λ r. ⌜ result (answerOf r) (now (line .exit)) ≡ described e (now (line .entry)) ⌝ }
 {
     if line.len() < MAX_LINE {
-        return Described::Refused(41);
+        return Writing::Refused(41);
     }
     if has_words(e) {
         let at = write_phrase(e.number, line, 0);
-        return Described::Written(write_details(e.number, e.wanted, e.seen, line, at));
+        return Writing::Written(write_details(e.number, e.wanted, e.seen, line, at));
     }
-    Described::Refused(42)
+    Writing::Refused(42)
 }
