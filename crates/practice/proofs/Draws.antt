@@ -7,21 +7,24 @@ use native.Mathlib.Omega.{arith}
 use lib.ListN.{length}
 use borrow.Author.Tests.{eq-eqb, ne-eqb, lt-ltb, le-ltb}
 use Rattle.practice.specs.declared.Place.{Place}
-use Rattle.practice.specs.declared.Practice.the-variants.{Written}
-use Rattle.practice.specs.Practice.{next, Drawn, draw, mapDrawn, Expr, sum, leaf, sumOf, picked, expression, topLevel, expressions, decimal, nameText, text, line, linesFrom, sheet, Outcome, refused, promised}
-use Rattle.practice.specs.Emit.{last, Emits, Writes}
-use Rattle.practice.proofs.EmitLaws.{then, by, nothing, same-size, length-is, whole, kept}
-use Rattle.practice.proofs.Sheets.{lines-short}
+use Rattle.text.specs.Text.{bytes, number as decimal}
+use Rattle.text.specs.Emit.{last, Emits}
+use Rattle.text.specs.Answer.{written, result, refuse}
+use Rattle.text.proofs.EmitLaws.{then, by, nothing, same-size, whole}
+use Rattle.text.proofs.Plain.{kept, counted}
+use Rattle.practice.specs.Practice.{next, Drawn, draw, mapDrawn, Expr, sum, leaf, sumOf, picked, expression, topLevel, expressions, nameText, text, line, linesFrom, sheet, promised}
+use Rattle.practice.specs.Drawing.{WritesDrawn}
+use Rattle.practice.proofs.Sheets.{lines-short, sheet-plain}
 
 pub writes-size : {A : Type 0} {text′ : A → List ℕ} {d : Drawn A} {x y : List ℕ} {p : ℕ} {q : Place}
-    → Writes text′ d x p y q → length y ≡ length x
+    → WritesDrawn text′ d x p y q → length y ≡ length x
 writes-size w = same-size (w .emits)
 
 -- ---- a leaf
 
 module _ {x y : List ℕ} {at to : ℕ} (pick seed s : ℕ) (new : s ≡ next seed) where
   pub leaf-number : pick ≡ 0 → Emits (decimal (s / 65536 % 100)) x at y to
-      → Writes text (leaf pick seed) x at y (record { at = to; seed = s })
+      → WritesDrawn text (leaf pick seed) x at y (record { at = to; seed = s })
   unfolding leaf mapDrawn draw text
   leaf-number e f = rw (eq-eqb pick 0 e, leaf) (record {
     emits = by (ap (λ (n : ℕ). decimal (n / 65536 % 100)) new) f;
@@ -29,8 +32,8 @@ module _ {x y : List ℕ} {at to : ℕ} (pick seed s : ℕ) (new : s ≡ next se
   })
 
   pub leaf-name : {z : List ℕ} {v : ℕ} → (pick ≡ 0 → ⊥) → Emits (118 ∷ []) x at z v
-      → Emits (decimal (s / 65536 % 10)) z v y to → Writes text (leaf pick seed) x at y (record { at = to; seed = s })
-  unfolding leaf mapDrawn draw text nameText
+      → Emits (decimal (s / 65536 % 10)) z v y to → WritesDrawn text (leaf pick seed) x at y (record { at = to; seed = s })
+  unfolding leaf mapDrawn draw text nameText bytes
   leaf-name e f g = rw (ne-eqb pick 0 e, leaf) (record {
     emits = by (ap (λ (n : ℕ). 118 ∷ decimal (n / 65536 % 10)) new) (then f g);
     seed = new;
@@ -49,36 +52,36 @@ unpicked level seed s new some =
     ap (λ (n : ℕ). picked (expression (level - 1)) (n / 65536 % 4) n) new ∙ sym (up (level - 1) seed)
     ∙ ap (λ (l : ℕ). expression l seed) e
 
-as-drawn : {d d′ : Drawn Expr} {x y : List ℕ} {at : ℕ} {r : Place} → d ≡ d′ → Writes text d x at y r
-    → Writes text d′ x at y r
-as-drawn {x = x} {y} {at} {r} e w = subst (λ d. Writes text d x at y r) e w
+as-drawn : {d d′ : Drawn Expr} {x y : List ℕ} {at : ℕ} {r : Place} → d ≡ d′ → WritesDrawn text d x at y r
+    → WritesDrawn text d′ x at y r
+as-drawn {x = x} {y} {at} {r} e w = subst (λ d. WritesDrawn text d x at y r) e w
 
 sum-text : (a b : Expr) → (40 ∷ []) ++ (text a ++ ((32 ∷ 43 ∷ 32 ∷ []) ++ (text b ++ (41 ∷ [])))) ≡ text (sum a b)
-unfolding text
+unfolding text bytes
 sum-text a b = refl
 
 module _ (level seed s : ℕ) (new : s ≡ next seed) {x y : List ℕ} {at : ℕ} where
-  pub lowest : {r : Place} → level ≡ 0 → Writes text (leaf (s / 65536 % 2) s) x at y r
-      → Writes text (expression level seed) x at y r
+  pub lowest : {r : Place} → level ≡ 0 → WritesDrawn text (leaf (s / 65536 % 2) s) x at y r
+      → WritesDrawn text (expression level seed) x at y r
   unfolding expression draw
-  lowest {r} e f = rw e (subst (λ (n : ℕ). Writes text (leaf (n / 65536 % 2) n) x at y r) new f)
+  lowest {r} e f = rw e (subst (λ (n : ℕ). WritesDrawn text (leaf (n / 65536 % 2) n) x at y r) new f)
 
   module _ (some : level ≡ 0 → ⊥) where
-    pub a-leaf : {r : Place} → s / 65536 % 4 < 2 → Writes text (leaf (s / 65536 % 4) s) x at y r
-        → Writes text (expression level seed) x at y r
+    pub a-leaf : {r : Place} → s / 65536 % 4 < 2 → WritesDrawn text (leaf (s / 65536 % 4) s) x at y r
+        → WritesDrawn text (expression level seed) x at y r
     unfolding picked
     a-leaf h f = as-drawn (unpicked level seed s new some) (rw (lt-ltb (s / 65536 % 4) 2 h, picked) f)
 
     module _ (above : 2 ≤ s / 65536 % 4) where
       pub a-sum : {z w v : List ℕ} {o to plus : ℕ} {a b : Place} → s / 65536 % 4 ≡ 2 → Emits (40 ∷ []) x at z o
-          → Writes text (expression (level - 1) s) z o w a
+          → WritesDrawn text (expression (level - 1) s) z o w a
           → Emits (32 ∷ 43 ∷ 32 ∷ []) w (a .at) v plus → {u : List ℕ}
-          → Writes text (expression (level - 1) (a .seed)) v plus u b → Emits (41 ∷ []) u (b .at) y to
-          → Writes text (expression level seed) x at y (record { at = to; seed = b .seed })
+          → WritesDrawn text (expression (level - 1) (a .seed)) v plus u b → Emits (41 ∷ []) u (b .at) y to
+          → WritesDrawn text (expression level seed) x at y (record { at = to; seed = b .seed })
       unfolding picked sumOf mapDrawn
       a-sum {v = v} {plus = p} {a} {b} two opening first plus {u} second closing =
           let part = expression (level - 1) in
-          let second′ = subst (λ (n : ℕ). Writes text (part n) v p u b) (first .seed) second in
+          let second′ = subst (λ (n : ℕ). WritesDrawn text (part n) v p u b) (first .seed) second in
           as-drawn (unpicked level seed s new some) (rw (
             le-ltb (s / 65536 % 4) 2 above,
             eq-eqb (s / 65536 % 4) 2 two,
@@ -91,9 +94,9 @@ module _ (level seed s : ℕ) (new : s ≡ next seed) {x y : List ℕ} {at : ℕ
           }))
 
       pub a-negated : {z : List ℕ} {minus : ℕ} {r : Place} → (s / 65536 % 4 ≡ 2 → ⊥) → Emits (45 ∷ []) x at z minus
-          → Writes text (expression (level - 1) s) z minus y r
-          → Writes text (expression level seed) x at y r
-      unfolding picked mapDrawn text
+          → WritesDrawn text (expression (level - 1) s) z minus y r
+          → WritesDrawn text (expression level seed) x at y r
+      unfolding picked mapDrawn text bytes
       a-negated other minus f =
           as-drawn (unpicked level seed s new some) (rw (
             le-ltb (s / 65536 % 4) 2 above,
@@ -107,9 +110,9 @@ module _ (level seed s : ℕ) (new : s ≡ next seed) {x y : List ℕ} {at : ℕ
 module _ (i seed : ℕ) {x u v w z y : List ℕ} {at name′ equal value to : ℕ} {e : Place} where
   pub a-line : Emits (108 ∷ 101 ∷ 116 ∷ 32 ∷ 118 ∷ []) x at u name′ → Emits (decimal i) u name′ v equal
       → Emits (32 ∷ 61 ∷ 32 ∷ []) v equal w value
-      → Writes text (expression topLevel seed) w value z e → Emits (10 ∷ []) z (e .at) y to
-      → Writes (line i) (expression topLevel seed) x at y (record { at = to; seed = e .seed })
-  unfolding line nameText
+      → WritesDrawn text (expression topLevel seed) w value z e → Emits (10 ∷ []) z (e .at) y to
+      → WritesDrawn (line i) (expression topLevel seed) x at y (record { at = to; seed = e .seed })
+  unfolding line nameText bytes
   a-line a b c d f = record { emits = then a (then b (then c (then (d .emits) f))); seed = d .seed }
 
 -- of a sheet the lines before `i` are written
@@ -136,7 +139,7 @@ module _ {seed lines : ℕ} {x : List ℕ} where
   }
 
   pub lines-next : {y z : List ℕ} {at s i : ℕ} {p : Place} → Begun seed lines x y at s i → i < lines
-      → Writes (line i) (expression topLevel s) y at z p → Begun seed lines x z (p .at) (p .seed) (i + 1)
+      → WritesDrawn (line i) (expression topLevel s) y at z p → Begun seed lines x z (p .at) (p .seed) (i + 1)
   lines-next {s = s} {i} {p} b h w =
       let e = expression topLevel s in
       let more : linesFrom (i + 1) (expressions (lines - (i + 1)) (p .seed))
@@ -163,33 +166,28 @@ module _ {seed lines : ℕ} {x : List ℕ} where
 -- ---- answers
 
 module _ (seed lines : ℕ) (x : List ℕ) where
-  pub too-many : 16 < lines → refused 47 x ≡ promised seed lines x
+  pub too-many : 16 < lines → refuse 47 x ≡ promised seed lines x
   unfolding promised
   too-many h = rw (lt-ltb 16 lines h, promised)
 
-  module _ (few : lines ≤ 16) where
-    short-sheet : length (sheet seed lines) < last
+  module _ (few : lines ≤ 16) {y : List ℕ} {n : ℕ} (measured : Emits (sheet seed lines) [] 0 y n) where
+    short-sheet : length (sheet seed lines) ≤ last
     unfolding sheet
     short-sheet = omega (arith, lines-short 0 lines seed (omega arith))
 
-    pub too-short : {y : List ℕ} {n : ℕ} → Emits (sheet seed lines) [] 0 y n → length x < n
-        → refused 48 (y ++ x) ≡ promised seed lines x
-    unfolding promised
-    too-short {n = n} f h =
-        let e : length x < length (sheet seed lines) = omega (arith, length-is short-sheet f) in
-        rw (kept x f, le-ltb 16 lines few, lt-ltb (length x) (length (sheet seed lines)) e, promised)
+    length-is : n ≡ length (sheet seed lines)
+    length-is = counted measured (sheet-plain seed lines) short-sheet
 
-    pub all-written : {y z : List ℕ} {n m : ℕ} → Emits (sheet seed lines) [] 0 y n → n ≤ length x
-        → Emits (sheet seed lines) (y ++ x) 0 z m
-        → _≡_ {A = Outcome} (record { answer = Written m; buffer = z }) (promised seed lines x)
+    pub too-short : length x < n → refuse 48 (y ++ x) ≡ promised seed lines x
     unfolding promised
-    all-written {z = z} {m = m} f h g =
-        let g′ = rw (kept x f) at g in
-        let e : length (sheet seed lines) ≤ length x = omega (arith, length-is short-sheet f) in
-        rw (
-          le-ltb 16 lines few,
-          le-ltb (length x) (length (sheet seed lines)) e,
-          length-is short-sheet g′,
-          whole short-sheet g′ e,
-          promised,
-        )
+    too-short h =
+        let e : length x < length (sheet seed lines) = omega (arith, length-is) in
+        rw (kept measured x, le-ltb 16 lines few, lt-ltb (length x) (length (sheet seed lines)) e, promised)
+
+    pub all-written : {z : List ℕ} {m : ℕ} → n ≤ length x → Emits (sheet seed lines) (y ++ x) 0 z m
+        → result (written m) z ≡ promised seed lines x
+    unfolding promised
+    all-written h f =
+        let e : length (sheet seed lines) ≤ length x = omega (arith, length-is) in
+        rw (le-ltb 16 lines few, le-ltb (length x) (length (sheet seed lines)) e, promised)
+        (whole (sheet-plain seed lines) e short-sheet (rw (kept measured x) at f))

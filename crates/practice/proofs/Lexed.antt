@@ -20,7 +20,8 @@ use Rattle.lex.proofs.Runs.{number-whole}
 use Rattle.lex.proofs.Signs.{sign-piece, sign, digit-no-name}
 use Rattle.lex.proofs.Skips.{stands}
 use Rattle.lex.proofs.Steps.{cut-step, step-end}
-use Rattle.practice.specs.Practice.{Expr, number, sum, negated, digits, decimal, nameText, text, linesFrom}
+use Rattle.text.specs.Text.{bytes, digits, number as decimal}
+use Rattle.practice.specs.Practice.{Expr, number, sum, negated, nameText, text, linesFrom}
 use Rattle.practice.specs.Practice as P
 use Rattle.practice.proofs.Spelled.{Spelled, numeral, ident, bracketed, signed, Lines, end, line}
 
@@ -228,7 +229,7 @@ module _ (script : List ℕ) where
       (number-piece after b x xs d)
 
   name-at : (p n : ℕ) (after : List ℕ) → drop p script ≡ nameText n ++ after → Boundary after → One p kIdent after
-  unfolding nameText decimal
+  unfolding nameText bytes decimal
   name-at p n after e b = one p kIdent 118 (decimal n) after e (omega arith) (λ z. omega arith)
       (name-piece after b (decimal n) (digits-are n n))
 
@@ -252,7 +253,7 @@ module _ (script : List ℕ) where
 
   sum-text : (a b : Expr) (after : List ℕ)
       → text (sum a b) ++ after ≡ 40 ∷ (text a ++ (32 ∷ 43 ∷ 32 ∷ (text b ++ (41 ∷ after))))
-  unfolding text
+  unfolding text bytes
   sum-text a b after =
       ap {B = List ℕ} (λ l. 40 ∷ l) (append-assoc (text a) (32 ∷ 43 ∷ 32 ∷ (text b ++ (41 ∷ []))) after
       ∙ ap {B = List ℕ} (λ l. text a ++ (32 ∷ 43 ∷ 32 ∷ l)) (append-assoc (text b) (41 ∷ []) after))
@@ -306,7 +307,7 @@ module _ (script : List ℕ) where
       (close-piece _))
 
   pub lexed : (e : Expr) (p : ℕ) (after : List ℕ) → drop p script ≡ text e ++ after → Boundary after → Lexed e p after
-  unfolding text decimal
+  unfolding text bytes decimal
   lexed (number n) p after at b =
       let t = number-at p (decimal n) after (digits-are n n) (digits-some n n) at b in
       record { next = t .next; spelled = spelled-as (numeral (t .isKind)) (sym (t .tokens)) refl; stands = t .stands }
@@ -327,7 +328,7 @@ module _ (script : List ℕ) where
 
   line-text : (i : ℕ) (e : Expr) (after : List ℕ)
       → P.line i e ++ after ≡ 108 ∷ 101 ∷ 116 ∷ 32 ∷ (nameText i ++ (32 ∷ 61 ∷ 32 ∷ (text e ++ (10 ∷ after))))
-  unfolding P.line
+  unfolding P.line bytes
   line-text i e after =
       ap {B = List ℕ} (λ l. 108 ∷ 101 ∷ 116 ∷ 32 ∷ l) (append-assoc (nameText i) (32 ∷ 61 ∷ 32 ∷ (text e ++ (10 ∷ [])))
       after

@@ -2,7 +2,7 @@
 use mathlib.Core.Path.{_≡_, refl, ap}
 use mathlib.Core.Bool.{true}
 use mathlib.Core.Option.{Option}
-use mathlib.Core.List.{[], _∷_, _++_}
+use mathlib.Core.List.{List, [], _∷_, _++_}
 use Prim.Native.Nat.{ℕ, zero, suc, _+_, _*_, _/_, _<_, _≤_}
 use native.Mathlib.Nat.{mod-lt}
 use native.Mathlib.Omega.{arith}
@@ -16,7 +16,11 @@ use Rattle.rules.specs.declared.Counts.{Counts}
 use Rattle.rules.specs.Rules.{Powers}
 use Rattle.rules.specs.Parse.{parse}
 use Rattle.rules.specs.Promise.{maxBytes, outcome, promised}
-use Rattle.practice.specs.Practice.{next, Drawn, draw, mapDrawn, Expr, number, sum, negated, leaf, sumOf, picked, expression, topLevel, expressions, digits, decimal, nameText, text, line, linesFrom, sheet}
+use Rattle.text.specs.Text.{bytes, digits, number as decimal}
+use Rattle.text.specs.Emit.{plain}
+use Rattle.text.proofs.Plain.{plain-append, number-plain}
+use Rattle.practice.specs.Practice.{next, Drawn, draw, mapDrawn, Expr, number, sum, negated, leaf, sumOf, picked, expression, topLevel, expressions, nameText, text, line, linesFrom, sheet}
+use Rattle.practice.specs.Practice as P
 use Rattle.practice.specs.Accepted.{Signs, SheetsAccepted, SheetsAnswered}
 use Rattle.practice.proofs.Spelled.{depth, Shallow}
 use Rattle.practice.proofs.Lexed.{lines-lexed}
@@ -51,7 +55,7 @@ longest-some zero = omega arith
 longest-some (suc level) = omega (arith, longest-some level)
 
 leaf-small : (level pick seed : ℕ) → Small level (leaf pick seed .value)
-unfolding leaf mapDrawn text nameText
+unfolding leaf mapDrawn text nameText bytes
 leaf-small level pick seed =
     cases (λ (d : Drawn Expr). Small level (d .value)) (eqb pick 0)
     (λ e. record {
@@ -75,7 +79,7 @@ leaf-small level pick seed =
 
 module _ (level : ℕ) (part : ℕ → Drawn Expr) (small : (seed : ℕ) → Small level (part seed .value)) where
   sum-short : (a b : Expr) → length (text (sum a b)) ≡ length (text a) + length (text b) + 5
-  unfolding text
+  unfolding text bytes
   sum-short a b = omega (
     arith,
     length-append (text a) (32 ∷ 43 ∷ 32 ∷ (text b ++ (41 ∷ []))),
@@ -94,7 +98,7 @@ module _ (level : ℕ) (part : ℕ → Drawn Expr) (small : (seed : ℕ) → Sma
       }
 
   negated-small : (seed : ℕ) → Small (suc level) (mapDrawn negated (part seed) .value)
-  unfolding mapDrawn text
+  unfolding mapDrawn text bytes
   negated-small seed = let a = small seed in record {
     shallow = omega (arith, a .shallow);
     short = omega
@@ -132,7 +136,7 @@ expressions-count (suc lines) seed = ap suc (expressions-count lines _)
 
 -- a line has at most 118 bytes
 line-short : (i : ℕ) (e : Expr) → i < 100 → length (text e) ≤ 107 → length (line i e) ≤ 118
-unfolding line nameText
+unfolding line nameText bytes
 line-short i e h k = omega (
   arith,
   two-digits i h,
@@ -153,6 +157,30 @@ lines-short i (suc lines) seed h =
           lines (e .seed) (omega arith),
       length-append (line i (e .value)) (linesFrom (suc i) (expressions lines (e .seed))),
     )
+
+-- ---- a sheet is of bytes
+
+text-plain : (e : Expr) → plain (text e) ≡ true
+unfolding text nameText bytes plain
+text-plain (number n) = number-plain n
+text-plain (P.name n) = number-plain n
+text-plain (sum a b) = plain-append (text a) (32 ∷ 43 ∷ 32 ∷ (text b ++ (41 ∷ []))) (text-plain a)
+    (plain-append (text b) (41 ∷ []) (text-plain b) refl)
+text-plain (negated a) = text-plain a
+
+line-plain : (i : ℕ) (e : Expr) → plain (line i e) ≡ true
+unfolding line nameText bytes plain
+line-plain i e = plain-append (decimal i) (32 ∷ 61 ∷ 32 ∷ (text e ++ (10 ∷ []))) (number-plain i)
+    (plain-append (text e) (10 ∷ []) (text-plain e) refl)
+
+lines-plain : (i : ℕ) (es : List Expr) → plain (linesFrom i es) ≡ true
+unfolding linesFrom plain
+lines-plain i [] = refl
+lines-plain i (e ∷ es) = plain-append (line i e) (linesFrom (suc i) es) (line-plain i e) (lines-plain (suc i) es)
+
+pub sheet-plain : (seed lines : ℕ) → plain (sheet seed lines) ≡ true
+unfolding sheet
+sheet-plain seed lines = lines-plain 0 (expressions lines seed)
 
 -- ---- strict reading
 

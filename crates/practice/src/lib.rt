@@ -1,20 +1,16 @@
 // Practice sheets: the same script at every site from one seed.
 mod draw;
-mod emit;
 
 use crate::draw::next;
-use crate::emit::write_byte;
-use crate::emit::write_number;
-use crate::emit::write_text;
+use text::Writing;
+use text::write_byte;
+use text::write_number;
+use text::write_text;
 ghost use mathlib.Core.Path.{_≡_};
-ghost use Rattle.practice.specs.Practice.{text, leaf, expression, topLevel, line, Outcome, sheet, promised};
-ghost use Rattle.practice.specs.Emit.{Emits, Writes};
-
-// How a call ends: the length of the sheet that it wrote, or why it was turned away.
-pub enum Practice {
-    Written(usize),
-    Refused(u32),
-}
+ghost use Rattle.text.specs.Answer.{result, answerOf};
+ghost use Rattle.text.specs.Emit.{Emits};
+ghost use Rattle.practice.specs.Practice.{text, leaf, expression, topLevel, line, sheet, promised};
+ghost use Rattle.practice.specs.Drawing.{WritesDrawn};
 
 // Where writing has come to, and the seed for the next draw.
 struct Place {
@@ -28,21 +24,25 @@ const TOP_LEVEL: u32 = 4;
 
 // A number or a name.
 fn write_leaf(pick: u32, seed: u32, out: &mut [u8], at: usize) -> Place
-    ensures { λ r. ⌜ Writes text (leaf pick seed) (now (out .entry)) at (now (out .exit)) r ⌝ }
+    ensures { λ r.
+        let drawn = leaf pick seed in
+        ⌜ WritesDrawn text drawn (now (out .entry)) at (now (out .exit)) r ⌝ }
 {
     let s = next(seed);
     if pick == 0 {
-        let to = write_number(s / 65536 % 100, out, at);
+        let to = write_number((s / 65536 % 100) as usize, out, at);
         return Place { at: to, seed: s };
     }
     let v = write_byte(b'v', out, at);
-    let to = write_number(s / 65536 % 10, out, v);
+    let to = write_number((s / 65536 % 10) as usize, out, v);
     Place { at: to, seed: s }
 }
 
 // The level falls.
 fn write_expression(level: u32, seed: u32, out: &mut [u8], at: usize) -> Place
-    ensures { λ r. ⌜ Writes text (expression level seed) (now (out .entry)) at (now (out .exit)) r ⌝ }
+    ensures { λ r.
+        let drawn = expression level seed in
+        ⌜ WritesDrawn text drawn (now (out .entry)) at (now (out .exit)) r ⌝ }
 {
     let s = next(seed);
     if level == 0 {
@@ -68,10 +68,12 @@ fn write_expression(level: u32, seed: u32, out: &mut [u8], at: usize) -> Place
 }
 
 fn write_line(i: u32, seed: u32, out: &mut [u8], at: usize) -> Place
-    ensures { λ r. ⌜ Writes (line i) (expression topLevel seed) (now (out .entry)) at (now (out .exit)) r ⌝ }
+    ensures { λ r.
+        let drawn = expression topLevel seed in
+        ⌜ WritesDrawn (line i) drawn (now (out .entry)) at (now (out .exit)) r ⌝ }
 {
     let name = write_text(b"let v", out, at);
-    let equal = write_number(i, out, name);
+    let equal = write_number(i as usize, out, name);
     let value = write_text(b" = ", out, equal);
     let e = write_expression(TOP_LEVEL, seed, out, value);
     let to = write_byte(b'\n', out, e.at);
@@ -96,16 +98,19 @@ fn write_lines(seed: u32, lines: u32, out: &mut [u8]) -> usize
     at
 }
 
-// The sheet of a seed. It is counted on an empty buffer before it is written, so that a buffer that is too short stays as it is.
-pub fn write_sheet(seed: u32, lines: u32, out: &mut [u8]) -> Practice
-    ensures { λ r. ⌜ _≡_ {A = Outcome} (record { answer = r; buffer = now (out .exit) }) (promised seed lines (now (out .entry))) ⌝ }
+// The sheet of a seed. It is counted on an empty buffer before it is written, so that a buffer
+// that is too short stays as it is.
+pub fn write_sheet(seed: u32, lines: u32, out: &mut [u8]) -> Writing
+    ensures { λ r.
+        let left = result (answerOf r) (now (out .exit)) in
+        ⌜ left ≡ promised seed lines (now (out .entry)) ⌝ }
 {
     if MAX_LINES < lines {
-        return Practice::Refused(47);
+        return Writing::Refused(47);
     }
     let n = write_lines(seed, lines, &mut out[..0]);
     if out.len() < n {
-        return Practice::Refused(48);
+        return Writing::Refused(48);
     }
-    Practice::Written(write_lines(seed, lines, out))
+    Writing::Written(write_lines(seed, lines, out))
 }

@@ -1,9 +1,10 @@
-// Practice sheets in lent buffers that are exactly long enough, too short, and longer, all full of dots. Each case on standard input is a seed,
-// a number of lines and the length of the buffer. Printed are the answer and the whole buffer.
+// Practice sheets in lent buffers that are exactly long enough, too short, and longer, all full of
+// dots. Each case on standard input is a seed, a number of lines and the length of the buffer.
+// Printed are the answer and the whole buffer.
 use frames::Number;
 use frames::read_up_to;
 use libc::STDOUT_FILENO;
-use practice::Practice;
+use text::Writing;
 
 const ROOM: usize = 2048;
 
@@ -15,13 +16,13 @@ fn write_number(n: u64) {
     io::print_decimal(STDOUT_FILENO, n);
 }
 
-fn write_answer(answer: Practice) {
+fn write_answer(answer: Writing) {
     match answer {
-        Practice::Written(n) => {
+        Writing::Written(n) => {
             write(b"written ");
             write_number(n as u64);
         }
-        Practice::Refused(n) => {
+        Writing::Refused(n) => {
             write(b"refused ");
             write_number(n as u64);
         }

@@ -9,8 +9,8 @@ use Rattle.practice.proofs.write_expression.Reads as write-expression
 use Rattle.practice.proofs.write_expression.Kinds as kinds
 use Rattle.practice.proofs.+write_expression.Lts-write_expression as lts
 use Rattle.practice.proofs.draw.next.Reads as next-reads
-use Rattle.practice.proofs.emit.write_byte.Reads as write-byte-reads
-use Rattle.practice.proofs.emit.write_text.Reads as write-text-reads
+use Rattle.text.proofs.write_byte.Reads as write-byte-reads
+use Rattle.text.proofs.write_text.Reads as write-text-reads
 use Rattle.practice.proofs.write_leaf.Reads as write-leaf-reads
 use Rattle.practice.proofs.+write_expression.{statement}
 use Rattle.practice.proofs.+write_expression.Tie.{close}
