@@ -115,6 +115,19 @@ uint32_t purple_garden_same_shape(const uint8_t *script, size_t script_len,
                                   const uint32_t *roots2, size_t roots2_len,
                                   const uint32_t counts2[6], uint64_t same[1]);
 
+/* Practice sheets. */
+
+/* The most lines of a sheet, and a buffer that is always long enough: 118 bytes a line. */
+#define PURPLE_GARDEN_PRACTICE_LINES 16
+#define PURPLE_GARDEN_PRACTICE_BYTES 1888
+
+/* The practice sheet of a seed: `out` gets `lines` lines of ASCII, each with its line feed, and keeps
+ * what lies behind them; `length` gets the sheet's length in bytes. There is no zero byte at the end.
+ * 47, over 16 lines, tested first; 48, a buffer that is too short for the sheet: nothing changed,
+ * `length` neither. Strict reading accepts every sheet, with one root for each line. */
+uint32_t purple_garden_practice(uint32_t seed, uint32_t lines, uint8_t *out, size_t out_len,
+                                uint64_t length[1]);
+
 #ifdef __cplusplus
 }
 #endif

@@ -1,4 +1,5 @@
 // The reader for programs in other languages: readings, lookups and comparison on numbers and slices.
+mod practice_sheet;
 mod texts;
 
 use ast::diagnostic::Position;
