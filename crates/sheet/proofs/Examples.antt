@@ -15,8 +15,8 @@ script = bytes "let x = 1" ++ (10 ∷ bytes "let y 2")
 
 two-errors : sheetOf script (11 ∷ 16 ∷ 1 ∷ 9 ∷ 24 ∷ 18 ∷ 4 ∷ 1 ∷ 0 ∷ 20 ∷ [])
     ≡ answer ((bytes "    2     7 11 expected '=', but found a whole number                   " ++ (10 ∷ []))
-    ++ (bytes "    1     5 18 a match needs a block without a condition, its default; t" ++ (10 ∷ []))
-    ++ (bytes "               his one begins with '{'                                  " ++ (10 ∷ [])))
+    ++ (bytes "    1     5 18 a match needs a default, a block without a condition; thi" ++ (10 ∷ []))
+    ++ (bytes "               s match opens with '{'                                   " ++ (10 ∷ [])))
 unfolding script sheetOf upTo entry body pieces heading right number digits bytes placeAt placeOf feeds since words hasWords isScriptError isWanted isSeen isKind line details phrase phrases kindName kindNames butFound
 two-errors = refl
 

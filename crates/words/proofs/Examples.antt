@@ -16,7 +16,7 @@ unfolding words hasWords isScriptError isWanted isSeen isKind line details phras
 equal-wanted = refl
 
 -- `match {}`
-no-default : words (error 18 6 1 0 20) ≡ some (bytes "a match needs a block without a condition, its default; this one begins with '{'")
+no-default : words (error 18 6 1 0 20) ≡ some (bytes "a match needs a default, a block without a condition; this match opens with '{'")
 unfolding words hasWords isScriptError isWanted isSeen isKind line details phrase phrases kindName kindNames butFound bytes
 no-default = refl
 

@@ -17,25 +17,25 @@ use Rattle.text.specs.Answer.{Result, refuse, inFront}
 unfoldable pub phrases : List (List ℕ)
 phrases =
     [] ∷ [] ∷ [] ∷ [] ∷ [] ∷ [] ∷ [] ∷ [] ∷ [] ∷ [] ∷
-    bytes "the nesting is too deep, 128 levels are the most; the next would begin at " ∷
+    bytes "more than 128 levels inside one another are not allowed; level 129 would begin at " ∷
     bytes "expected " ∷
-    bytes "a name must stand here, but found " ∷
-    bytes "the script ends with nothing left to document, yet here stands " ∷
-    bytes "only a let, fn or extern can be documented, so there is no place here for " ∷
-    bytes "an import path must be a string, but found " ∷
-    bytes "after extern there must be a string, but found " ∷
-    bytes "an extern cannot stand inside another extern, but found " ∷
-    bytes "a match needs a block without a condition, its default; this one begins with " ∷
-    bytes "an expression must stand here, but found " ∷
-    bytes "the name of a type must stand inside Foreign<>, but found " ∷
-    bytes "a type must stand inside Option<>, but found " ∷
-    bytes "a type must stand inside Array<>, but found " ∷
-    bytes "a type must stand here, but found " ∷
+    bytes "a name must stand here, not " ∷
+    bytes "a #! comment describes the let, fn or extern after it, but the script ends after " ∷
+    bytes "a #! comment describes the let, fn or extern after it, but something else comes after " ∷
+    bytes "an import path must be a string, not " ∷
+    bytes "extern must be followed by a string, not " ∷
+    bytes "an extern cannot stand inside another extern, but here is " ∷
+    bytes "a match needs a default, a block without a condition; this match opens with " ∷
+    bytes "an expression must stand here, not " ∷
+    bytes "Foreign< must be followed by a name, not " ∷
+    bytes "Option< must be followed by a type, not " ∷
+    bytes "Array< must be followed by a type, not " ∷
+    bytes "a type must stand here, not " ∷
     [] ∷ [] ∷ [] ∷ [] ∷ [] ∷ [] ∷ [] ∷
     bytes "this string has no closing quote" ∷
-    bytes "this text is not valid UTF-8" ∷
+    bytes "this text has bytes that form no character; it must be valid UTF-8" ∷
     bytes "this character is not part of the language; its byte in hexadecimal is " ∷
-    bytes "this number is not valid, for it has a second dot" ∷
+    bytes "a number can have only one dot, and this one has more" ∷
     []
 
 unfoldable pub phrase : ℕ → List ℕ
@@ -47,7 +47,7 @@ kindNames =
     [] ∷ bytes "the end of the script" ∷ bytes "'('" ∷ bytes "')'" ∷ bytes "'+'" ∷ bytes "'-'" ∷ bytes "'*'" ∷ bytes "'/'" ∷ bytes "'%'" ∷
     bytes "'='" ∷ bytes "'=='" ∷ bytes "'<'" ∷ bytes "'>'" ∷ bytes "'!'" ∷ bytes "'!='" ∷ bytes "'?'" ∷ bytes "':'" ∷ bytes "'.'" ∷ bytes "'['" ∷
     bytes "']'" ∷ bytes "'{'" ∷ bytes "'}'" ∷ bytes "a string" ∷ bytes "a number with a dot" ∷ bytes "a whole number" ∷ bytes "a name" ∷
-    bytes "a doc comment" ∷ bytes "the word 'import'" ∷ bytes "the word 'extern'" ∷ bytes "the word 'let'" ∷ bytes "the word 'fn'" ∷
+    bytes "a #! comment" ∷ bytes "the word 'import'" ∷ bytes "the word 'extern'" ∷ bytes "the word 'let'" ∷ bytes "the word 'fn'" ∷
     bytes "the word 'match'" ∷ bytes "the word 'as'" ∷ bytes "the word 'true'" ∷ bytes "the word 'false'" ∷ bytes "the word 'Str'" ∷
     bytes "the word 'Int'" ∷ bytes "the word 'Double'" ∷ bytes "the word 'Bool'" ∷ bytes "the word 'Void'" ∷ bytes "the word 'Option'" ∷
     bytes "the word 'Array'" ∷ bytes "the word 'Foreign'" ∷ bytes "the word 'Record'" ∷ []

@@ -14,25 +14,25 @@ ghost use Rattle.words.specs.Words.{phrase, kindName, hexDigit, hex, det
 pub const MAX_LINE: usize = 160;
 
 // The phrases of the error numbers, one after the other.
-const PHRASES: [u8; 879] = *b"\
-the nesting is too deep, 128 levels are the most; the next would begin at \
+const PHRASES: [u8; 903] = *b"\
+more than 128 levels inside one another are not allowed; level 129 would begin at \
 expected \
-a name must stand here, but found \
-the script ends with nothing left to document, yet here stands \
-only a let, fn or extern can be documented, so there is no place here for \
-an import path must be a string, but found \
-after extern there must be a string, but found \
-an extern cannot stand inside another extern, but found \
-a match needs a block without a condition, its default; this one begins with \
-an expression must stand here, but found \
-the name of a type must stand inside Foreign<>, but found \
-a type must stand inside Option<>, but found \
-a type must stand inside Array<>, but found \
-a type must stand here, but found \
+a name must stand here, not \
+a #! comment describes the let, fn or extern after it, but the script ends after \
+a #! comment describes the let, fn or extern after it, but something else comes after \
+an import path must be a string, not \
+extern must be followed by a string, not \
+an extern cannot stand inside another extern, but here is \
+a match needs a default, a block without a condition; this match opens with \
+an expression must stand here, not \
+Foreign< must be followed by a name, not \
+Option< must be followed by a type, not \
+Array< must be followed by a type, not \
+a type must stand here, not \
 this string has no closing quote\
-this text is not valid UTF-8\
+this text has bytes that form no character; it must be valid UTF-8\
 this character is not part of the language; its byte in hexadecimal is \
-this number is not valid, for it has a second dot";
+a number can have only one dot, and this one has more";
 
 // Where the phrase of each number begins, from 0 on; the next one's beginning is its end.
 const PHRASE_BOUNDS: [usize; 36] = [
@@ -47,35 +47,35 @@ const PHRASE_BOUNDS: [usize; 36] = [
     0,
     0,
     0,
-    74,
-    83,
-    117,
-    180,
-    254,
-    297,
-    344,
-    400,
-    477,
-    518,
-    576,
-    621,
-    665,
-    699,
-    699,
-    699,
-    699,
-    699,
-    699,
-    699,
-    699,
-    731,
-    759,
-    830,
-    879,
+    82,
+    91,
+    119,
+    200,
+    286,
+    323,
+    364,
+    422,
+    498,
+    533,
+    574,
+    614,
+    653,
+    681,
+    681,
+    681,
+    681,
+    681,
+    681,
+    681,
+    681,
+    713,
+    779,
+    850,
+    903,
 ];
 
 // The names of the kinds, one after the other.
-const KIND_NAMES: [u8; 407] = *b"\
+const KIND_NAMES: [u8; 406] = *b"\
 the end of the script\
 '('\
 ')'\
@@ -101,7 +101,7 @@ a string\
 a number with a dot\
 a whole number\
 a name\
-a doc comment\
+a #! comment\
 the word 'import'\
 the word 'extern'\
 the word 'let'\
@@ -149,24 +149,24 @@ const KIND_BOUNDS: [usize; 45] = [
     110,
     124,
     130,
-    143,
-    160,
-    177,
-    191,
-    204,
-    220,
-    233,
-    248,
-    264,
-    278,
-    292,
-    309,
-    324,
-    339,
-    356,
-    372,
-    390,
-    407,
+    142,
+    159,
+    176,
+    190,
+    203,
+    219,
+    232,
+    247,
+    263,
+    277,
+    291,
+    308,
+    323,
+    338,
+    355,
+    371,
+    389,
+    406,
 ];
 
 fn write_phrase(number: u32, out: &mut [u8], at: usize) -> usize
