@@ -1,4 +1,4 @@
--- What holds of all lines, and the laws that the functions' proofs cite.
+-- What holds of all lines, the laws that the functions' proofs cite, and that every error of a reading has words.
 pub mod Tables
 pub mod Forms
 pub mod Lines
@@ -6,3 +6,6 @@ pub mod Apart
 pub mod Parts
 pub mod Examples
 pub mod Callers
+pub mod Errors
+pub mod Faults
+pub mod Readings

@@ -104,6 +104,16 @@ isSeen number seen = elim (leb number 23) [ true ↦ isKind seen | false ↦ eli
 unfoldable pub hasWords : Diagnostic → Bool
 hasWords e = (isScriptError (e .number) && isWanted (e .number) (e .wanted)) && isSeen (e .number) (e .seen)
 
+-- an error's five numbers, in the order of 01
+abbrev pub errorOf : List ℕ → Diagnostic
+errorOf cells = record {
+  number = getD cells 0 0;
+  start = getD cells 1 0;
+  len = getD cells 2 0;
+  wanted = getD cells 3 0;
+  seen = getD cells 4 0;
+}
+
 unfoldable pub words : Diagnostic → Option (List ℕ)
 words e = elim (hasWords e) [ true ↦ some (line e) | false ↦ none ]
 
