@@ -128,6 +128,18 @@ uint32_t purple_garden_same_shape(const uint8_t *script, size_t script_len,
 uint32_t purple_garden_practice(uint32_t seed, uint32_t lines, uint8_t *out, size_t out_len,
                                 uint64_t length[1]);
 
+/* ---- errors in words */
+
+/* The least length of the buffer for a line of words, in bytes. */
+#define PURPLE_GARDEN_LINE_BYTES 160
+
+/* The words of an error, given as its five numbers in the order of `diagnostics`; docs/WORDS.md has
+ * the table. `line` gets them, with no zero and no line feed, and keeps what it held behind them;
+ * `length` gets their bytes. The span is not looked at. Every error of a reading has words.
+ *   41: the buffer has fewer than 160 bytes. 42: the numbers are no error of a script. With both
+ *   nothing changes. */
+uint32_t purple_garden_describe(const uint32_t error[5], uint8_t *line, size_t line_len, uint64_t length[1]);
+
 #ifdef __cplusplus
 }
 #endif

@@ -108,30 +108,25 @@ impl Diagnostic {
     }
 }
 
+impl Diagnostic {
+    /// What is wrong in words, as docs/WORDS.md has them; nothing for numbers that no reading gives.
+    pub fn words(&self) -> Option<String> {
+        let wanted = match self.problem {
+            Problem::ExpectedToken(kind) => kind.number(),
+            _ => 0,
+        };
+        let seen = match self.problem {
+            Problem::UnknownCharacter(byte) => byte.into(),
+            _ => self.seen.map_or(0, Kind::number),
+        };
+        ffi::describe(&[self.problem.number(), 0, 0, wanted, seen]).ok()
+    }
+}
+
 impl fmt::Display for Diagnostic {
     fn fmt(&self, f: &mut fmt::Formatter<'_>) -> fmt::Result {
-        let seen = self.seen.map(|kind| kind.to_string()).unwrap_or_default();
-        write!(f, "line {}, column {}: error {}: ", self.line, self.column, self.problem.number())?;
-        match self.problem {
-            Problem::TooDeep => write!(f, "nested more than 128 levels deep"),
-            Problem::ExpectedToken(wanted) => write!(f, "expected {wanted}, found {seen}"),
-            Problem::ExpectedIdentifier => write!(f, "expected a name, found {seen}"),
-            Problem::DocsAttachedToNothing => write!(f, "docs that are attached to nothing"),
-            Problem::DocsBeforeSomethingElse => write!(f, "docs before something other than let, fn, extern or import"),
-            Problem::ImportPathNotAString => write!(f, "expected a string as import path, found {seen}"),
-            Problem::ExternWithoutAString => write!(f, "expected a string after `extern`, found {seen}"),
-            Problem::NestedExtern => write!(f, "`extern` inside of `extern`"),
-            Problem::MatchWithoutADefault => write!(f, "a match without a default"),
-            Problem::ExpectedExpression => write!(f, "expected an expression, found {seen}"),
-            Problem::EmptyForeign => write!(f, "nothing inside of `Foreign<`"),
-            Problem::EmptyOption => write!(f, "nothing inside of `Option<`"),
-            Problem::EmptyArray => write!(f, "nothing inside of `Array<`"),
-            Problem::BadType => write!(f, "expected a type, found {seen}"),
-            Problem::UnterminatedString => write!(f, "a string without its closing quote"),
-            Problem::InvalidUtf8 => write!(f, "bytes that are not UTF-8"),
-            Problem::UnknownCharacter(byte) => write!(f, "a byte that begins no token: {}", [byte].escape_ascii()),
-            Problem::InvalidNumber => write!(f, "a number with two dots"),
-        }
+        write!(f, "line {}, column {}: error {}", self.line, self.column, self.problem.number())?;
+        self.words().map_or(Ok(()), |words| write!(f, ": {words}"))
     }
 }
 

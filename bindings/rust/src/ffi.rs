@@ -66,6 +66,7 @@ extern "C" {
     ) -> u32;
     fn purple_garden_token_span(script: *const u8, script_len: usize, kind: u32, start: usize, len: usize, span: *mut [u64; 2]) -> u32;
     fn purple_garden_line_column(script: *const u8, script_len: usize, at: u32, place: *mut [u64; 2]) -> u32;
+    fn purple_garden_describe(error: *const [u32; 5], line: *mut u8, line_len: usize, length: *mut [u64; 1]) -> u32;
     fn purple_garden_same_shape(
         script: *const u8,
         script_len: usize,
@@ -295,4 +296,12 @@ pub fn line_column(script: &[u8], at: usize) -> Result<(usize, usize), u32> {
     // SAFETY: the pointer comes with its length; two cells for the answer.
     let number = unsafe { purple_garden_line_column(script.as_ptr(), script.len(), at, &mut place) };
     answered(number, (place[0] as usize, place[1] as usize))
+}
+
+/// The words of an error of five numbers.
+pub fn describe(error: &[u32; 5]) -> Result<String, u32> {
+    let (mut line, mut length) = ([0; 160], [0]);
+    // SAFETY: five numbers, the line's pointer comes with its length; one cell for the answer.
+    let number = unsafe { purple_garden_describe(error, line.as_mut_ptr(), line.len(), &mut length) };
+    answered(number, String::from_utf8_lossy(&line[..length[0] as usize]).into_owned())
 }

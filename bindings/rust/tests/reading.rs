@@ -96,7 +96,7 @@ fn errors() {
     assert_eq!(problem("let 1 let x = 2"), (12, 4..5, Kind::I));
     assert_eq!(problem(&format!("{}a{}", "(".repeat(127), ")".repeat(127))), (10, 127..128, Kind::Ident));
     let error = Tree::parse("let x = 1\nfn f(").unwrap_err();
-    assert_eq!(error.to_string(), "line 2, column 6: error 11: expected `)`, found the end of the script");
+    assert_eq!(error.to_string(), "line 2, column 6: error 11: expected ')', but found the end of the script");
     let Error::Script(d) = error else { panic!("{error:?}") };
     assert_eq!(d.problem, Problem::ExpectedToken(Kind::BraceRight));
 }
@@ -111,6 +111,26 @@ fn every_problem_has_its_number() {
         assert_eq!(problem(script).0, number, "{script}");
         assert!(Tree::parse(script).unwrap_err().to_string().contains(&format!("error {number}: ")));
     }
+}
+
+/// The words of docs/WORDS.md for an error of each form: a kind, two kinds, a byte, nothing.
+#[test]
+fn words() {
+    let gathered = |script: &[u8]| {
+        let tree = Tree::parse_collect(script).unwrap_or_else(|e| panic!("{e}"));
+        tree.diagnostics().map(|d| d.words().expect("words")).collect::<Vec<_>>()
+    };
+    assert_eq!(gathered(b"let 1"), ["a name must stand here, not a whole number"]);
+    assert_eq!(gathered(b"let x 1"), ["expected '=', but found a whole number"]);
+    assert_eq!(gathered(b"\xfe"), ["this character is not part of the language; its byte in hexadecimal is FE"]);
+    assert_eq!(gathered(b"\"x"), ["this string has no closing quote"]);
+    assert_eq!(gathered(b"1.2.3"), ["a number can have only one dot, and this one has more"]);
+    let comment = "a #! comment describes the let, fn or extern after it, but ";
+    assert_eq!(gathered(b"#! d"), [comment.to_string() + "the script ends after a #! comment"]);
+    assert_eq!(gathered(b"#! d\na"), [comment.to_string() + "something else comes after a #! comment"]);
+    let Err(Error::Script(mut d)) = Tree::parse("let 1") else { panic!() };
+    d.seen = None;
+    assert_eq!((d.words(), d.to_string().as_str()), (None, "line 1, column 5: error 12"));
 }
 
 /// The tree and what was gathered: number, span, and kind or byte.
@@ -128,7 +148,11 @@ fn collecting() {
     assert_eq!(collected(b"1.2.3 \"x").1, [(34, 0..5), (31, 6..8)]);
     let tree = Tree::parse_collect("$").unwrap();
     let d = tree.diagnostics().next().unwrap();
-    assert_eq!((d.problem, d.seen, d.to_string().as_str()), (Problem::UnknownCharacter(36), None, "line 1, column 1: error 33: a byte that begins no token: $"));
+    assert_eq!((d.problem, d.seen), (Problem::UnknownCharacter(36), None));
+    assert_eq!(
+        d.to_string(),
+        "line 1, column 1: error 33: this character is not part of the language; its byte in hexadecimal is 24"
+    );
     assert!(Tree::parse("$").unwrap().diagnostics().next().is_none());
     let deep = "(".repeat(127);
     let Err(Error::Script(d)) = Tree::parse_collect(deep) else { panic!() };
