@@ -9,7 +9,7 @@ ghost use Prim.Native.Nat.{_≤_};
 ghost use lib.ListN.{length};
 ghost use Rattle.rules.specs.Shape.{wellFormed};
 ghost use Rattle.ast.specs.Span.{spanOf, tokenSpan, spanAnswer};
-ghost use Rattle.ast.specs.Position.{placeOf, placeAt, positionAnswer};
+ghost use Rattle.ast.specs.Position.{onward, goesOn, advanced, placeAt, positionAnswer};
 
 pub struct Span {
     pub start: usize,
@@ -78,16 +78,22 @@ pub enum Position {
 
 const LINE_FEED: u8 = 10;
 
-// The place after some bytes.
-fn place_after(before: &[u8]) -> Place
-    requires { ⌜ length (now before) ≤ 65536 ⌝ }
-    ensures { λ r. ⌜ r ≡ placeOf (now (before .entry)) ⌝ }
+// The greatest line and the greatest column of a script that is not too long.
+const MAX_PLACE: u32 = 65537;
+
+// The place behind some bytes, from the place before them.
+fn place_after(before: Place, bytes: &[u8]) -> Place
+    requires { ⌜ (1 ≤ before .column)
+        × (before .column ≤ 65537)
+        × (before .line ≤ 65537)
+        × (length (now bytes) ≤ 65536) ⌝ }
+    ensures { λ r. ⌜ r ≡ onward before (now (bytes .entry)) ⌝ }
 {
     let mut feeds: u32 = 0;
-    let mut since: u32 = 0;
+    let mut since: u32 = before.column - 1;
     let mut i = 0;
-    while i < before.len() {
-        if before[i] == LINE_FEED {
+    while i < bytes.len() {
+        if bytes[i] == LINE_FEED {
             feeds += 1;
             since = 0;
         } else {
@@ -96,21 +102,49 @@ fn place_after(before: &[u8]) -> Place
         i += 1;
     }
     Place {
-        line: 1 + feeds,
+        line: before.line + feeds,
         column: 1 + since,
     }
+}
+
+// The walk to `to` goes on from `known`, the place of `from`.
+fn goes_on(from: u32, known: Place, to: u32) -> bool
+    ensures { λ r. ⌜ r ≡ goesOn from known to ⌝ }
+{
+    if to < from {
+        return false;
+    }
+    if known.column < 1 {
+        return false;
+    }
+    if MAX_PLACE < known.column {
+        return false;
+    }
+    known.line <= MAX_PLACE
+}
+
+// The line and column of the position `to`. Where `known` is the place of `from`, only the bytes
+// between the two are gone through; where `to` lies before `from`, all before `to`.
+pub fn advance(script: &[u8], from: u32, known: Place, to: u32) -> Position
+    ensures { λ r. ⌜ positionAnswer r ≡ advanced (now (script .entry)) from known to ⌝ }
+{
+    if Parsed::MAX_BYTES < script.len() {
+        return Position::Refused(1);
+    }
+    let n = to as usize;
+    if script.len() < n {
+        return Position::Refused(3);
+    }
+    if goes_on(from, known, to) {
+        let start = from as usize;
+        return Position::At(place_after(known, &script[start..n]));
+    }
+    Position::At(place_after(Place { line: 1, column: 1 }, &script[..n]))
 }
 
 // The line and column of the position `at`, both from 1 on.
 pub fn line_column(script: &[u8], at: u32) -> Position
     ensures { λ r. ⌜ positionAnswer r ≡ placeAt (now (script .entry)) at ⌝ }
 {
-    if Parsed::MAX_BYTES < script.len() {
-        return Position::Refused(1);
-    }
-    let n = at as usize;
-    if script.len() < n {
-        return Position::Refused(3);
-    }
-    Position::At(place_after(&script[..n]))
+    advance(script, 0, Place { line: 1, column: 1 }, at)
 }
