@@ -20,7 +20,7 @@ unfolding cut
 cut-blanks zero = refl
 cut-blanks (suc n) = ap (cutCons 32) (cut-blanks n)
 
-cut-back : (w : List ℕ) (n : ℕ) → (lastByte 32 w ≡ 32 → ⊥) → cut (w ++ blanks n) ≡ w
+pub cut-back : (w : List ℕ) (n : ℕ) → (lastByte 32 w ≡ 32 → ⊥) → cut (w ++ blanks n) ≡ w
 unfolding cut lastByte
 cut-back [] n h = absurd (h refl)
 cut-back (b ∷ []) n h = ap (cutCons b) (cut-blanks n) ∙ rw (ne-eqb b 32 h, cutCons)
@@ -29,17 +29,17 @@ cut-back (b ∷ c ∷ cs) n h = ap (cutCons b) (cut-back (c ∷ cs) n h)
 -- ---- the pieces
 
 -- how many blanks the last one is padded with
-abbrev padding : ℕ → List ℕ → ℕ
+abbrev pub padding : ℕ → List ℕ → ℕ
 padding zero w = 0
 padding (suc fuel) w = elim (leb (length w) 57) [ true ↦ 57 - length w | false ↦ padding fuel (drop 57 w) ]
 
 module _ (front piece rest : List ℕ) (f : length front ≡ 15) (p : length piece ≡ 57) where
   -- places 16 to 72 of the first line
-  first-piece : take 57 (drop 15 (front ++ (piece ++ rest))) ≡ piece
+  pub first-piece : take 57 (drop 15 (front ++ (piece ++ rest))) ≡ piece
   first-piece = ap (take 57) (drop-at front (piece ++ rest) 15 f) ∙ take-at piece rest 57 p
 
   -- what stands behind them
-  behind-piece : drop 72 (front ++ (piece ++ rest)) ≡ rest
+  pub behind-piece : drop 72 (front ++ (piece ++ rest)) ≡ rest
   behind-piece = sym (drop-drop 57 15 (front ++ (piece ++ rest))) ∙ ap (drop 57) (drop-at front (piece ++ rest) 15 f) ∙ drop-at piece rest 57 p
 
 joined-pieces : (fuel : ℕ) (front w : List ℕ) → length front ≡ 15 → length w < fuel → joined (lineCount fuel w) (front ++ pieces fuel w) ≡ w ++ blanks (padding fuel w)

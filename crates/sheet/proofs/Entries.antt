@@ -3,7 +3,7 @@
 use mathlib.Core.Path.{_≡_, refl, sym, _∙_, ap}
 use mathlib.Core.Bool.{Bool, true, false}
 use mathlib.Core.Option.{Option, none, some}
-use mathlib.Core.List.{List, _++_}
+use mathlib.Core.List.{List, [], _++_}
 use Prim.Native.Nat.{ℕ, zero, suc, _+_, _-_, _*_, _<_, _≤_}
 use native.Mathlib.Omega.{arith}
 use lib.Dec.{leb, ltb}
@@ -18,9 +18,9 @@ use Rattle.ast.proofs.Position.{place-outside, place-inside}
 use Rattle.words.specs.Words.{words, printable}
 use Rattle.words.proofs.Forms.{worded, script-error-small, script-error-two-digits}
 use Rattle.words.proofs.Lines.{is-line}
-use Rattle.sheet.specs.Sheet.{heading, body, entry, wordsIn}
-use Rattle.sheet.specs.Count.{sized}
-use Rattle.sheet.proofs.Length.{heading-length, near, lineCount, pieces-length}
+use Rattle.sheet.specs.Sheet.{heading, body, entry, wordsIn, blank}
+use Rattle.sheet.specs.Count.{sized, textIn, linesAt}
+use Rattle.sheet.proofs.Length.{heading-length, heading-seen, near, lineCount, pieces-length}
 use Rattle.sheet.proofs.Back.{words-back}
 use Rattle.sheet.proofs.Rows.{InLines, printable-heading, lines-of}
 
@@ -41,6 +41,32 @@ module _ (script : List ℕ) (e : Diagnostic) where
 
     pub entry-placed : {q : Place} → placeAt script (e .start) ≡ answer q → entry script e ≡ answer (heading q (e .number) ++ body w)
     entry-placed q = rw q at entry-at-place
+
+-- ---- the lines at a place
+
+module _ (p : Place) (e : Diagnostic) where
+  pub lines-wordless : words e ≡ none → linesAt p e ≡ []
+  unfolding linesAt
+  lines-wordless q = rw (q, linesAt)
+
+  pub lines-worded : {w : List ℕ} → words e ≡ some w → linesAt p e ≡ heading p (e .number) ++ body w
+  unfolding linesAt
+  lines-worded q = rw (q, linesAt)
+
+module _ (script : List ℕ) (e : Diagnostic) where
+  pub entry-nowhere : {n : ℕ} → placeAt script (e .start) ≡ refused n → textIn (entry script e) ≡ []
+  entry-nowhere {n} q = go (words e) refl
+    where
+      go : (o : Option (List ℕ)) → words e ≡ o → textIn (entry script e) ≡ []
+      go none p = ap textIn (entry-wordless script e p)
+      go (some w) p = ap textIn (entry-refused script e p q)
+
+  pub entry-at : {q : Place} → placeAt script (e .start) ≡ answer q → textIn (entry script e) ≡ linesAt q e
+  entry-at {q} h = go (words e) refl
+    where
+      go : (o : Option (List ℕ)) → words e ≡ o → textIn (entry script e) ≡ linesAt q e
+      go none p = ap textIn (entry-wordless script e p) ∙ sym (lines-wordless q e p)
+      go (some w) p = ap textIn (entry-placed script e p h) ∙ sym (lines-worded q e p)
 
 -- ---- an error that is not refused
 
@@ -137,6 +163,27 @@ entry-lines script e t small q = go (words e) refl
         let a : answer t ≡ answer (front script e w small p ++ body w) = sym q ∙ entry-inside script e w small p inside in
         let b : t ≡ front script e w small p ++ body w = cc in
         rw b (record { count = lineCount (suc (length w)) w; holds = lines-of (suc (length w)) (front script e w small p) w (front-length script e w small p) (front-ascii script e w small p) (is-line e w p .ascii) (omega arith) })
+
+-- ---- what the lines of an error are made of
+
+pub record Made (e : Diagnostic) (t : List ℕ) : Type 0 where
+  pub front : List ℕ
+  pub text : List ℕ
+  pub is : t ≡ front ++ body text
+  pub size : length front ≡ 15
+  pub seen : blank front ≡ false
+  pub there : words e ≡ some text
+
+pub made : (script : List ℕ) (e : Diagnostic) (t : List ℕ) → length script ≤ maxBytes → entry script e ≡ answer t → Made e t
+unfolding front
+made script e t small q = go (words e) refl
+  where
+    go : (o : Option (List ℕ)) → words e ≡ o → Made e t
+    go none p = absurd (let b : refused 42 ≡ answer t = sym (entry-wordless script e p) ∙ q in let z : _≡_ {A = ℕ} 0 1 = cc in omega arith)
+    go (some w) p =
+        let inside = inside-of script e w t small p q in
+        let a : answer t ≡ answer (front script e w small p ++ body w) = sym q ∙ entry-inside script e w small p inside in
+        record { front = front script e w small p; text = w; is = cc; size = front-length script e w small p; seen = heading-seen (placeOf (take (e .start) script)) (e .number); there = p }
 
 -- ---- no error takes more than three lines
 

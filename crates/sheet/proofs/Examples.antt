@@ -1,24 +1,33 @@
--- A sheet of two errors, computed; refusals and their order.
+-- A margin and lines of words, computed; refusals and their order.
 -- Assumes nothing.
 use mathlib.Core.Path.{_≡_, refl}
 use mathlib.Core.List.{List, [], _∷_, _++_}
 use Prim.Native.Nat.{ℕ}
+use lib.ListN.{take}
 use Rattle.ast.specs.Answer.{refused, answer}
 use Rattle.ast.specs.Position.{feeds, since, placeOf, placeAt}
 use Rattle.text.specs.Text.{bytes, digits, number}
-use Rattle.words.specs.Words.{phrases, phrase, kindNames, kindName, butFound, details, line, isKind, isScriptError, isWanted, isSeen, hasWords, words}
+use Rattle.words.specs.Words.{isKind, isScriptError, isWanted, isSeen, hasWords, words}
 use Rattle.sheet.specs.Sheet.{right, heading, pieces, body, entry, upTo, sheetOf}
 
--- `let x = 1`, a line feed, `let y 2` has 11 at 16; and a match without a default is made up at 4
+-- two lines; position 16 is the `2` at the end of the second
 script : List ℕ
 script = bytes "let x = 1" ++ (10 ∷ bytes "let y 2")
 
-two-errors : sheetOf script (11 ∷ 16 ∷ 1 ∷ 9 ∷ 24 ∷ 18 ∷ 4 ∷ 1 ∷ 0 ∷ 20 ∷ [])
-    ≡ answer ((bytes "    2     7 11 expected '=', but found a whole number                   " ++ (10 ∷ []))
-    ++ (bytes "    1     5 18 a match needs a default, a block without a condition; thi" ++ (10 ∷ []))
-    ++ (bytes "               s match opens with '{'                                   " ++ (10 ∷ [])))
-unfolding script sheetOf upTo entry body pieces heading right number digits bytes placeAt placeOf feeds since words hasWords isScriptError isWanted isSeen isKind line details phrase phrases kindName kindNames butFound
-two-errors = refl
+-- places 1 to 15
+places : heading (placeOf (take 16 script)) 11 ≡ bytes "    2     7 11 "
+unfolding script heading right number digits bytes placeOf feeds since
+places = refl
+
+-- words of 57 bytes fill their line
+full-line : body (bytes "aaaaaaaaaa bbbbbbbbbbbbbbbbbbbbbbbbbbbbbbbbbbbbbbbbbbbbbb") ≡ bytes "aaaaaaaaaa bbbbbbbbbbbbbbbbbbbbbbbbbbbbbbbbbbbbbbbbbbbbbb" ++ (10 ∷ [])
+unfolding body pieces bytes
+full-line = refl
+
+-- a byte more stands at place 16 of the next line, and is padded
+two-lines : body (bytes "aaaaaaaaaa bbbbbbbbbbbbbbbbbbbbbbbbbbbbbbbbbbbbbbbbbbbc de") ≡ (bytes "aaaaaaaaaa bbbbbbbbbbbbbbbbbbbbbbbbbbbbbbbbbbbbbbbbbbbc d" ++ (10 ∷ [])) ++ (bytes "               e                                                        " ++ (10 ∷ []))
+unfolding body pieces bytes
+two-lines = refl
 
 -- each error in turn: the first has no words, the second would start past the end
 first-refusal : sheetOf script (24 ∷ 99 ∷ 1 ∷ 0 ∷ 1 ∷ 31 ∷ 99 ∷ 1 ∷ 0 ∷ 0 ∷ []) ≡ refused 42

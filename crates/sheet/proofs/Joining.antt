@@ -58,14 +58,14 @@ module _ (f : ℕ → Answer (List ℕ)) where
       go false e more = let l : i ≡ j = let k = ltb-false i j e in omega arith in ap (λ (x : ℕ). continue (upTo f x) (f x)) (sym l) ∙ sized-stop (upTo f i) (f i) p q
 
   -- not refused: each text is there
-  record Split (n : ℕ) (t : List ℕ) : Type 0 where
-    front : List ℕ
-    back : List ℕ
-    before : upTo f n ≡ answer front
-    here : f n ≡ answer back
-    is : front ++ back ≡ t
+  pub record Split (n : ℕ) (t : List ℕ) : Type 0 where
+    pub front : List ℕ
+    pub back : List ℕ
+    pub before : upTo f n ≡ answer front
+    pub here : f n ≡ answer back
+    pub is : front ++ back ≡ t
 
-  split : (n : ℕ) (t : List ℕ) → upTo f (suc n) ≡ answer t → Split n t
+  pub split : (n : ℕ) (t : List ℕ) → upTo f (suc n) ≡ answer t → Split n t
   unfolding upTo
   split n t p = go (upTo f n) (f n) refl refl
     where

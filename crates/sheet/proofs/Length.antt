@@ -7,13 +7,13 @@ use Prim.Native.Nat.{ℕ, zero, suc, _+_, _-_, _*_, _/_, _%_, _<_, _≤_}
 use native.Mathlib.Omega.{arith}
 use lib.Dec.{leb, ltb, eqb}
 use lib.ListN.{length, take, drop, length-append, length-take, length-drop, length-replicate}
-use borrow.Author.Tests.{leb-true, leb-false, ltb-true, ltb-false}
+use borrow.Author.Tests.{leb-true, leb-false, ltb-true, ltb-false, ne-eqb}
 use Rattle.rules.specs.Promise.{maxBytes}
 use Rattle.ast.specs.Position.{feeds, since, placeOf}
 use Rattle.ast.specs.declared.diagnostic.Place.{Place}
 use Rattle.text.specs.Text.{number}
 use Rattle.text.proofs.EmitLaws.{one-digit, more-digits}
-use Rattle.sheet.specs.Sheet.{blanks, right, heading, margin, pieces}
+use Rattle.sheet.specs.Sheet.{blanks, right, heading, margin, pieces, blank}
 
 -- ---- numbers in decimal
 
@@ -86,6 +86,43 @@ heading-length p n l c a b =
     let y = right-length (p .column) c in
     let z = digits-two n a b in
     omega arith
+
+-- ---- a heading is not blank
+
+blank-left : (a b : List ℕ) → blank a ≡ false → blank (a ++ b) ≡ false
+unfolding blank
+blank-left [] b h = absurd (let z : _≡_ {A = ℕ} 0 1 = cc in omega arith)
+blank-left (x ∷ a) b h = go (eqb x 32) refl (blank-left a b)
+  where
+    go : (t : Bool) → eqb x 32 ≡ t → (blank a ≡ false → blank (a ++ b) ≡ false) → blank (x ∷ (a ++ b)) ≡ false
+    go true e more = rw (e, blank) (more (rw (e, blank) at h))
+    go false e more = rw (e, blank)
+
+blank-right : (a b : List ℕ) → blank b ≡ false → blank (a ++ b) ≡ false
+unfolding blank
+blank-right [] b h = h
+blank-right (x ∷ a) b h = go (eqb x 32) refl (blank-right a b h)
+  where
+    go : (t : Bool) → eqb x 32 ≡ t → blank (a ++ b) ≡ false → blank (x ∷ (a ++ b)) ≡ false
+    go true e more = rw (e, blank) more
+    go false e more = rw (e, blank)
+
+digit-seen : (n : ℕ) → blank ((48 + n) ∷ []) ≡ false
+unfolding blank
+digit-seen n = rw (ne-eqb (48 + n) 32 (λ e. omega arith), blank)
+
+number-seen : (n : ℕ) → blank (number n) ≡ false
+number-seen n = go (ltb n 10) refl
+  where
+    go : (t : Bool) → ltb n 10 ≡ t → blank (number n) ≡ false
+    go true e = ap blank (sym (one-digit n (ltb-true n 10 e))) ∙ digit-seen n
+    go false e = ap blank (sym (more-digits n (ltb-false n 10 e))) ∙ blank-right (number (n / 10)) ((48 + n % 10) ∷ []) (digit-seen (n % 10))
+
+pub heading-seen : (p : Place) (n : ℕ) → blank (heading p n) ≡ false
+unfolding heading right
+heading-seen p n =
+    blank-left (right (number (p .line))) (blanks 1 ++ (right (number (p .column)) ++ (blanks 1 ++ (number n ++ blanks 1))))
+    (blank-right (blanks (5 - length (number (p .line)))) (number (p .line)) (number-seen (p .line)))
 
 -- ---- a place in a script that is not too long
 

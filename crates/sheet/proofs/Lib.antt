@@ -4,6 +4,7 @@ pub mod Back
 pub mod Rows
 pub mod Entries
 pub mod Joining
+pub mod Whole
 pub mod Writing
 pub mod Told
 pub mod Examples

@@ -1,11 +1,19 @@
--- What the code's own functions mean: how long a text is, and texts one behind the other.
+-- What the code's own functions mean: how long a text is, texts one behind the other, and how far a sheet is written.
+use mathlib.Core.Path.{_≡_}
+use mathlib.Core.Option.{none, some}
 use mathlib.Core.List.{List, [], _++_}
 use Prim.Native.Nat.{ℕ, zero, suc, _*_, _/_}
-use lib.ListN.{length}
+use lib.ListN.{length, take}
+use Rattle.lex.specs.declared.diagnostic.Diagnostic.{Diagnostic}
 use Rattle.ast.specs.Answer.{Answer, refused, answer}
+use Rattle.ast.specs.Position.{placeOf}
+use Rattle.ast.specs.declared.diagnostic.Place.{Place}
+use Rattle.text.specs.Emit.{Emits}
+use Rattle.words.specs.Words.{words}
 use Rattle.sheet.specs.declared.Counted.{Counted}
 use Rattle.sheet.specs.declared.Counted.the-variants as C
-use Rattle.sheet.specs.Sheet.{entry, errorAt}
+use Rattle.sheet.specs.declared.Progress.{Progress}
+use Rattle.sheet.specs.Sheet.{heading, body, entry, errorAt}
 
 -- the length of a text, or the refusal
 abbrev pub sized : Answer (List ℕ) → Answer ℕ
@@ -30,3 +38,16 @@ each text (suc n) = each text n ++ text n
 -- the lines of all errors; nothing for one that is refused
 abbrev pub textsOf : List ℕ → List ℕ → List ℕ
 textsOf script cells = each (λ i. textIn (entry script (errorAt cells i))) (length cells / 5)
+
+-- the lines of an error at a place; nothing where it has no words
+unfoldable pub linesAt : Place → Diagnostic → List ℕ
+linesAt p e = elim (words e) [ none ↦ [] | some w ↦ heading p (e .number) ++ body w ]
+
+-- `place` is that of `start`
+pub record Reached (script : List ℕ) (w : Progress) : Type 0 where
+  pub known : w .place ≡ placeOf (take (w .start) script)
+
+-- one more error is written: from `w` and `before` the code came to `r` and `after`
+pub record EntryWritten (script : List ℕ) (e : Diagnostic) (w : Progress) (before : List ℕ) (r : Progress) (after : List ℕ) : Type 0 where
+  pub emits : Emits (textIn (entry script e)) before (w .to) after (r .to)
+  pub reached : Reached script r

@@ -1,6 +1,6 @@
 -- The correction sheet: the errors of a paper by line and column, in words. A line has 72 bytes and a line feed.
 use mathlib.Core.Bool.{Bool, true, false, _&&_}
-use mathlib.Core.Option.{none, some}
+use mathlib.Core.Option.{Option, none, some}
 use mathlib.Core.List.{List, [], _∷_, _++_}
 use Prim.Native.Nat.{ℕ, zero, suc, _+_, _-_, _*_, _/_}
 use lib.Dec.{leb, ltb, eqb}
@@ -115,3 +115,36 @@ cut (b ∷ bs) = cutCons b (cut bs)
 -- cutting off the margins and the last padding and joining the pieces
 unfoldable pub wordsIn : List ℕ → List ℕ
 wordsIn t = cut (joined (length t / 73) t)
+
+-- ---- the words back from a whole sheet
+
+unfoldable pub blank : List ℕ → Bool
+blank [] = true
+blank (b ∷ bs) = eqb b 32 && blank bs
+
+-- what lines tell: the words of the errors that begin in them, and what is to go on from the line above
+pub record Gathered : Type 0 where
+  pub loose : List ℕ
+  pub errors : List (List ℕ)
+
+-- under a blank margin the words of the line above go on; under another an error begins, and its padding is cut off
+abbrev pub tell : Bool → List ℕ → List (List ℕ) → Gathered
+tell true more errors = record { loose = more; errors = errors }
+tell false more errors = record { loose = []; errors = cut more ∷ errors }
+
+unfoldable pub gather : ℕ → List ℕ → Gathered
+gather zero t = record { loose = []; errors = [] }
+gather (suc n) t = let g = gather n (drop 73 t) in tell (blank (take 15 t)) (take 57 (drop 15 t) ++ g .loose) (g .errors)
+
+-- the words of each error of a sheet
+unfoldable pub allWords : List ℕ → List (List ℕ)
+allWords t = gather (length t / 73) t .errors
+
+abbrev pub wordsOr : Option (List ℕ) → List ℕ
+wordsOr none = []
+wordsOr (some w) = w
+
+-- the words of errors 0 to n - 1
+unfoldable pub wordsUpTo : List ℕ → ℕ → List (List ℕ)
+wordsUpTo cells zero = []
+wordsUpTo cells (suc n) = wordsUpTo cells n ++ (wordsOr (words (errorAt cells n)) ∷ [])

@@ -1,7 +1,7 @@
 // The correction sheet of a paper: each error by line and column, in words.
 use ast::diagnostic::Place;
 use ast::diagnostic::Position;
-use ast::diagnostic::line_column;
+use ast::diagnostic::advance;
 use ast::layout::cell;
 use lex::Diagnostic;
 use rules::DIAGNOSTIC_WIDTH;
@@ -18,12 +18,19 @@ ghost use Rattle.text.specs.Answer.{result, answerOf};
 ghost use Rattle.text.specs.Emit.{Emits};
 ghost use Rattle.text.specs.Text.{number as numberOf};
 ghost use Rattle.sheet.specs.Sheet.{blanks, right, heading, body, entry, entries, errorAt, printed};
-ghost use Rattle.sheet.specs.Count.{sized, countedOf, textIn, textsOf};
+ghost use Rattle.sheet.specs.Count.{sized, countedOf, linesAt, textsOf, Reached, EntryWritten};
 
 // How many lines an error takes, or why it is refused.
 pub(crate) enum Counted {
     Lines(usize),
     Refused(u32),
+}
+
+// How far a sheet is written: where the next byte goes, and the place of the last error's start.
+pub(crate) struct Progress {
+    pub to: usize,
+    pub start: u32,
+    pub place: Place,
 }
 
 const LINE_FEED: u8 = 10;
@@ -88,7 +95,8 @@ fn write_heading(p: Place, number: u32, out: &mut [u8], at: usize) -> usize
 
 // The words in pieces, each but the last followed by a line feed and a margin.
 fn write_body(words: &[u8], out: &mut [u8], at: usize) -> usize
-    ensures { λ r. ⌜ Emits (body (now (words .entry))) (now (out .entry)) at (now (out .exit)) r ⌝ }
+    ensures { λ r.
+        ⌜ Emits (body (now (words .entry))) (now (out .entry)) at (now (out .exit)) r ⌝ }
 {
     let mut to = at;
     let mut from = 0;
@@ -123,20 +131,37 @@ fn error_at(errors: &[u32], i: usize) -> Diagnostic
     }
 }
 
-// The lines of an error; none where it is refused.
-fn write_entry(script: &[u8], e: Diagnostic, out: &mut [u8], at: usize) -> usize
-    ensures { λ r. ⌜ Emits (textIn (entry (now (script .entry)) e)) (now (out .entry)) at (now (out .exit)) r ⌝ }
+// The lines of an error at a place; none where it has no words.
+fn write_lines(p: Place, e: Diagnostic, out: &mut [u8], at: usize) -> usize
+    ensures { λ r. ⌜ Emits (linesAt p e) (now (out .entry)) at (now (out .exit)) r ⌝ }
 {
     let mut line = [0u8; 160];
     match describe(e, &mut line) {
         Writing::Refused(_) => at,
-        Writing::Written(n) => match line_column(script, e.start) {
-            Position::Refused(_) => at,
-            Position::At(p) => {
-                let a = write_heading(p, e.number, out, at);
-                write_body(&line[..n], out, a)
+        Writing::Written(n) => {
+            let a = write_heading(p, e.number, out, at);
+            write_body(&line[..n], out, a)
+        }
+    }
+}
+
+// The lines of one more error; none where it is refused. Its place is found from the last one's.
+fn write_entry(script: &[u8], e: Diagnostic, w: Progress, out: &mut [u8]) -> Progress
+    requires { ⌜ Reached (now script) w ⌝ }
+    ensures { λ r.
+        ⌜ EntryWritten (now (script .entry)) e w (now (out .entry)) r (now (out .exit)) ⌝ }
+{
+    let place = w.place;
+    match advance(script, w.start, place, e.start) {
+        Position::Refused(_) => w,
+        Position::At(p) => {
+            let to = write_lines(p, e, out, w.to);
+            Progress {
+                to,
+                start: e.start,
+                place: p,
             }
-        },
+        }
     }
 }
 
@@ -167,7 +192,8 @@ fn count_lines(script: &[u8], e: Diagnostic) -> Counted
 // How many lines all errors take, or the first refusal.
 fn count_all(script: &[u8], errors: &[u32]) -> Counted
     requires { ⌜ length (now script) ≤ 65536 ⌝ }
-    ensures { λ r. ⌜ countedOf r ≡ sized (entries (now (script .entry)) (now (errors .entry))) ⌝ }
+    ensures { λ r.
+        ⌜ countedOf r ≡ sized (entries (now (script .entry)) (now (errors .entry))) ⌝ }
 {
     let count = errors.len() / DIAGNOSTIC_WIDTH;
     let mut lines = 0;
@@ -184,19 +210,26 @@ fn count_all(script: &[u8], errors: &[u32]) -> Counted
 
 // The lines of all errors.
 fn write_all(script: &[u8], errors: &[u32], out: &mut [u8]) -> usize
-    ensures { λ r. ⌜ Emits (textsOf (now (script .entry)) (now (errors .entry))) (now (out .entry)) 0 (now (out .exit)) r ⌝ }
+    ensures { λ r.
+        let text = textsOf (now (script .entry)) (now (errors .entry)) in
+        ⌜ Emits text (now (out .entry)) 0 (now (out .exit)) r ⌝ }
 {
     let count = errors.len() / DIAGNOSTIC_WIDTH;
-    let mut to = 0;
+    let mut w = Progress {
+        to: 0,
+        start: 0,
+        place: Place { line: 1, column: 1 },
+    };
     let mut i = 0;
     while i < count {
-        to = write_entry(script, error_at(errors, i), out, to);
+        w = write_entry(script, error_at(errors, i), w, out);
         i += 1;
     }
-    to
+    w.to
 }
 
-// The sheet of the errors, five numbers each. They are looked at before anything is written, so that the buffer is as it was where the sheet is refused.
+// The sheet of the errors, five numbers each. They are looked at before anything is written, so that
+// the buffer is as it was where the sheet is refused.
 pub fn print_sheet(script: &[u8], errors: &[u32], sheet: &mut [u8]) -> Writing
     ensures { λ r.
         let left = result (answerOf r) (now (sheet .exit)) in

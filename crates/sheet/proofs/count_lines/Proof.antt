@@ -10,31 +10,31 @@ returns : tie.Need-returns
 returns c =
     let a = c .before .before .before .before .before .before .before .before .before .args in
     let d = c .before .before .before .before .before .before .describe in
-    counts-outside (a .script .now) (a .e) _ (omega arith) (d .ensures) (c .before .before .before .before .before .before .before .before .before .pre) (c .before .before .before .n2 .given .1) (c .if1 .taken)
+    counts-outside (a .e) _ (omega arith) (d .ensures) (a .script .now) (c .before .before .before .before .before .before .before .before .before .pre) (c .before .before .before .n2 .given .1) (c .if1 .taken)
 
 returns-2 : tie.Need-returns-2
 returns-2 c =
     let a = c .before .before .before .before .before .before .before .before .before .before .args in
     let d = c .before .before .before .before .before .before .before .describe in
-    counts-one (a .script .now) (a .e) _ (omega arith) (d .ensures) (c .before .before .before .before .before .before .before .before .before .before .pre) (c .before .before .before .before .n2 .given .1) (c .before .if1 .left) (c .if2 .taken)
+    counts-one (a .e) _ (omega arith) (d .ensures) (a .script .now) (c .before .before .before .before .before .before .before .before .before .before .pre) (c .before .before .before .before .n2 .given .1) (c .before .if1 .left) (c .if2 .taken)
 
 returns-3 : tie.Need-returns-3
 returns-3 c =
     let a = c .before .before .before .before .before .before .before .before .before .before .before .args in
     let d = c .before .before .before .before .before .before .before .before .describe in
-    counts-two (a .script .now) (a .e) _ (omega arith) (d .ensures) (c .before .before .before .before .before .before .before .before .before .before .before .pre) (c .before .before .before .before .before .n2 .given .1) (c .before .before .if1 .left) (c .before .if2 .left) (c .if3 .taken)
+    counts-two (a .e) _ (omega arith) (d .ensures) (a .script .now) (c .before .before .before .before .before .before .before .before .before .before .before .pre) (c .before .before .before .before .before .n2 .given .1) (c .before .before .if1 .left) (c .before .if2 .left) (c .if3 .taken)
 
 returns-4 : tie.Need-returns-4
 returns-4 c =
     let a = c .before .before .before .before .before .before .before .args in
     let d = c .before .before .before .before .describe in
-    counts-wordless (a .script .now) (a .e) _ (omega arith) (d .ensures) (c .before .n .given .1)
+    counts-wordless (a .e) _ (omega arith) (d .ensures) (a .script .now) (c .before .n .given .1)
 
 returns-5 : tie.Need-returns-5
 returns-5 c =
     let a = c .before .before .before .before .before .before .before .before .before .before .before .args in
     let d = c .before .before .before .before .before .before .before .before .describe in
-    counts-three (a .script .now) (a .e) _ (omega arith) (d .ensures) (c .before .before .before .before .before .before .before .before .before .before .before .pre) (c .before .before .before .before .before .n2 .given .1) (c .before .before .if1 .left) (c .if3 .left)
+    counts-three (a .e) _ (omega arith) (d .ensures) (a .script .now) (c .before .before .before .before .before .before .before .before .before .before .before .pre) (c .before .before .before .before .before .n2 .given .1) (c .before .before .if1 .left) (c .if3 .left)
 
 pub count-lines-spec : {M : Type 1} → statement M
 count-lines-spec =
