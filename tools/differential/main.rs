@@ -9,9 +9,11 @@
 //! pairs      two scripts each: the comparison of their trees beside the shapes of the Rust's
 //! refusals   1 to 3: scripts that are too long, arrays that are too short, numbers that lie outside
 //! limits     scripts of 0, 1, 65,536 and 65,537 bytes of many shapes; arrays exactly long enough, longer, and one cell short of each
+//! words      errors of every number, wanted and seen beside the tables of docs/WORDS.md, and their refusals
 //!
 //! Without a family all are run. Of each script the numbers, all cells of all arrays, the starts of nodes, the tokens of types, spans, lines and columns
-//! are compared. The arrays are lent full of rubbish and longer than needed. Every tree is held to the law of a finished tree (law.rs).
+//! are compared. The arrays are lent full of rubbish and longer than needed. Every tree is held to the law of a finished tree (law.rs),
+//! and every error that a reading returns is described (words.rs).
 #![feature(allocator_api, portable_simd, core_intrinsics)]
 #![allow(internal_features)]
 
@@ -24,6 +26,7 @@ mod library;
 mod numbers;
 mod scripts;
 mod shape;
+mod words;
 
 use crate::ast::{Ast, NodeId, TypeExprId};
 use crate::diagnostic::Span;
@@ -33,6 +36,7 @@ use crate::lex::Type;
 use crate::library::{CELLS, Lent, MODES, Mode, NAMES, Rubbish};
 use crate::numbers::{kind_number, tokens_of};
 use crate::scripts::{Program, Random, damage, rewritten, rows};
+use crate::words::Words;
 
 /// The longest script that is read.
 const LONGEST: usize = 65_536;
@@ -87,6 +91,7 @@ struct Beside {
     lent: Lent,
     expected: Expected,
     law: Law,
+    words: Words,
 }
 
 /// What is asked of the Rust's tree: starts of some nodes, tokens of some types.
@@ -116,7 +121,7 @@ impl Asked {
 impl Beside {
     fn new(seed: u64) -> Self {
         let mut random = Random::new(seed);
-        Beside { rubbish: Rubbish::new(&mut random), random, rust: Rust::new(), lent: Lent::new(), expected: Expected::default(), law: Law::default() }
+        Beside { rubbish: Rubbish::new(&mut random), random, rust: Rust::new(), lent: Lent::new(), expected: Expected::default(), law: Law::default(), words: Words::new() }
     }
 
     /// Lengths of at least the least for `n` bytes, mostly longer.
@@ -147,6 +152,7 @@ impl Beside {
         self.lent.lend(lens, &self.rubbish, &mut self.random);
         let number = self.lent.read(mode, script);
         self.same_reading(number)?;
+        self.same_words(number)?;
         if number == 0 {
             count.trees += 1;
             self.law.holds(&self.lent, script)?;
@@ -458,13 +464,14 @@ fn source(script: &[u8], t: &lex::Token<'_>) -> (usize, usize) {
     (t.start, end)
 }
 
-const FAMILIES: [&str; 7] = ["refusals", "limits", "bytes", "tokens", "programs", "long", "pairs"];
+const FAMILIES: [&str; 8] = ["refusals", "limits", "bytes", "tokens", "programs", "long", "pairs", "words"];
 
 fn run(quick: bool, seed: u64, families: &[String]) -> u64 {
     let mut beside = Beside::new(seed);
     let mut differ = 0;
     for family in FAMILIES.iter().filter(|f| families.is_empty() || families.iter().any(|g| g == *f)) {
         differ += match *family {
+            "words" => beside.describe(if quick { 100_000 } else { 2_000_000 }),
             "refusals" => beside.refusals(),
             "limits" => beside.limits(),
             "bytes" => beside.bytes(if quick { 2 } else { 3 }),

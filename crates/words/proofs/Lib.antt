@@ -1,4 +1,5 @@
--- What holds of all lines, the laws that the functions' proofs cite, and that every error of a reading has words.
+-- What holds of all lines, the laws that the functions' proofs cite, and that every error of a
+-- reading has words.
 pub mod Tables
 pub mod Forms
 pub mod Lines

@@ -1,14 +1,16 @@
--- Every error that a reading returns has words: the one that ends it, in both modes, and each that collecting mode gathers.
+-- Every error that a reading returns has words: the one that ends it, in both modes, and each that
+-- collecting mode gathers.
 -- Assumes nothing.
 use mathlib.Core.Path.{_≡_, refl, sym, subst}
 use mathlib.Core.Bool.{Bool, true, false}
 use mathlib.Core.Option.{Option}
 use mathlib.Core.List.{List, [], _∷_, _++_, map, flatten}
-use Prim.Native.Nat.{ℕ, zero, suc, _+_, _-_, _<_}
+use Prim.Native.Nat.{ℕ, zero, suc, _+_, _-_, _<_, _≤_}
 use native.Mathlib.Nat.{le-of-suc-le-suc, not-suc-le-zero}
 use native.Mathlib.Omega.{arith}
 use lib.Dec.{eqb, leb, ltb}
 use lib.ListN.{length, drop}
+use borrow.Author.Tests.{le-ltb}
 use Rattle.lex.specs.Kind.{kEof}
 use Rattle.lex.specs.Lex.{Occurrence, cut, faultsOf}
 use Rattle.lex.specs.declared.diagnostic.Diagnostic.{Diagnostic}
@@ -24,7 +26,8 @@ use Rattle.rules.specs.declared.NodeId.{NodeId}
 use Rattle.rules.specs.declared.Parsed.the-variants as P
 use Rattle.rules.proofs.Counting.Whole.{ended≢read}
 use Rattle.text.specs.Emit.{plain}
-use Rattle.words.specs.Words.{hasWords, errorOf}
+use Rattle.text.specs.Answer.{inFront}
+use Rattle.words.specs.Words.{line, hasWords, errorOf, words, described}
 use Rattle.words.proofs.Errors.{Known, Ends, holds, fails, Worded, bind, sequence, branch, value, repeat, entries[], entry, table, advance-worded, readers-worded}
 use Rattle.words.proofs.Faults.{tokens-known, AllWorded, faults-worded}
 
@@ -244,3 +247,8 @@ module _ (power : ℕ → Option Powers) (script : List ℕ) (l : Arrays) where
 
   pub collecting-described : plain script ≡ true → Described (promised (parseCollect power) script l)
   collecting-described bytes = promised-described (parseCollect power) script l (parseCollect-words power script) (parseCollect-gathers power script bytes)
+
+-- so it is never refused where there is room for a line
+pub told : (e : Diagnostic) (buffer : List ℕ) → hasWords e ≡ true → 160 ≤ length buffer → described e buffer ≡ inFront (line e) buffer
+unfolding described words
+told e buffer q h = rw (le-ltb (length buffer) 160 h, described, q)

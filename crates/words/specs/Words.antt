@@ -1,4 +1,5 @@
--- An error of a script in words: one line of printable ASCII that names the broken rule, the wanted kind and the seen kind or byte.
+-- An error of a script in words: one line of printable ASCII that names the broken rule, the wanted
+-- kind and the seen kind or byte.
 use mathlib.Core.Path.{_≡_}
 use mathlib.Core.Bool.{Bool, true, false, _&&_, _||_}
 use mathlib.Core.Option.{Option, none, some}
@@ -13,7 +14,8 @@ use Rattle.text.specs.Answer.{Result, refuse, inFront}
 
 -- ---- the tables
 
--- what each error number says, from 0 on; empty where 01 lists no error of a script. A phrase that ends with a blank is followed by a name or a byte.
+-- what each error number says, from 0 on; empty where 01 lists no error of a script. A phrase that
+-- ends with a blank is followed by a name or a byte.
 unfoldable pub phrases : List (List ℕ)
 phrases =
     [] ∷ [] ∷ [] ∷ [] ∷ [] ∷ [] ∷ [] ∷ [] ∷ [] ∷ [] ∷
@@ -69,7 +71,8 @@ hex b = hexDigit (b / 16 % 16) ∷ hexDigit (b % 16) ∷ []
 unfoldable pub butFound : List ℕ
 butFound = bytes ", but found "
 
--- what stands behind the phrase: for 11 both kinds, for 33 the byte, for the lexer's other faults nothing, else the seen kind
+-- what stands behind the phrase: for 11 both kinds, for 33 the byte, for the lexer's other faults
+-- nothing, else the seen kind
 unfoldable pub details : ℕ → ℕ → ℕ → List ℕ
 details number wanted seen =
     elim (eqb number 11) [

@@ -268,7 +268,8 @@ fn has_words(e: Diagnostic) -> bool
 
 // The words of an error into the buffer `line`, with what it held behind them.
 pub fn describe(e: Diagnostic, line: &mut [u8]) -> Writing
-    ensures { λ r. ⌜ result (answerOf r) (now (line .exit)) ≡ described e (now (line .entry)) ⌝ }
+    ensures { λ r.
+        ⌜ result (answerOf r) (now (line .exit)) ≡ described e (now (line .entry)) ⌝ }
 {
     if line.len() < MAX_LINE {
         return Writing::Refused(41);
