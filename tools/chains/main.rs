@@ -1,6 +1,8 @@
 //! Stack and times of lookups and comparison (libreader_c.a) on chains and other extreme shapes.
 //!
-//! chains [KIB]    lookups and comparison of chains run in a thread with a stack of KIB KiB, 256 unless given
+//! chains [KIB]         lookups and comparison of chains run in a thread with a stack of KIB KiB, 256 unless given
+//! chains nests KIB     how many levels of each nest are compared with a stack of KIB KiB
+//! chains nest NAME LEVELS KIB    one of them
 use std::time::{Duration, Instant};
 
 unsafe extern "C" {
@@ -86,12 +88,16 @@ const AS: u32 = 32;
 const INT: u32 = 36;
 const NODE_IDENT: u32 = 2;
 const NODE_BIN: u32 = 3;
+const NODE_FN: u32 = 6;
+const NODE_MATCH: u32 = 7;
 const NODE_CALL: u32 = 8;
 const NODE_FIELD: u32 = 9;
 const NODE_CAST: u32 = 10;
+const NODE_RECORD: u32 = 13;
 const NODE_ARRAY: u32 = 14;
 const TYPE_ATOM: u32 = 1;
 const TYPE_OPTION: u32 = 3;
+const TYPE_RECORD: u32 = 5;
 
 /// A tree in its arrays.
 #[derive(Clone)]
@@ -194,17 +200,72 @@ impl Tree {
         tree.rooted(cast)
     }
 
-    /// So many arrays about the name `a`, each in the next one, made by hand.
-    fn nested(levels: u32) -> Tree {
+    /// Nodes as members of a list: the run's start and length.
+    fn push_list(&mut self, nodes: &[u32]) -> [u32; 2] {
+        self.lists.extend(nodes);
+        self.counts[2] += nodes.len() as u32;
+        [self.counts[2] - nodes.len() as u32, nodes.len() as u32]
+    }
+
+    /// So many levels about the name `a`, each in the next one, made by hand.
+    fn nested(nest: Nest, levels: u32) -> Tree {
         let mut tree = Tree::blank();
         tree.script[0] = b'a';
-        let mut node = tree.push_node(&[NODE_IDENT, 0, IDENT, 0, 1]);
-        for level in 0..levels {
-            tree.lists.push(node);
-            tree.counts[2] += 1;
-            node = tree.push_node(&[NODE_ARRAY, 0, BRAKET_LEFT, 0, 1, level, 1]);
+        let ty = tree.push_type(&[TYPE_ATOM, INT, 0, 3]);
+        let name = tree.push_node(&[NODE_IDENT, 0, IDENT, 0, 1]);
+        let mut node = name;
+        for _ in 0..levels {
+            node = match nest {
+                Nest::Array => {
+                    let [at, n] = tree.push_list(&[node]);
+                    tree.push_node(&[NODE_ARRAY, 0, BRAKET_LEFT, 0, 1, at, n])
+                }
+                Nest::ArrayLast => {
+                    let [at, n] = tree.push_list(&[name, node]);
+                    tree.push_node(&[NODE_ARRAY, 0, BRAKET_LEFT, 0, 1, at, n])
+                }
+                Nest::ArrayFirst => {
+                    let [at, n] = tree.push_list(&[node, name]);
+                    tree.push_node(&[NODE_ARRAY, 0, BRAKET_LEFT, 0, 1, at, n])
+                }
+                Nest::Right => tree.push_node(&[NODE_BIN, 0, PLUS, 0, 1, name, node]),
+                Nest::Argument => {
+                    let [at, n] = tree.push_list(&[node]);
+                    tree.push_node(&[NODE_CALL, 0, name, at, n])
+                }
+                Nest::Body => {
+                    let [at, n] = tree.push_list(&[node]);
+                    tree.push_node(&[NODE_FN, 0, 0, 0, IDENT, 0, 1, 0, 0, ty, at, n])
+                }
+                Nest::Case => {
+                    let [at, n] = tree.push_list(&[IDENT, 0, 1, node, 0, 0]);
+                    tree.push_node(&[NODE_MATCH, 0, at, n / 6, BRAKET_LEFT, 0, 1, 0, 0])
+                }
+                Nest::Default => {
+                    let [at, n] = tree.push_list(&[node]);
+                    tree.push_node(&[NODE_MATCH, 0, 0, 0, BRAKET_LEFT, 0, 1, at, n])
+                }
+                Nest::Value => {
+                    let [at, n] = tree.push_list(&[IDENT, 0, 1, node]);
+                    tree.push_node(&[NODE_RECORD, 0, BRAKET_LEFT, 0, 1, at, n / 4])
+                }
+            };
         }
         tree.rooted(node)
+    }
+
+    /// A cast to record types, so many, each in the next one, made by hand.
+    fn nested_types(levels: u32) -> Tree {
+        let mut tree = Tree::blank();
+        tree.script[0] = b'a';
+        let mut ty = tree.push_type(&[TYPE_ATOM, INT, 7, 3]);
+        for _ in 0..levels {
+            let [at, n] = tree.push_list(&[IDENT, 0, 1, ty]);
+            ty = tree.push_type(&[TYPE_RECORD, INT, 0, 3, at, n / 4]);
+        }
+        let name = tree.push_node(&[NODE_IDENT, 0, IDENT, 0, 1]);
+        let cast = tree.push_node(&[NODE_CAST, 0, AS, 0, 2, name, ty]);
+        tree.rooted(cast)
     }
 
     /// So many operators, both sides of each being the node before it, made by hand.
@@ -317,6 +378,20 @@ impl Tree {
     }
 }
 
+/// What stands in what.
+#[derive(Clone, Copy)]
+enum Nest {
+    Array,
+    ArrayLast,
+    ArrayFirst,
+    Right,
+    Argument,
+    Body,
+    Case,
+    Default,
+    Value,
+}
+
 #[derive(Clone, Copy)]
 enum Link {
     Operator,
@@ -419,7 +494,51 @@ impl Shape {
     }
 }
 
+/// Each nest by its name.
+fn nests() -> Vec<(&'static str, fn(u32) -> Tree)> {
+    vec![
+        ("arrays of one member", |levels| Tree::nested(Nest::Array, levels)),
+        ("arrays, in the last member", |levels| Tree::nested(Nest::ArrayLast, levels)),
+        ("arrays, in the first of two members", |levels| Tree::nested(Nest::ArrayFirst, levels)),
+        ("operators, on the right", |levels| Tree::nested(Nest::Right, levels)),
+        ("calls, in an argument", |levels| Tree::nested(Nest::Argument, levels)),
+        ("fns, in the body", |levels| Tree::nested(Nest::Body, levels)),
+        ("matches, in a case's condition", |levels| Tree::nested(Nest::Case, levels)),
+        ("matches, in the default's body", |levels| Tree::nested(Nest::Default, levels)),
+        ("records, in a value", |levels| Tree::nested(Nest::Value, levels)),
+        ("record types, in a field", |levels| Tree::nested_types(levels)),
+    ]
+}
+
+/// How many levels of a nest are compared with a stack of so many KiB: this program runs itself for each try, since a stack that does not suffice ends it.
+fn deepest(name: &str, kib: usize) -> u32 {
+    let holds = |levels: u32| {
+        let run = std::process::Command::new(std::env::current_exe().unwrap()).args(["nest", name, &levels.to_string(), &kib.to_string()]).stderr(std::process::Stdio::null()).status();
+        run.unwrap().success()
+    };
+    let (mut held, mut not) = (0, 65536);
+    while 1 < not - held {
+        let middle = (held + not) / 2;
+        if holds(middle) { held = middle } else { not = middle }
+    }
+    held
+}
+
 fn main() {
+    let words: Vec<String> = std::env::args().collect();
+    if words.len() == 5 && words[1] == "nest" {
+        let (_, nest) = nests().into_iter().find(|(name, _)| *name == words[2]).expect("a nest");
+        let tree = nest(words[3].parse().expect("levels"));
+        assert_eq!(in_stack(words[4].parse().expect("KiB"), || tree.same(&tree)), Ok(true));
+        return;
+    }
+    if words.len() == 3 && words[1] == "nests" {
+        let kib = words[2].parse().expect("KiB");
+        for (name, _) in nests() {
+            println!("| {name} | {} |", deepest(name, kib));
+        }
+        return;
+    }
     let kib = std::env::args().nth(1).map_or(256, |word| word.parse().expect("a number of KiB"));
     println!("Chains, looked up and compared with a stack of {kib} KiB; times in milliseconds.\n");
     println!("| chain | links | nodes | start | same | other first name |\n|---|---|---|---|---|---|");
@@ -445,12 +564,9 @@ fn main() {
             println!("| Options, made by hand | {links} | {} | {} |", ms(token_time), ms(same_time));
         });
     }
-    println!("\n| arrays, each in the next, made by hand | same, with a stack of 256 KiB |\n|---|---|");
-    for levels in [128, 256] {
-        let tree = Tree::nested(levels);
-        let (time, same) = in_stack(256, || timed(5, || tree.same(&tree)));
-        assert_eq!(same, Ok(true));
-        println!("| {levels} | {} |", ms(time));
+    println!("\n| nest, made by hand | levels that 256 KiB hold, up to 65,535 |\n|---|---|");
+    for (name, _) in nests() {
+        println!("| {name} | {} |", deepest(name, 256));
     }
     println!("\n| operators that share both sides, made by hand | same |\n|---|---|");
     for operators in [12, 16, 20] {

@@ -1,15 +1,12 @@
 -- What an exported function answers is the answer of the call that it makes.
 -- Assumes nothing.
 use mathlib.Core.Path.{_≡_, _∙_, sym, ap, subst}
-use mathlib.Core.Bool.{Bool}
 use mathlib.Core.List.{List}
 use Prim.Native.Nat.{ℕ}
 use Rattle.rules.specs.Promise.{Arrays, Outcome, numbersOf}
-use Rattle.rules.specs.declared.Counts.{Counts}
 use Rattle.rules.specs.declared.Parsed.{Parsed}
-use Rattle.ast.specs.Answer.{Answer, Lent}
-use Rattle.same.specs.Compare.{Compares}
-use Rattle.reader_c.specs.Numbers.{written, asNumbers, numberOf, stored, Answers, yesCells, AnswersComparison}
+use Rattle.ast.specs.Answer.{Answer}
+use Rattle.reader_c.specs.Numbers.{written, asNumbers, numberOf, stored, Answers}
 
 pub answers : {A : Type 0} (cells : A → List ℕ) (out : List ℕ) {a b : Answer A} → b ≡ a → Answers cells a (numberOf b) out (stored cells b out)
 answers cells out e = (ap numberOf e, ap (λ x. stored cells x out) e)
@@ -24,11 +21,3 @@ answers-reading out {p = p} {l = l} {r = r} e h =
     ap (λ (x : Outcome). asNumbers x out) e
     ∙ ap (λ (x : ℕ). record { number = x; numbers = written p out; arrays = l }) (sym (h .0))
     ∙ ap (λ (x : List ℕ). record { number = r; numbers = x; arrays = l }) (sym (h .1))
-
--- over the counts that were read from cells
-pub answers-comparison : (a b : Counts → Lent) {j j′ k k′ : Counts} {x : Answer Bool} {r : ℕ} {out out′ : List ℕ} → j ≡ j′ → k ≡ k′ → Compares (a j) (b k) x → Answers yesCells x r out out′ → AnswersComparison (a j′) (b k′) r out out′
-answers-comparison a b {j′ = j′} {k = k} {x = x} e f g h = record {
-  is = x;
-  right = subst (λ (i : Counts). Compares (a j′) (b i) x) f (subst (λ (i : Counts). Compares (a i) (b k) x) e g);
-  answers = h;
-}

@@ -1,5 +1,5 @@
 -- Demand 3 of what is delivered: what `parser::parse` and `parser::parse_collect` ensure of two readings and `same::same_shape` of the arrays that these leave, composed with unique reading.
-use mathlib.Core.Path.{_≡_, sym, ap, subst}
+use mathlib.Core.Path.{_≡_, sym, ap, ap₂}
 use mathlib.Core.Bool.{Bool, true}
 use mathlib.Core.List.{List}
 use Prim.Native.Nat.{ℕ}
@@ -15,8 +15,8 @@ use Rattle.rules.specs.declared.Counts.{Counts}
 use Rattle.rules.specs.declared.Parsed.the-variants as P
 use Rattle.rules.proofs.Unique.Whole.{uniqueReading}
 use Rattle.ast.specs.Answer.{Answer, answer, Lent, lent}
-use Rattle.same.specs.Compare.{Compares, comparisonAnswer}
-use Rattle.same.specs.Returned.{Mode, strict, reading, YesOrNo, yes, no}
+use Rattle.same.specs.Compare.{compare, comparisonAnswer}
+use Rattle.same.specs.Returned.{Mode, strict, reading, returned, YesOrNo, yes, no}
 use Rattle.same.specs.declared.Comparison.{Comparison}
 use Rattle.same.specs.declared.Comparison.the-variants as C
 use Rattle.same.proofs.Held.{strict-read, compared}
@@ -29,16 +29,18 @@ pub record Read (mode : Mode) (script : List ℕ) (left : Arrays) (counts : Coun
 abbrev tree : List ℕ → Arrays → Counts → Lent
 tree script l c = lent script (l .nodes) (l .types) (l .lists) (l .roots) c
 
+module _ (m₁ m₂ : Mode) (s₁ s₂ : List ℕ) (l₁ l₂ : Arrays) (c₁ c₂ : Counts) (first : Read m₁ s₁ l₁ c₁) (second : Read m₂ s₂ l₂ c₂) where
+  as-returned : compare (tree s₁ l₁ c₁) (tree s₂ l₂ c₂) ≡ compare (returned m₁ s₁ (first .lent) c₁) (returned m₂ s₂ (second .lent) c₂)
+  as-returned = ap₂ (λ (o p : Outcome). compare (tree s₁ (o .arrays) c₁) (tree s₂ (p .arrays) c₂)) (sym (first .ensured)) (sym (second .ensured))
+
 -- of two readings, each in either mode; what `same_shape` ensures of their trees
-module _ (m₁ m₂ : Mode) (s₁ s₂ : List ℕ) (l₁ l₂ : Arrays) (c₁ c₂ : Counts) (first : Read m₁ s₁ l₁ c₁) (second : Read m₂ s₂ l₂ c₂) (x : Comparison) (compares : Compares (tree s₁ l₁ c₁) (tree s₂ l₂ c₂) (comparisonAnswer x)) where
+module _ (m₁ m₂ : Mode) (s₁ s₂ : List ℕ) (l₁ l₂ : Arrays) (c₁ c₂ : Counts) (first : Read m₁ s₁ l₁ c₁) (second : Read m₂ s₂ l₂ c₂) (x : Comparison) (compares : comparisonAnswer x ≡ compare (tree s₁ l₁ c₁) (tree s₂ l₂ c₂)) where
   -- it answers yes or no, and yes exactly where the shapes are the same
   pub answers : (t₁ : Tree) × (t₂ : Tree) × (es₁ : List Diagnostic) × (es₂ : List Diagnostic) × (reading m₁ s₁ ≡ read t₁ es₁) × (reading m₂ s₂ ≡ read t₂ es₂) × YesOrNo s₁ t₁ s₂ t₂ (comparisonAnswer x)
-  answers = compared m₁ m₂ s₁ s₂ (first .lent) (second .lent) c₁ c₂ (ap (λ (o : Outcome). o .answer) (first .ensured)) (ap (λ (o : Outcome). o .answer) (second .ensured)) (comparisonAnswer x)
-      (subst (λ (o : Outcome). Compares (tree s₁ (o .arrays) c₁) (tree s₂ (promised (reading m₂) s₂ (second .lent) .arrays) c₂) (comparisonAnswer x)) (sym (first .ensured))
-      (subst (λ (o : Outcome). Compares (tree s₁ l₁ c₁) (tree s₂ (o .arrays) c₂) (comparisonAnswer x)) (sym (second .ensured)) compares))
+  answers = rw (compares, as-returned m₁ m₂ s₁ s₂ l₁ l₂ c₁ c₂ first second) (compared m₁ m₂ s₁ s₂ (first .lent) (second .lent) c₁ c₂ (ap (λ (o : Outcome). o .answer) (first .ensured)) (ap (λ (o : Outcome). o .answer) (second .ensured)))
 
 -- of two strict readings
-module _ (s₁ s₂ : List ℕ) (l₁ l₂ : Arrays) (c₁ c₂ : Counts) (first : Read strict s₁ l₁ c₁) (second : Read strict s₂ l₂ c₂) (x : Comparison) (compares : Compares (tree s₁ l₁ c₁) (tree s₂ l₂ c₂) (comparisonAnswer x)) where
+module _ (s₁ s₂ : List ℕ) (l₁ l₂ : Arrays) (c₁ c₂ : Counts) (first : Read strict s₁ l₁ c₁) (second : Read strict s₂ l₂ c₂) (x : Comparison) (compares : comparisonAnswer x ≡ compare (tree s₁ l₁ c₁) (tree s₂ l₂ c₂)) where
   -- yes: once what demand 3 strikes out is struck out, the tokens are the same
   pub same-tokens : x ≡ C.Same → noDocBeforeImport (tokensOf (cut s₁)) ≡ true → noDocBeforeImport (tokensOf (cut s₂)) ≡ true → notesOf stageOne s₁ .afterDefault ≡ 0 → notesOf stageOne s₂ .afterDefault ≡ 0
       → strike stageOne s₁ ≡ strike stageOne s₂

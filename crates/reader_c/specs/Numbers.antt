@@ -10,10 +10,9 @@ use Rattle.rules.specs.Promise.{Arrays, Outcome, Numbers, numbersOf}
 use Rattle.rules.specs.declared.Counts.{Counts}
 use Rattle.rules.specs.declared.Parsed.{Parsed}
 use Rattle.rules.specs.declared.Parsed.the-variants as P
-use Rattle.ast.specs.Answer.{Answer, refused, answer, Lent}
+use Rattle.ast.specs.Answer.{Answer, refused, answer}
 use Rattle.ast.specs.declared.diagnostic.Span.{Span}
 use Rattle.ast.specs.declared.diagnostic.Place.{Place}
-use Rattle.same.specs.Compare.{Compares}
 
 -- ---- a reading
 
@@ -72,9 +71,3 @@ placeCells p = p .line ∷ p .column ∷ []
 unfoldable pub yesCells : Bool → List ℕ
 yesCells true = 1 ∷ []
 yesCells false = 0 ∷ []
-
--- the right answer; `compares-once` has that there is only one
-pub record AnswersComparison (a b : Lent) (r : ℕ) (out out′ : List ℕ) : Type 0 where
-  pub is : Answer Bool
-  pub right : Compares a b is
-  pub answers : Answers yesCells is r out out′

@@ -30,8 +30,8 @@ ghost use Rattle.ast.specs.Answer.{lent};
 ghost use Rattle.ast.specs.Lookup.{nodeStart, typeToken, startAnswer, typeTokenAnswer};
 ghost use Rattle.ast.specs.Span.{tokenSpan};
 ghost use Rattle.ast.specs.Position.{placeAt};
-ghost use Rattle.same.specs.Compare.{comparisonAnswer};
-ghost use Rattle.reader_c.specs.Numbers.{countsAt, written, asNumbers, startCells, spanCells, placeCells, yesCells, Answers, AnswersComparison};
+ghost use Rattle.same.specs.Compare.{compare, comparisonAnswer};
+ghost use Rattle.reader_c.specs.Numbers.{countsAt, written, asNumbers, startCells, spanCells, placeCells, yesCells, Answers};
 
 // ---- readings
 
@@ -263,7 +263,7 @@ pub extern "C" fn purple_garden_same_shape(
     counts2: &[u32; 6],
     same: &mut [u64; 1],
 ) -> u32
-    ensures { λ r. ⌜ AnswersComparison (lent (now (script .entry)) (now (nodes .entry)) (now (types .entry)) (now (lists .entry)) (now (roots .entry)) (countsAt (now (counts .entry)))) (lent (now (script2 .entry)) (now (nodes2 .entry)) (now (types2 .entry)) (now (lists2 .entry)) (now (roots2 .entry)) (countsAt (now (counts2 .entry)))) r (now (same .entry)) (now (same .exit)) ⌝ }
+    ensures { λ r. ⌜ Answers yesCells (compare (lent (now (script .entry)) (now (nodes .entry)) (now (types .entry)) (now (lists .entry)) (now (roots .entry)) (countsAt (now (counts .entry)))) (lent (now (script2 .entry)) (now (nodes2 .entry)) (now (types2 .entry)) (now (lists2 .entry)) (now (roots2 .entry)) (countsAt (now (counts2 .entry))))) r (now (same .entry)) (now (same .exit)) ⌝ }
 {
     let left = counts_of(counts);
     let right = counts_of(counts2);

@@ -42,11 +42,13 @@ mutual
     optionT : TypeShape → TypeShape
     arrayT : TypeShape → TypeShape
     recordT : Word → Params → TypeShape
+    deriving Discrete as TypeShape-discrete
 
   -- names with their types: a fn's arguments, a record type's fields
   pub data Params : Type 0 where
     noParam : Params
     param : Word → TypeShape → Params → Params
+    deriving Discrete as Params-discrete
 
 -- a fn of an extern
 pub record FnShape : Type 0 where
@@ -75,6 +77,7 @@ mutual
   pub data Shapes : Type 0 where
     noShape : Shapes
     shape : Shape → Shapes → Shapes
+    deriving Discrete as Shapes-discrete
 
   pub data FieldShapes : Type 0 where
     noField : FieldShapes
@@ -185,9 +188,9 @@ module _ (e : Env) where
   unfoldable pub fields : Run → Option FieldShapes
   fields r = listAt fieldIn noField (λ p. fieldS (p .0) (p .1)) (e .cells) r
 
-  -- a case's own token is left out
-  unfoldable pub caseIn : Decoder ((Token × Shape) × Shapes)
-  caseIn = both (both token (resolve number (e .node))) (resolve run shapes)
+  -- a case's own token must be well formed like any other; the shape has it not
+  unfoldable pub caseIn : Decoder ((Word × Shape) × Shapes)
+  caseIn = both (both wordIn (resolve number (e .node))) (resolve run shapes)
 
   unfoldable pub cases : Run → Option CaseShapes
   cases r = listAt caseIn noCase (λ c. caseS (c .0 .1) (c .1)) (e .cells) r

@@ -1,22 +1,39 @@
--- How three tests of agreement answer a comparison, and that there is one answer.
+-- How three tests of agreement answer a comparison.
 use mathlib.Core.Path.{_≡_, refl, sym, _∙_, ap}
-use mathlib.Core.Bool.{Bool, true, false}
+use mathlib.Core.Bool.{Bool, true, false, decide}
 use mathlib.Core.Option.{Option, none, some}
 use Prim.Native.Nat.{ℕ, zero, suc}
-use native.Mathlib.Omega.{arith}
 use lib.Dec.{eqb}
 use borrow.Author.Tests.{eq-eqb, ne-eqb}
+use Rattle.rules.specs.Shape.{Shapes}
 use Rattle.ast.specs.Decode.{if}
-use Rattle.ast.specs.Answer.{Answer, refused, answer, Lent, refusal}
+use Rattle.ast.specs.Answer.{refused, answer, unless, Lent, refusal}
 use Rattle.same.specs.Agree.{Agree, Decides}
 use Rattle.same.specs.Shapes.{shapeIn}
-use Rattle.same.specs.Compare.{refusals, Compares, refusedLent, malformedLeft, malformedRight, sameShape, otherShape}
-use Rattle.same.proofs.Agree.{decides-not}
+use Rattle.same.specs.Same.{shapesSame, sameShapes}
+use Rattle.same.specs.Compare.{refusals, compareShapes, compare}
+use Rattle.same.proofs.Agree.{decides-yes, decides-no, decides-not}
 
 -- what does not agree with itself is not there
 missing : {A : Type 0} (x : Option A) → Decides false (Agree x x) → x ≡ none
 missing none d = refl
 missing (some a) d = absurd (decides-not false refl d (record { it = a; left = refl; right = refl }))
+
+-- the test decides whether two shapes are the same
+pub same-decides : (σ τ : Shapes) → Decides (sameShapes σ τ) (σ ≡ τ)
+unfolding sameShapes decide
+same-decides σ τ = go (shapesSame σ τ)
+  where
+    go : (d : Dec (σ ≡ τ)) → Decides (decide d) (σ ≡ τ)
+    go (yes p) = decides-yes p
+    go (no n) = decides-no n
+
+pub differ : (σ τ : Shapes) → (σ ≡ τ → ⊥) → sameShapes σ τ ≡ false
+differ σ τ n = go (sameShapes σ τ) (same-decides σ τ)
+  where
+    go : (b : Bool) → Decides b (σ ≡ τ) → b ≡ false
+    go true d = absurd (n (d .holds refl))
+    go false d = refl
 
 module _ (a b : Lent) where
   module _ {x y : ℕ} (p : x ≡ refusal a) (q : y ≡ refusal b) where
@@ -40,47 +57,32 @@ module _ (a b : Lent) where
     unfolding refusals
     short-right f g h = rw (← p, ← q, ne-eqb x 1 f, ne-eqb y 1 g, eq-eqb x 0 h)
 
-  pub refused-with : (x : ℕ) → refusals a b ≡ x → (x ≡ 0 → ⊥) → Compares a b (refused x)
+  pub refused-with : (x : ℕ) → refusals a b ≡ x → (x ≡ 0 → ⊥) → refused x ≡ compare a b
+  unfolding compare unless
   refused-with zero e h = absurd (h refl)
-  refused-with (suc n) e h = refusedLent e
+  refused-with (suc n) e h = rw e refl
 
   module _ (r : refusals a b ≡ 0) where
-    pub left-malformed : Decides false (Agree (shapeIn a) (shapeIn a)) → Compares a b (refused 4)
-    left-malformed d = malformedLeft r (missing (shapeIn a) d)
+    pub compare-is : {x y : Option Shapes} → shapeIn a ≡ x → shapeIn b ≡ y → compareShapes x y ≡ compare a b
+    unfolding compare unless
+    compare-is e f = rw (r, e, f) refl
 
-    pub right-malformed : Decides false (Agree (shapeIn b) (shapeIn b)) → Compares a b (refused 4)
-    right-malformed d = malformedRight r (missing (shapeIn b) d)
+    pub left-malformed : Decides false (Agree (shapeIn a) (shapeIn a)) → refused 4 ≡ compare a b
+    unfolding compareShapes
+    left-malformed d = compare-is (missing (shapeIn a) d) refl
 
-    pub same-shapes : Agree (shapeIn a) (shapeIn b) → Compares a b (answer true)
-    same-shapes s = sameShape r (s .left) (s .right)
+    pub right-malformed : Decides false (Agree (shapeIn b) (shapeIn b)) → refused 4 ≡ compare a b
+    unfolding compareShapes
+    right-malformed d = without (shapeIn a) ∙ compare-is refl (missing (shapeIn b) d)
+      where
+        without : (x : Option Shapes) → refused 4 ≡ compareShapes x none
+        without none = refl
+        without (some σ) = refl
 
-    pub other-shapes : Agree (shapeIn a) (shapeIn a) → Agree (shapeIn b) (shapeIn b) → (Agree (shapeIn a) (shapeIn b) → ⊥) → Compares a b (answer false)
-    other-shapes s t f = otherShape r (s .left) (t .left) (λ e. f (record { it = s .it; left = s .left; right = t .left ∙ ap some (sym e) }))
+    pub same-shapes : Agree (shapeIn a) (shapeIn b) → answer true ≡ compare a b
+    unfolding compareShapes
+    same-shapes s = ap answer (sym (same-decides (s .it) (s .it) .back refl)) ∙ compare-is (s .left) (s .right)
 
-  -- the shapes decide the answer
-  pub compares-once : {x y : Answer Bool} → Compares a b x → Compares a b y → x ≡ y
-  compares-once (refusedLent e) (refusedLent f) = ap refused (sym e ∙ f)
-  compares-once (refusedLent e) (malformedLeft f g) = absurd (let z : _≡_ {A = ℕ} 0 1 = cc in omega arith)
-  compares-once (refusedLent e) (malformedRight f g) = absurd (let z : _≡_ {A = ℕ} 0 1 = cc in omega arith)
-  compares-once (refusedLent e) (sameShape f g h) = absurd (let z : _≡_ {A = ℕ} 0 1 = cc in omega arith)
-  compares-once (refusedLent e) (otherShape f g h n) = absurd (let z : _≡_ {A = ℕ} 0 1 = cc in omega arith)
-  compares-once (malformedLeft e i) (refusedLent f) = absurd (let z : _≡_ {A = ℕ} 0 1 = cc in omega arith)
-  compares-once (malformedLeft e i) (malformedLeft f g) = refl
-  compares-once (malformedLeft e i) (malformedRight f g) = refl
-  compares-once (malformedLeft e i) (sameShape f g h) = absurd (let z : _≡_ {A = ℕ} 0 1 = cc in omega arith)
-  compares-once (malformedLeft e i) (otherShape f g h n) = absurd (let z : _≡_ {A = ℕ} 0 1 = cc in omega arith)
-  compares-once (malformedRight e i) (refusedLent f) = absurd (let z : _≡_ {A = ℕ} 0 1 = cc in omega arith)
-  compares-once (malformedRight e i) (malformedLeft f g) = refl
-  compares-once (malformedRight e i) (malformedRight f g) = refl
-  compares-once (malformedRight e i) (sameShape f g h) = absurd (let z : _≡_ {A = ℕ} 0 1 = cc in omega arith)
-  compares-once (malformedRight e i) (otherShape f g h n) = absurd (let z : _≡_ {A = ℕ} 0 1 = cc in omega arith)
-  compares-once (sameShape e i j) (refusedLent f) = absurd (let z : _≡_ {A = ℕ} 0 1 = cc in omega arith)
-  compares-once (sameShape e i j) (malformedLeft f g) = absurd (let z : _≡_ {A = ℕ} 0 1 = cc in omega arith)
-  compares-once (sameShape e i j) (malformedRight f g) = absurd (let z : _≡_ {A = ℕ} 0 1 = cc in omega arith)
-  compares-once (sameShape e i j) (sameShape f g h) = refl
-  compares-once (sameShape {σ} e i j) (otherShape {σ = σ′} {τ} f g h n) = absurd (n (let z : σ′ ≡ τ = cc in z))
-  compares-once (otherShape e i j m) (refusedLent f) = absurd (let z : _≡_ {A = ℕ} 0 1 = cc in omega arith)
-  compares-once (otherShape e i j m) (malformedLeft f g) = absurd (let z : _≡_ {A = ℕ} 0 1 = cc in omega arith)
-  compares-once (otherShape e i j m) (malformedRight f g) = absurd (let z : _≡_ {A = ℕ} 0 1 = cc in omega arith)
-  compares-once (otherShape {σ} {τ} e i j m) (sameShape {σ = σ′} f g h) = absurd (m (let z : σ ≡ τ = cc in z))
-  compares-once (otherShape e i j m) (otherShape f g h n) = refl
+    pub other-shapes : Agree (shapeIn a) (shapeIn a) → Agree (shapeIn b) (shapeIn b) → (Agree (shapeIn a) (shapeIn b) → ⊥) → answer false ≡ compare a b
+    unfolding compareShapes
+    other-shapes s t f = ap answer (sym (differ (s .it) (t .it) (λ e. f (record { it = s .it; left = s .left; right = t .left ∙ ap some (sym e) })))) ∙ compare-is (s .left) (t .left)

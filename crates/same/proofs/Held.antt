@@ -1,5 +1,5 @@
 -- The arrays that hold a tree of the rules have its shape; so two trees that readings return, each in either mode, compare as equal or not, and never as malformed.
-use mathlib.Core.Path.{_≡_, refl, sym, _∙_, ap, ap₂}
+use mathlib.Core.Path.{_≡_, refl, sym, _∙_, ap, ap₂, subst}
 use mathlib.Core.Bool.{Bool, true, false}
 use mathlib.Core.Option.{Option, none, some}
 use mathlib.Core.List.{List, [], _∷_, _++_, map, flatten, append-assoc}
@@ -29,8 +29,11 @@ use Rattle.ast.specs.Decode.{if, fits, nodeOf, typeOf, nodeAt, typeAt}
 use Rattle.ast.specs.Tabulate.{rows, entriesBelow}
 use Rattle.ast.specs.Answer.{Answer, answer, Lent, lent, refusal, cellsOf}
 use Rattle.ast.proofs.LayoutLaws.{node-length, type-length, node-trip, type-trip}
-use Rattle.same.proofs.Compare.{short-right}
-use Rattle.same.specs.Compare.{refusals, Compares, refusedLent, malformedLeft, malformedRight, sameShape, otherShape}
+use Rattle.same.specs.Agree.{Decides}
+use Rattle.same.specs.Same.{sameShapes}
+use Rattle.same.specs.Compare.{refusals, compareShapes, compare}
+use Rattle.same.proofs.Agree.{decides-not}
+use Rattle.same.proofs.Compare.{short-right, compare-is, same-decides}
 use Rattle.same.specs.Returned.{Mode, strict, collecting, reading, returned, Returns, YesOrNo, yes, no}
 use Rattle.same.specs.Shapes.{typesBelow, nodesBelow, viewOf, typesIn, rootShapes, shapeIn}
 
@@ -222,9 +225,6 @@ module _ (mode : Mode) (script : List ℕ) (l : Arrays) where
 
 -- ---- the comparison of what two readings return, each in either mode, in whatever arrays: yes where the shapes are the same, else no, and never 4
 
-some-inj : (σ τ : Shapes) → _≡_ {A = Option Shapes} (some σ) (some τ) → σ ≡ τ
-some-inj σ τ e = cc
-
 module _ (m₁ m₂ : Mode) (s₁ s₂ : List ℕ) (l₁ l₂ : Arrays) (c₁ c₂ : Counts) where
   abbrev left : Lent
   left = returned m₁ s₁ l₁ c₁
@@ -232,19 +232,20 @@ module _ (m₁ m₂ : Mode) (s₁ s₂ : List ℕ) (l₁ l₂ : Arrays) (c₁ c�
   abbrev right : Lent
   right = returned m₂ s₂ l₂ c₂
 
-  pub compared : Returns m₁ s₁ l₁ c₁ → Returns m₂ s₂ l₂ c₂ → (x : Answer Bool) → Compares left right x
-      → (t₁ : Tree) × (t₂ : Tree) × (es₁ : List Diagnostic) × (es₂ : List Diagnostic) × (reading m₁ s₁ ≡ read t₁ es₁) × (reading m₂ s₂ ≡ read t₂ es₂) × YesOrNo s₁ t₁ s₂ t₂ x
-  compared e₁ e₂ x w =
+  pub compared : Returns m₁ s₁ l₁ c₁ → Returns m₂ s₂ l₂ c₂
+      → (t₁ : Tree) × (t₂ : Tree) × (es₁ : List Diagnostic) × (es₂ : List Diagnostic) × (reading m₁ s₁ ≡ read t₁ es₁) × (reading m₂ s₂ ≡ read t₂ es₂) × YesOrNo s₁ t₁ s₂ t₂ (compare left right)
+  unfolding compareShapes
+  compared e₁ e₂ =
       let r₁ = returned-tree m₁ s₁ l₁ c₁ e₁ in
       let r₂ = returned-tree m₂ s₂ l₂ c₂ e₂ in
-      (r₁ .tree, r₂ .tree, r₁ .errors, r₂ .errors, r₁ .accepted, r₂ .accepted, go r₁ r₂ x w (has-shape m₁ s₁ (r₁ .tree) (r₁ .errors) (r₁ .accepted)) (has-shape m₂ s₂ (r₂ .tree) (r₂ .errors) (r₂ .accepted)))
+      (r₁ .tree, r₂ .tree, r₁ .errors, r₂ .errors, r₁ .accepted, r₂ .accepted, go r₁ r₂ (has-shape m₁ s₁ (r₁ .tree) (r₁ .errors) (r₁ .accepted)) (has-shape m₂ s₂ (r₂ .tree) (r₂ .errors) (r₂ .accepted)))
     where
       open-both : (r₁ : Returned m₁ s₁ l₁ c₁) (r₂ : Returned m₂ s₂ l₂ c₂) → refusals left right ≡ 0
       open-both r₁ r₂ = short-right left right refl refl (λ a. let q = r₁ .lentEnough in let z : _≡_ {A = ℕ} 0 1 = cc in omega arith) (λ a. let q = r₂ .lentEnough in let z : _≡_ {A = ℕ} 0 1 = cc in omega arith) (r₁ .lentEnough) ∙ r₂ .lentEnough
 
-      go : (r₁ : Returned m₁ s₁ l₁ c₁) (r₂ : Returned m₂ s₂ l₂ c₂) (x : Answer Bool) → Compares left right x → (σs : Shapes) × (shapeOf s₁ (r₁ .tree) ≡ some σs) → (σs : Shapes) × (shapeOf s₂ (r₂ .tree) ≡ some σs) → YesOrNo s₁ (r₁ .tree) s₂ (r₂ .tree) x
-      go r₁ r₂ x (refusedLent f) u v = absurd (let o = open-both r₁ r₂ in let z : _≡_ {A = ℕ} 0 1 = cc in omega arith)
-      go r₁ r₂ x (malformedLeft f g) u v = absurd (let o = r₁ .shape in let p = u .1 in let z : _≡_ {A = ℕ} 0 1 = cc in omega arith)
-      go r₁ r₂ x (malformedRight f g) u v = absurd (let o = r₂ .shape in let p = v .1 in let z : _≡_ {A = ℕ} 0 1 = cc in omega arith)
-      go r₁ r₂ x (sameShape f g h) u v = yes (sym (r₁ .shape) ∙ g ∙ sym h ∙ r₂ .shape)
-      go r₁ r₂ x (otherShape {σ} {τ} f g h n) u v = no (λ q. n (some-inj σ τ (sym g ∙ r₁ .shape ∙ q ∙ sym (r₂ .shape) ∙ h)))
+      tell : (t₁ t₂ : Tree) (σ τ : Shapes) → shapeOf s₁ t₁ ≡ some σ → shapeOf s₂ t₂ ≡ some τ → (b : Bool) → Decides b (σ ≡ τ) → YesOrNo s₁ t₁ s₂ t₂ (answer b)
+      tell t₁ t₂ σ τ p q true d = yes (p ∙ ap some (d .holds refl) ∙ sym q)
+      tell t₁ t₂ σ τ p q false d = no (λ e. decides-not false refl d (let z : σ ≡ τ = cc in z))
+
+      go : (r₁ : Returned m₁ s₁ l₁ c₁) (r₂ : Returned m₂ s₂ l₂ c₂) → (σs : Shapes) × (shapeOf s₁ (r₁ .tree) ≡ some σs) → (σs : Shapes) × (shapeOf s₂ (r₂ .tree) ≡ some σs) → YesOrNo s₁ (r₁ .tree) s₂ (r₂ .tree) (compare left right)
+      go r₁ r₂ u v = subst (YesOrNo s₁ (r₁ .tree) s₂ (r₂ .tree)) (compare-is left right (open-both r₁ r₂) (r₁ .shape ∙ u .1) (r₂ .shape ∙ v .1)) (tell (r₁ .tree) (r₂ .tree) (u .0) (v .0) (u .1) (v .1) (sameShapes (u .0) (v .0)) (same-decides (u .0) (v .0)))

@@ -1,15 +1,16 @@
 -- The lists of runs, of every sort: when two of them agree, and what is known while they are walked.
 use mathlib.Core.Path.{_≡_}
-use mathlib.Core.Bool.{true, false}
+use mathlib.Core.Bool.{Bool, true, false}
 use mathlib.Core.Option.{Option}
 use mathlib.Core.List.{List}
 use Prim.Native.Nat.{ℕ, _+_, _*_, _-_, _<_, _≤_}
+use native.Mathlib.Omega.{arith}
 use lib.ListN.{length}
 use Rattle.rules.specs.Shape as S
 use Rattle.rules.specs.Shape.{Word, TypeShape, Params, FnShape, Shape, Shapes, FieldShapes, CaseShapes, Env}
 use Rattle.rules.specs.declared.Run.{Run}
 use Rattle.same.specs.Agree.{Agree, Decides}
-use Rattle.same.proofs.Agree.{decides-yes, decides-no}
+use Rattle.same.proofs.Agree.{decides-yes, decides-no, decides-by}
 use Rattle.same.proofs.Walk as W
 use Rattle.same.proofs.Walk.{Sort, IsList, Walk, runOf, as-runs, FnParts}
 
@@ -67,3 +68,7 @@ module _ {A L : Type 0} (k : Listing A L) {e e′ : Env} where
 
         pub done : left ≡ 0 → Decides true (Agree (k .list e r) (k .list e′ r′))
         done z = as-runs (k .list e) (k .list e′) r r′ m (decides-yes (W.done (k .sort) _ _ _ _ w z))
+
+        -- the last member decides
+        pub last : {b : Bool} → left ≡ 1 → Decides b (Agree (k .place e at) (k .place e′ at′)) → Decides b (Agree (k .list e r) (k .list e′ r′))
+        last z d = as-runs (k .list e) (k .list e′) r r′ m (decides-by (λ a. W.done (k .sort) _ _ _ _ (W.step (k .sort) _ _ _ _ w (omega arith) a) (omega arith)) (W.first (k .sort) _ _ _ _ w (omega arith)) d)

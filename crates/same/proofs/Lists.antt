@@ -52,7 +52,7 @@ module _ {A L : Type 0} (size : ℕ) (nil : L) (cons : A → L → L) (inj : (a 
   more (suc n) i w h = rw (sub-one (suc n))
 
   module _ (P : Type 0) (n i j : ℕ) (l : Left P (listFrom size nil cons v n i) (listFrom size nil cons v′ n j)) (h : 0 < n) where
-    split : P → Agree (v i) (v′ j) × Agree (listFrom size nil cons v (n - 1) (i + size)) (listFrom size nil cons v′ (n - 1) (j + size))
+    pub split : P → Agree (v i) (v′ j) × Agree (listFrom size nil cons v (n - 1) (i + size)) (listFrom size nil cons v′ (n - 1) (j + size))
     split p = parts₂ cons inj (v i) (v′ j) _ _ (rw (more n i v h, more n j v′ h) at (l .of p))
 
     -- a member more agrees

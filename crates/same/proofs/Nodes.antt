@@ -3,9 +3,10 @@ use mathlib.Core.Path.{_≡_, refl, sym, _∙_, ap, ap₂, subst}
 use mathlib.Core.Bool.{Bool, true, false}
 use mathlib.Core.Option.{Option, none, some}
 use mathlib.Core.List.{List, [], _∷_}
-use Prim.Native.Nat.{ℕ, zero, suc, _+_, _*_, _<_, _≤_}
+use Prim.Native.Nat.{ℕ, zero, suc, _+_, _*_, _/_, _%_, _<_, _≤_}
 use native.Mathlib.Omega.{arith}
 use mathlib.Core.Logic.{⊎-elim}
+use native.Mathlib.Numerals.{add-one}
 use native.Mathlib.Nat.{add-zero, zero-add, eq-or-lt-of-le}
 use lib.Dec.{ltb, leb}
 use lib.ListN.{length, getD, List·getD-eq-default}
@@ -14,13 +15,14 @@ use Rattle.lex.proofs.Laws.{agree}
 use Rattle.rules.specs.Layout.{nodeWidth}
 use Rattle.rules.specs.Shape as S
 use Rattle.rules.specs.Shape.{Shape, Env, map₁, map₂, map₃, map₄, map₅, andThen, w, nodeShape}
-use Rattle.ast.specs.Decode.{if, fits, nodeOf, nodesByKind, nodeAt}
+use Rattle.rules.specs.declared.Run.{Run}
+use Rattle.ast.specs.Decode.{if, fits, runAt, nodeOf, nodesByKind, nodeAt}
 use Rattle.ast.specs.Tabulate.{entryAt}
 use Rattle.ast.proofs.Tabulate.{entries-below, entries-past}
 use Rattle.ast.proofs.LayoutLaws.{node-inside, node-outside, node-unknown}
 use Rattle.same.specs.Agree.{Agree, Decides}
 use Rattle.same.specs.Shapes.{nodeRow, View, typesIn, nodesBelow, envBelow, kindAt, nodeKind}
-use Rattle.same.specs.Parts.{Part, nothing, aWord, someWords, someParams, aType, someFns, someNodes, someFields, someCases, aNode, read, PartAgrees, partOf, parts, sortAt, cellAt, PartsAgree}
+use Rattle.same.specs.Parts.{Part, nothing, aWord, someWords, someParams, aType, someFns, someNodes, someFields, someCases, aNode, read, PartAgrees, partOf, parts, Ordered, own, rightLast, argumentsLast, sortAt, cellAt, restOf, PartsAgree}
 use Rattle.same.proofs.Agree.{agree₁, part₁, agree₂, parts₂, decides-yes, decides-no, decides-by}
 use Rattle.same.proofs.RecordCells.{recordCells, number-in, run-in, token-in}
 use Rattle.same.proofs.Types.{made₁, made₂, kind-bound}
@@ -144,6 +146,13 @@ upTo14 P p₀ p₁ p₂ p₃ p₄ p₅ p₆ p₇ p₈ p₉ p₁₀ p₁₁ p₁�
 upTo14 P p₀ p₁ p₂ p₃ p₄ p₅ p₆ p₇ p₈ p₉ p₁₀ p₁₁ p₁₂ p₁₃ p₁₄ (suc (suc (suc (suc (suc (suc (suc (suc (suc (suc (suc (suc (suc (suc zero)))))))))))))) l = p₁₄
 upTo14 P p₀ p₁ p₂ p₃ p₄ p₅ p₆ p₇ p₈ p₉ p₁₀ p₁₁ p₁₂ p₁₃ p₁₄ (suc (suc (suc (suc (suc (suc (suc (suc (suc (suc (suc (suc (suc (suc (suc g))))))))))))))) l = absurd (omega arith)
 
+-- and of every order
+upTo16 : (P : ℕ → Type 0) → P 0 → P 1 → P 2 → P 3 → P 4 → P 5 → P 6 → P 7 → P 8 → P 9 → P 10 → P 11 → P 12 → P 13 → P 14 → P 15 → P 16 → (g : ℕ) → g < 17 → P g
+upTo16 P p₀ p₁ p₂ p₃ p₄ p₅ p₆ p₇ p₈ p₉ p₁₀ p₁₁ p₁₂ p₁₃ p₁₄ p₁₅ p₁₆ g l =
+    ⊎-elim (λ (e : g ≡ 16). subst P (sym e) p₁₆) (λ (h : g < 16).
+    ⊎-elim (λ (e : g ≡ 15). subst P (sym e) p₁₅) (λ (h : g < 15). upTo14 P p₀ p₁ p₂ p₃ p₄ p₅ p₆ p₇ p₈ p₉ p₁₀ p₁₁ p₁₂ p₁₃ p₁₄ g (omega arith))
+    (eq-or-lt-of-le (let z : g ≤ 15 = omega arith in z))) (eq-or-lt-of-le (let z : g ≤ 16 = omega arith in z))
+
 by-kind : (e : Env) (cs : List ℕ) (g : ℕ) → getD cs 0 0 ≡ g → g ≤ 14 → andThen (nodeOf cs) (nodeShape e) ≡ nodeByParts e cs g
 unfolding nodeOf nodesByKind nodeByParts nodesByParts nodeShape andThen
 by-kind e cs g h l = rw h (upTo14 (λ (n : ℕ). andThen (getD (none ∷ nodesByKind cs) n none) (nodeShape e) ≡ getD (nodesByParts e cs) n none) refl refl refl refl refl refl refl refl refl refl refl refl refl refl refl g l)
@@ -230,26 +239,38 @@ module _ (e e′ : Env) (cs cs′ : List ℕ) where
       (λ z. record { split = λ b. let p = parts₃ S.bin (λ x y u v o q w. ((cc, cc), cc)) _ _ _ _ _ _ b in six (Each 3) (p .0 .0) (p .1) ok ok ok (p .0 .1); join = λ a b c d f h. agree₃ S.bin (λ x y u v o q w. ((cc, cc), cc)) a h b })
       (λ z. record { split = λ b. let p = parts₂ S.unary (λ x y u v q. (cc, cc)) _ _ _ _ b in six (Each 4) (p .0) ok ok ok ok (p .1); join = λ a b c d f h. agree₂ S.unary (λ x y u v q. (cc, cc)) a h })
       (λ z. record { split = λ b. let p = parts₃ S.letS (λ x y u v o q w. ((cc, cc), cc)) _ _ _ _ _ _ b in six (Each 5) (p .0 .0) (p .0 .1) ok ok ok (p .1); join = λ a b c d f h. agree₃ S.letS (λ x y u v o q w. ((cc, cc), cc)) a b h })
-      (λ z. record { split = λ b. let p = parts₅ S.fnS (λ x x′ y y′ u u′ v v′ o o′ q. ((((cc, cc), cc), cc), cc)) _ _ _ _ _ _ _ _ _ _ b in six (Each 6) (p .0 .0 .0 .0) (p .0 .0 .0 .1) (p .0 .0 .1) (p .0 .1) (p .1) ok; join = λ a b c d f h. agree₅ S.fnS (λ x x′ y y′ u u′ v v′ o o′ q. ((((cc, cc), cc), cc), cc)) a b c d f })
-      (λ z. record { split = λ b. let p = parts₃ S.matchS (λ x y u v o q w. ((cc, cc), cc)) _ _ _ _ _ _ b in six (Each 7) (p .0 .0) (p .0 .1) (p .1) ok ok ok; join = λ a b c d f h. agree₃ S.matchS (λ x y u v o q w. ((cc, cc), cc)) a b c })
+      (λ z. record { split = λ b. let p = parts₅ S.fnS (λ x x′ y y′ u u′ v v′ o o′ q. ((((cc, cc), cc), cc), cc)) _ _ _ _ _ _ _ _ _ _ b in six (Each 6) (p .0 .0 .0 .0) (p .0 .0 .0 .1) (p .0 .0 .1) (p .0 .1) ok (p .1); join = λ a b c d f h. agree₅ S.fnS (λ x x′ y y′ u u′ v v′ o o′ q. ((((cc, cc), cc), cc), cc)) a b c d h })
+      (λ z. record { split = λ b. let p = parts₃ S.matchS (λ x y u v o q w. ((cc, cc), cc)) _ _ _ _ _ _ b in six (Each 7) (p .0 .0) (p .0 .1) ok ok ok (p .1); join = λ a b c d f h. agree₃ S.matchS (λ x y u v o q w. ((cc, cc), cc)) a b h })
       (λ z. record { split = λ b. let p = parts₂ S.call (λ x y u v q. (cc, cc)) _ _ _ _ b in six (Each 8) (p .1) ok ok ok ok (p .0); join = λ a b c d f h. agree₂ S.call (λ x y u v q. (cc, cc)) h a })
       (λ z. record { split = λ b. let p = parts₂ S.field (λ x y u v q. (cc, cc)) _ _ _ _ b in six (Each 9) (p .1) ok ok ok ok (p .0); join = λ a b c d f h. agree₂ S.field (λ x y u v q. (cc, cc)) h a })
       (λ z. record { split = λ b. let p = parts₃ S.cast (λ x y u v o q w. ((cc, cc), cc)) _ _ _ _ _ _ b in six (Each 10) (p .0 .0) (p .1) ok ok ok (p .0 .1); join = λ a b c d f h. agree₃ S.cast (λ x y u v o q w. ((cc, cc), cc)) a h b })
       (λ z. record { split = λ b. let p = parts₂ S.importS (λ x y u v q. (cc, cc)) _ _ _ _ b in six (Each 11) (p .0) (p .1) ok ok ok ok; join = λ a b c d f h. agree₂ S.importS (λ x y u v q. (cc, cc)) a b })
       (λ z. record { split = λ b. let p = parts₄ S.externS (λ x x′ y y′ u u′ v v′ q. (((cc, cc), cc), cc)) _ _ _ _ _ _ _ _ b in six (Each 12) (p .0 .0 .0) (p .0 .0 .1) (p .0 .1) (p .1) ok ok; join = λ a b c d f h. agree₄ S.externS (λ x x′ y y′ u u′ v v′ q. (((cc, cc), cc), cc)) a b c d })
-      (λ z. record { split = λ b. let p = parts₂ S.recordS (λ x y u v q. (cc, cc)) _ _ _ _ b in six (Each 13) (p .0) (p .1) ok ok ok ok; join = λ a b c d f h. agree₂ S.recordS (λ x y u v q. (cc, cc)) a b })
-      (λ z. record { split = λ b. let p = parts₂ S.array (λ x y u v q. (cc, cc)) _ _ _ _ b in six (Each 14) (p .0) (p .1) ok ok ok ok; join = λ a b c d f h. agree₂ S.array (λ x y u v q. (cc, cc)) a b })
+      (λ z. record { split = λ b. let p = parts₂ S.recordS (λ x y u v q. (cc, cc)) _ _ _ _ b in six (Each 13) (p .0) ok ok ok ok (p .1); join = λ a b c d f h. agree₂ S.recordS (λ x y u v q. (cc, cc)) a h })
+      (λ z. record { split = λ b. let p = parts₂ S.array (λ x y u v q. (cc, cc)) _ _ _ _ b in six (Each 14) (p .0) ok ok ok ok (p .1); join = λ a b c d f h. agree₂ S.array (λ x y u v q. (cc, cc)) a h })
       g l
+
+  -- in whatever order
+  parts-in : {g order : ℕ} → Ordered g order → g ≤ 14 → (g ≡ 0 → ⊥) → Splits (Whole g) (Each order)
+  unfolding Whole Each nodeByParts nodesByParts PartsAgree PartAgrees partOf sortAt cellAt parts
+  parts-in (own {kind}) l z = parts-of kind l z
+  parts-in rightLast l z = record { split = λ b. let p = parts₃ S.bin (λ x y u v o q w. ((cc, cc), cc)) _ _ _ _ _ _ b in six (Each 15) (p .0 .0) (p .0 .1) ok ok ok (p .1); join = λ a b c d f h. agree₃ S.bin (λ x y u v o q w. ((cc, cc), cc)) a b h }
+  parts-in argumentsLast l z = record { split = λ b. let p = parts₂ S.call (λ x y u v q. (cc, cc)) _ _ _ _ b in six (Each 16) (p .0) ok ok ok ok (p .1); join = λ a b c d f h. agree₂ S.call (λ x y u v q. (cc, cc)) a h }
+
+pub order-bound : {g order : ℕ} → Ordered g order → g < 15 → order < 17
+order-bound own h = omega arith
+order-bound rightLast h = omega arith
+order-bound argumentsLast h = omega arith
 
 -- ---- the parts of a record lie in its array
 
 pub cell-small : (k : ℕ) → cellAt k ≤ 10
 unfolding cellAt parts
-cell-small k = go (ltb k 90) refl
+cell-small k = go (ltb k 102) refl
   where
-    go : (b : Bool) → ltb k 90 ≡ b → cellAt k ≤ 10
-    go true e = leb-true _ _ (agree (λ (n : ℕ). leb (cellAt n) 10) (λ (n : ℕ). true) true 90 k refl (ltb-true k 90 e))
-    go false e = rw (List·getD-eq-default parts 0 {n = k} (ltb-false k 90 e)) (omega arith)
+    go : (b : Bool) → ltb k 102 ≡ b → cellAt k ≤ 10
+    go true e = leb-true _ _ (agree (λ (n : ℕ). leb (cellAt n) 10) (λ (n : ℕ). true) true 102 k refl (ltb-true k 102 e))
+    go false e = rw (List·getD-eq-default parts 0 {n = k} (ltb-false k 102 e)) (omega arith)
 
 move : {A : Type 0} {x x′ y y′ : Option A} → x ≡ x′ → y ≡ y′ → Agree x y → Agree x′ y′
 move p q b = record { it = b .it; left = sym p ∙ b .left; right = sym q ∙ b .right }
@@ -275,21 +296,35 @@ module _ (e e′ : Env) (xs xs′ : List ℕ) (p p′ g x : ℕ) where
   unfolding Each PartsAgree PartAgrees
   outof b = let o = cellAt (6 * g + x) in let κ = partOf (sortAt (6 * g + x)) in move (sym (read-in e κ xs p o (cell-small (6 * g + x)))) (sym (read-in e′ κ xs′ p′ o (cell-small (6 * g + x)))) b
 
--- the last part is a node, where there is one
-last-kind : (g : ℕ) → g ≤ 14 → (sortAt (6 * g + 5) ≡ 0 → ⊥) → partOf (sortAt (6 * g + 5)) ≡ aNode
+-- the last part is a node, or a list of fields or of nodes, where there is one
+last-kind : (g : ℕ) → g < 17 → (sortAt (6 * g + 5) ≡ 0 → ⊥) → (sortAt (6 * g + 5) ≡ 9 → ⊥) → (sortAt (6 * g + 5) ≡ 7 → ⊥) → partOf (sortAt (6 * g + 5)) ≡ someNodes
 unfolding sortAt parts partOf
-last-kind g l = upTo14 (λ (n : ℕ). (sortAt (6 * n + 5) ≡ 0 → ⊥) → partOf (sortAt (6 * n + 5)) ≡ aNode)
-    (λ z. absurd (z refl)) (λ z. absurd (z refl)) (λ z. absurd (z refl)) (λ z. refl) (λ z. refl) (λ z. refl) (λ z. absurd (z refl)) (λ z. absurd (z refl))
-    (λ z. refl) (λ z. refl) (λ z. refl) (λ z. absurd (z refl)) (λ z. absurd (z refl)) (λ z. absurd (z refl)) (λ z. absurd (z refl)) g l
+last-kind g l = upTo16 (λ (n : ℕ). (sortAt (6 * n + 5) ≡ 0 → ⊥) → (sortAt (6 * n + 5) ≡ 9 → ⊥) → (sortAt (6 * n + 5) ≡ 7 → ⊥) → partOf (sortAt (6 * n + 5)) ≡ someNodes)
+    (λ z y x. absurd (z refl)) (λ z y x. absurd (z refl)) (λ z y x. absurd (z refl)) (λ z y x. absurd (y refl)) (λ z y x. absurd (y refl)) (λ z y x. absurd (y refl)) (λ z y x. refl) (λ z y x. refl) (λ z y x. absurd (y refl)) (λ z y x. absurd (y refl)) (λ z y x. absurd (y refl)) (λ z y x. absurd (z refl)) (λ z y x. absurd (z refl)) (λ z y x. absurd (x refl)) (λ z y x. refl) (λ z y x. absurd (y refl)) (λ z y x. refl) g l
 
-module _ (e e′ : Env) (xs xs′ : List ℕ) (p p′ g : ℕ) (l : g ≤ 14) (z : sortAt (6 * g + 5) ≡ 0 → ⊥) where
-  last-is : Agree (e .node (getD xs (p + cellAt (6 * g + 5)) 0)) (e′ .node (getD xs′ (p′ + cellAt (6 * g + 5)) 0)) → PartsAgree e e′ g xs p xs′ p′ 5
-  unfolding PartsAgree PartAgrees
-  last-is a = subst (λ (κ : Part). PartAgrees e e′ κ xs (p + cellAt (6 * g + 5)) xs′ (p′ + cellAt (6 * g + 5))) (sym (last-kind g l z)) a
+-- what decides the last part, by its sort
+module _ (e e′ : Env) (xs xs′ : List ℕ) (p p′ g : ℕ) where
+  by-sort : {r : Bool} (κ : Part) → partOf (sortAt (6 * g + 5)) ≡ κ → Decides r (PartAgrees e e′ κ xs (p + cellAt (6 * g + 5)) xs′ (p′ + cellAt (6 * g + 5))) → Decides r (PartsAgree e e′ g xs p xs′ p′ 5)
+  unfolding PartsAgree
+  by-sort {r} κ q d = subst (λ (κ : Part). Decides r (PartAgrees e e′ κ xs (p + cellAt (6 * g + 5)) xs′ (p′ + cellAt (6 * g + 5)))) (sym q) d
 
-  last-was : PartsAgree e e′ g xs p xs′ p′ 5 → Agree (e .node (getD xs (p + cellAt (6 * g + 5)) 0)) (e′ .node (getD xs′ (p′ + cellAt (6 * g + 5)) 0))
-  unfolding PartsAgree PartAgrees
-  last-was a = subst (λ (κ : Part). PartAgrees e e′ κ xs (p + cellAt (6 * g + 5)) xs′ (p′ + cellAt (6 * g + 5))) (last-kind g l z) a
+  pub last-nothing : sortAt (6 * g + 5) ≡ 0 → Decides true (PartsAgree e e′ g xs p xs′ p′ 5)
+  unfolding partOf PartAgrees
+  last-nothing z = by-sort nothing (ap partOf z) (decides-yes ok)
+
+  pub last-node : {r : Bool} → sortAt (6 * g + 5) ≡ 9 → Decides r (Agree (e .node (getD xs (p + cellAt (6 * g + 5)) 0)) (e′ .node (getD xs′ (p′ + cellAt (6 * g + 5)) 0))) → Decides r (PartsAgree e e′ g xs p xs′ p′ 5)
+  unfolding partOf PartAgrees
+  last-node z d = by-sort aNode (ap partOf z) d
+
+  pub last-nodes : {b : Bool} {r r′ : Run} → g < 17 → (sortAt (6 * g + 5) ≡ 0 → ⊥) → (sortAt (6 * g + 5) ≡ 9 → ⊥) → (sortAt (6 * g + 5) ≡ 7 → ⊥) → r ≡ runAt xs (p + cellAt (6 * g + 5)) → r′ ≡ runAt xs′ (p′ + cellAt (6 * g + 5))
+      → Decides b (Agree (S.shapes e r) (S.shapes e′ r′)) → Decides b (PartsAgree e e′ g xs p xs′ p′ 5)
+  unfolding PartAgrees
+  last-nodes l y z x q q′ d = by-sort someNodes (last-kind g l y z x) (rw (q, q′) at d)
+
+  pub last-fields : {b : Bool} {r r′ : Run} → sortAt (6 * g + 5) ≡ 7 → r ≡ runAt xs (p + cellAt (6 * g + 5)) → r′ ≡ runAt xs′ (p′ + cellAt (6 * g + 5))
+      → Decides b (Agree (S.fields e r) (S.fields e′ r′)) → Decides b (PartsAgree e e′ g xs p xs′ p′ 5)
+  unfolding partOf PartAgrees
+  last-fields z q q′ d = by-sort someFields (ap partOf z) (rw (q, q′) at d)
 
 -- ---- node `i` of the arrays
 
@@ -349,30 +384,27 @@ module _ (v v′ : View) (n i m j : ℕ) where
     pub other-node-kind : (g ≡ g′ → ⊥) → Decides false (Agree (nodesBelow v n i) (nodesBelow v′ m j))
     other-node-kind f = decides-no (λ b. f (sym (kind-is (envBelow v i) _ g bound (b .it) (sym left-is ∙ b .left)) ∙ kind-is (envBelow v′ j) _ g′ bound′ (b .it) (sym right-is ∙ b .right)))
 
-    module _ (f : g ≡ g′) (nz : g ≡ 0 → ⊥) where
-      splits : Splits (Whole (envBelow v i) (envBelow v′ j) (recordCells nodeWidth (v .nodes) (nodeWidth * i)) (recordCells nodeWidth (v′ .nodes) (nodeWidth * j)) g) (Each (envBelow v i) (envBelow v′ j) (recordCells nodeWidth (v .nodes) (nodeWidth * i)) (recordCells nodeWidth (v′ .nodes) (nodeWidth * j)) g)
-      splits = parts-of (envBelow v i) (envBelow v′ j) _ _ g bound nz
+    module _ (f : g ≡ g′) (nz : g ≡ 0 → ⊥) {order : ℕ} (o : Ordered g order) where
+      splits : Splits (Whole (envBelow v i) (envBelow v′ j) (recordCells nodeWidth (v .nodes) (nodeWidth * i)) (recordCells nodeWidth (v′ .nodes) (nodeWidth * j)) g) (Each (envBelow v i) (envBelow v′ j) (recordCells nodeWidth (v .nodes) (nodeWidth * i)) (recordCells nodeWidth (v′ .nodes) (nodeWidth * j)) order)
+      splits = parts-in (envBelow v i) (envBelow v′ j) _ _ o bound nz
 
-      unmade : Agree (nodesBelow v n i) (nodesBelow v′ m j) → (x : ℕ) → x < 6 → PartsAgree (envBelow v i) (envBelow v′ j) g (v .nodes) (nodeWidth * i) (v′ .nodes) (nodeWidth * j) x
+      unmade : Agree (nodesBelow v n i) (nodesBelow v′ m j) → (x : ℕ) → x < 6 → PartsAgree (envBelow v i) (envBelow v′ j) order (v .nodes) (nodeWidth * i) (v′ .nodes) (nodeWidth * j) x
       unfolding Whole
-      unmade b x l = into (envBelow v i) (envBelow v′ j) (v .nodes) (v′ .nodes) (nodeWidth * i) (nodeWidth * j) g x (splits .split (move left-is (right-is ∙ ap (nodeByParts (envBelow v′ j) (recordCells nodeWidth (v′ .nodes) (nodeWidth * j))) (sym f)) b) x l)
+      unmade b x l = into (envBelow v i) (envBelow v′ j) (v .nodes) (v′ .nodes) (nodeWidth * i) (nodeWidth * j) order x (splits .split (move left-is (right-is ∙ ap (nodeByParts (envBelow v′ j) (recordCells nodeWidth (v′ .nodes) (nodeWidth * j))) (sym f)) b) x l)
 
-      remade : ((x : ℕ) → x < 5 → PartsAgree (envBelow v i) (envBelow v′ j) g (v .nodes) (nodeWidth * i) (v′ .nodes) (nodeWidth * j) x) → PartsAgree (envBelow v i) (envBelow v′ j) g (v .nodes) (nodeWidth * i) (v′ .nodes) (nodeWidth * j) 5 → Agree (nodesBelow v n i) (nodesBelow v′ m j)
+      remade : ((x : ℕ) → x < 5 → PartsAgree (envBelow v i) (envBelow v′ j) order (v .nodes) (nodeWidth * i) (v′ .nodes) (nodeWidth * j) x) → PartsAgree (envBelow v i) (envBelow v′ j) order (v .nodes) (nodeWidth * i) (v′ .nodes) (nodeWidth * j) 5 → Agree (nodesBelow v n i) (nodesBelow v′ m j)
       unfolding Whole
       remade q r =
-          let back = outof (envBelow v i) (envBelow v′ j) (v .nodes) (v′ .nodes) (nodeWidth * i) (nodeWidth * j) g in
+          let back = outof (envBelow v i) (envBelow v′ j) (v .nodes) (v′ .nodes) (nodeWidth * i) (nodeWidth * j) order in
           move (sym left-is) (sym (right-is ∙ ap (nodeByParts (envBelow v′ j) (recordCells nodeWidth (v′ .nodes) (nodeWidth * j))) (sym f))) (splits .join (back 0 (q 0 (omega arith))) (back 1 (q 1 (omega arith))) (back 2 (q 2 (omega arith))) (back 3 (q 3 (omega arith))) (back 4 (q 4 (omega arith))) (back 5 r))
 
-      pub parts-differ : (((x : ℕ) → x < 5 → PartsAgree (envBelow v i) (envBelow v′ j) g (v .nodes) (nodeWidth * i) (v′ .nodes) (nodeWidth * j) x) → ⊥) → Decides false (Agree (nodesBelow v n i) (nodesBelow v′ m j))
+      pub parts-differ : (((x : ℕ) → x < 5 → PartsAgree (envBelow v i) (envBelow v′ j) order (v .nodes) (nodeWidth * i) (v′ .nodes) (nodeWidth * j) x) → ⊥) → Decides false (Agree (nodesBelow v n i) (nodesBelow v′ m j))
       parts-differ d = decides-no (λ b. d (λ x l. unmade b x (omega arith)))
 
-      module _ (q : (x : ℕ) → x < 5 → PartsAgree (envBelow v i) (envBelow v′ j) g (v .nodes) (nodeWidth * i) (v′ .nodes) (nodeWidth * j) x) where
-        pub no-last : sortAt (6 * g + 5) ≡ 0 → Decides true (Agree (nodesBelow v n i) (nodesBelow v′ m j))
-        unfolding PartsAgree PartAgrees partOf
-        no-last z = decides-yes (remade q (subst (λ (x : ℕ). PartAgrees (envBelow v i) (envBelow v′ j) (partOf x) (v .nodes) (nodeWidth * i + cellAt (6 * g + 5)) (v′ .nodes) (nodeWidth * j + cellAt (6 * g + 5))) (sym z) ok))
-
-        pub last-decides : {r : Bool} → (sortAt (6 * g + 5) ≡ 0 → ⊥) → Decides r (Agree (nodesBelow v i (getD (v .nodes) (nodeWidth * i + cellAt (6 * g + 5)) 0)) (nodesBelow v′ j (getD (v′ .nodes) (nodeWidth * j + cellAt (6 * g + 5)) 0))) → Decides r (Agree (nodesBelow v n i) (nodesBelow v′ m j))
-        last-decides z d = decides-by (λ a. remade q (last-is (envBelow v i) (envBelow v′ j) _ _ _ _ g bound z a)) (λ b. last-was (envBelow v i) (envBelow v′ j) _ _ _ _ g bound z (unmade b 5 (omega arith))) d
+      module _ (q : (x : ℕ) → x < 5 → PartsAgree (envBelow v i) (envBelow v′ j) order (v .nodes) (nodeWidth * i) (v′ .nodes) (nodeWidth * j) x) where
+        -- the last part decides
+        pub by-last : {r : Bool} → Decides r (PartsAgree (envBelow v i) (envBelow v′ j) order (v .nodes) (nodeWidth * i) (v′ .nodes) (nodeWidth * j) 5) → Decides r (Agree (nodesBelow v n i) (nodesBelow v′ m j))
+        by-last d = decides-by (remade q) (λ b. unmade b 5 (omega arith)) d
 
 pub node-kind-bound : (xs : List ℕ) (i : ℕ) {g : ℕ} → g ≡ nodeKind xs i → g < 15
 node-kind-bound xs i e = rw e (let h = kind-bound 14 xs nodeWidth i in omega arith)
@@ -393,3 +425,39 @@ part-nothing k a b c d e f g h i = rw (ne-eqb k 1 a, ne-eqb k 2 b, ne-eqb k 3 c,
 pub nothing-agrees : (e e′ : Env) (xs : List ℕ) (o : ℕ) (xs′ : List ℕ) (o′ : ℕ) → PartAgrees e e′ nothing xs o xs′ o′
 unfolding PartAgrees
 nothing-agrees e e′ xs o xs′ o′ = ok
+
+-- ---- the parts of a kind in one number
+
+part-in : (k : ℕ) → k < 102 → restOf (k / 6) (k % 6) % 256 ≡ getD parts k 0
+unfolding restOf parts
+part-in k h = agree (λ (n : ℕ). restOf (n / 6) (n % 6) % 256) (λ (n : ℕ). getD parts n 0) 0 102 k refl h
+
+-- the part at a place is the lowest of those from there on
+pub part-is : (g x : ℕ) → g < 17 → x < 6 → restOf g x % 256 ≡ getD parts (6 * g + x) 0
+part-is g x h l =
+    let q : (6 * g + x) / 6 ≡ g = omega arith in
+    let r : (6 * g + x) % 6 ≡ x = omega arith in
+    rw (q, r) at (part-in (6 * g + x) (omega arith))
+
+-- the last stands alone
+pub last-alone : (g : ℕ) → g < 17 → restOf g 0 / 1099511627776 ≡ getD parts (6 * g + 5) 0
+unfolding restOf parts
+last-alone g h = upTo16 (λ (n : ℕ). restOf n 0 / 1099511627776 ≡ getD parts (6 * n + 5) 0) refl refl refl refl refl refl refl refl refl refl refl refl refl refl refl refl refl g h
+
+pub no-parts : (g : ℕ) → g < 17 → (g ≡ 1 → ⊥) → (g ≡ 2 → ⊥) → (g ≡ 3 → ⊥) → (g ≡ 4 → ⊥) → (g ≡ 5 → ⊥) → (g ≡ 6 → ⊥) → (g ≡ 7 → ⊥) → (g ≡ 8 → ⊥) → (g ≡ 9 → ⊥) → (g ≡ 10 → ⊥) → (g ≡ 11 → ⊥) → (g ≡ 12 → ⊥) → (g ≡ 13 → ⊥) → (g ≡ 14 → ⊥) → (g ≡ 15 → ⊥) → (g ≡ 16 → ⊥) → 0 ≡ restOf g 0
+unfolding restOf parts
+no-parts g h a b c d e f i j k l m n o p r s = upTo16 (λ (x : ℕ). g ≡ x → 0 ≡ restOf x 0) (λ q. refl) (λ q. absurd (a q)) (λ q. absurd (b q)) (λ q. absurd (c q)) (λ q. absurd (d q)) (λ q. absurd (e q)) (λ q. absurd (f q)) (λ q. absurd (i q)) (λ q. absurd (j q)) (λ q. absurd (k q)) (λ q. absurd (l q)) (λ q. absurd (m q)) (λ q. absurd (n q)) (λ q. absurd (o q)) (λ q. absurd (p q)) (λ q. absurd (r q)) (λ q. absurd (s q)) g h refl
+
+pub rest-next : (g x : ℕ) {r : ℕ} → r ≡ restOf g x → r / 256 ≡ restOf g (x + 1)
+unfolding restOf
+rest-next g x e = rw add-one (ap (λ (n : ℕ). n / 256) e)
+
+-- the last part of what `parts_of` answers
+module _ (g : ℕ) (h : g < 17) {n : ℕ} (e : n ≡ restOf g 0) where
+  pub last-sort : n / 1099511627776 / 16 ≡ sortAt (6 * g + 5)
+  unfolding sortAt
+  last-sort = ap (λ (k : ℕ). k / 1099511627776 / 16) e ∙ ap (λ (k : ℕ). k / 16) (last-alone g h)
+
+  pub last-cell : n / 1099511627776 % 16 ≡ cellAt (6 * g + 5)
+  unfolding cellAt
+  last-cell = ap (λ (k : ℕ). k / 1099511627776 % 16) e ∙ ap (λ (k : ℕ). k % 16) (last-alone g h)

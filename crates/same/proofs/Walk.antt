@@ -1,6 +1,6 @@
 -- Two lists are walked member by member: what is known on the way, for lists of every sort.
-use mathlib.Core.Path.{_≡_, refl, _∙_, ap, ap₂, subst}
-use mathlib.Core.Bool.{Bool}
+use mathlib.Core.Path.{_≡_, refl, sym, _∙_, ap, ap₂, subst}
+use mathlib.Core.Bool.{Bool, true, false}
 use mathlib.Core.Option.{Option, none, some}
 use mathlib.Core.List.{List, [], _∷_}
 use Prim.Native.Nat.{ℕ, zero, suc, _+_, _*_, _-_, _<_, _≤_}
@@ -11,7 +11,7 @@ use lib.ListN.{length, getD, drop}
 use lib.Seq.{getD-drop, drop-drop}
 use Rattle.lex.specs.declared.tok.Token.{Token}
 use Rattle.rules.specs.Shape as S
-use Rattle.rules.specs.Shape.{Word, TypeShape, Params, FnShape, Shape, Shapes, FieldShapes, CaseShapes, Env, map₁, map₂, andThen, listAt, number, token, run, resolve, both}
+use Rattle.rules.specs.Shape.{Word, wellFormed, word, TypeShape, Params, FnShape, Shape, Shapes, FieldShapes, CaseShapes, Env, map₁, map₂, andThen, listAt, number, token, run, resolve, both}
 use Rattle.rules.specs.declared.Run.{Run}
 use Rattle.ast.specs.Decode.{if, tokenAt, runAt}
 use Rattle.same.specs.Agree.{Agree, Decides}
@@ -88,6 +88,10 @@ module _ {A L : Type 0} (k : Sort A L) (v v′ : ℕ → Option A) (cells cells�
     pub stop : 0 < left → (Agree (v at) (v′ at′) → ⊥) → P → ⊥
     stop h f = Ls.stop (k .size) (k .nil) (k .cons) (k .inj) v v′ P left at at′ (w .rest) h f
 
+    -- the first of them agrees where all do
+    pub first : 0 < left → P → Agree (v at) (v′ at′)
+    first h p = Ls.split (k .size) (k .nil) (k .cons) (k .inj) v v′ P left at at′ (w .rest) h p .0
+
     pub done : left ≡ 0 → P
     done z = Ls.done (k .size) (k .nil) (k .cons) (k .inj) v v′ P at at′ (rw z at (w .rest))
 
@@ -107,6 +111,33 @@ pair-agree p q = agree₂ pair pair-inj p q
 
 pub pair-parts : {A B : Type 0} (x x′ : Option A) (y y′ : Option B) → Agree (map₂ pair x y) (map₂ pair x′ y′) → Agree x x′ × Agree y y′
 pair-parts x x′ y y′ b = parts₂ pair pair-inj x x′ y y′ b
+
+-- what stands behind a token that must be well formed, and is left out
+abbrev pub where-formed : {A : Type 0} → Option Word → Option A → Option A
+where-formed t x = andThen t (λ v. x)
+
+module _ {A : Type 0} (s : List ℕ) (t : Token) (y : Option A) where
+  formed : wellFormed s t ≡ true → where-formed (word s t) y ≡ y
+  unfolding word andThen
+  formed h = rw (h, word)
+
+  unformed : wellFormed s t ≡ false → where-formed (word s t) y ≡ none
+  unfolding word andThen
+  unformed h = rw (h, word)
+
+-- two of them agree if both tokens are well formed and what stands behind agrees
+module _ {A : Type 0} (s s′ : List ℕ) (t t′ : Token) (x x′ : Option A) where
+  pub formed-agree : wellFormed s t ≡ true → wellFormed s′ t′ ≡ true → Agree x x′ → Agree (where-formed (word s t) x) (where-formed (word s′ t′) x′)
+  formed-agree h h′ b = record { it = b .it; left = formed s t x h ∙ b .left; right = formed s′ t′ x′ h′ ∙ b .right }
+
+  pub formed-parts : wellFormed s t ≡ true → wellFormed s′ t′ ≡ true → Agree (where-formed (word s t) x) (where-formed (word s′ t′) x′) → Agree x x′
+  formed-parts h h′ b = record { it = b .it; left = sym (formed s t x h) ∙ b .left; right = sym (formed s′ t′ x′ h′) ∙ b .right }
+
+  pub unformed-left : wellFormed s t ≡ false → Agree (where-formed (word s t) x) (where-formed (word s′ t′) x′) → ⊥
+  unformed-left h b = let l = b .left in let n = unformed s t x h in let z : _≡_ {A = ℕ} 0 1 = cc in omega arith
+
+  pub unformed-right : wellFormed s′ t′ ≡ false → Agree (where-formed (word s t) x) (where-formed (word s′ t′) x′) → ⊥
+  unformed-right h b = let l = b .right in let n = unformed s′ t′ x′ h in let z : _≡_ {A = ℕ} 0 1 = cc in omega arith
 
 abbrev pub wordSort : Sort Word (List Word)
 wordSort = record {
@@ -191,7 +222,7 @@ module _ (e : Env) where
   childAt i = e .node (getD (e .cells) (i + 0) 0)
 
   abbrev pub caseAt : ℕ → Option (Shape × Shapes)
-  caseAt i = map₂ pair (e .node (getD (e .cells) (i + 3) 0)) (S.shapes e (runAt (e .cells) (i + 4)))
+  caseAt i = where-formed (S.w e (tokenAt (e .cells) i)) (map₂ pair (e .node (getD (e .cells) (i + 3) 0)) (S.shapes e (runAt (e .cells) (i + 4))))
 
   abbrev pub fnAt : ℕ → Option FnParts
   fnAt i = map₂ pair (map₂ pair (map₂ pair (S.words e (runAt (e .cells) i)) (S.w e (tokenAt (e .cells) (i + 2)))) (S.params e (runAt (e .cells) (i + 5)))) (e .type (getD (e .cells) (i + 7) 0))
@@ -253,14 +284,15 @@ module _ (e : Env) where
       r
 
   -- the part of a case that is compared
-  compared : (Token × Shape) × Shapes → Shape × Shapes
+  compared : (Word × Shape) × Shapes → Shape × Shapes
   compared c = (c .0 .1, c .1)
 
-  compared-is : (t : Token) (x : Option Shape) (y : Option Shapes) → map₁ compared (map₂ pair (map₂ pair (some t) x) y) ≡ map₂ pair x y
-  unfolding compared map₁ map₂
-  compared-is t none y = refl
-  compared-is t (some a) none = refl
-  compared-is t (some a) (some b) = refl
+  compared-is : (t : Option Word) (x : Option Shape) (y : Option Shapes) → map₁ compared (map₂ pair (map₂ pair t x) y) ≡ where-formed t (map₂ pair x y)
+  unfolding compared map₁ map₂ andThen
+  compared-is none x y = refl
+  compared-is (some t) none y = refl
+  compared-is (some t) (some a) none = refl
+  compared-is (some t) (some a) (some b) = refl
 
   module _ {A B L : Type 0} (f : A → B) (size : ℕ) (nil : L) (cons : B → L → L) (v : ℕ → Option A) (u : ℕ → Option B) (same : (i : ℕ) → map₁ f (v i) ≡ u i) where
     map-cons : (x : Option A) (l : Option L) → map₂ (λ a. cons (f a)) x l ≡ map₂ cons (map₁ f x) l
@@ -273,16 +305,16 @@ module _ (e : Env) where
     from-map zero i = refl
     from-map (suc n) i = map-cons (v i) (listFrom size nil (λ a. cons (f a)) v n (i + size)) ∙ ap₂ (map₂ cons) (same i) (from-map n (i + size))
 
-  wholeCase : ℕ → Option ((Token × Shape) × Shapes)
-  wholeCase i = map₂ pair (map₂ pair (some (tokenAt (e .cells) i)) (e .node (getD (e .cells) (i + 3) 0))) (S.shapes e (runAt (e .cells) (i + 4)))
+  wholeCase : ℕ → Option ((Word × Shape) × Shapes)
+  wholeCase i = map₂ pair (map₂ pair (S.w e (tokenAt (e .cells) i)) (e .node (getD (e .cells) (i + 3) 0))) (S.shapes e (runAt (e .cells) (i + 4)))
 
   pub cases-are : (r : Run) → IsList caseSort caseAt (e .cells) r (S.cases e r)
-  unfolding S.cases S.caseIn andThen compared wholeCase
+  unfolding S.cases S.caseIn S.wordIn andThen compared wholeCase
   cases-are r =
-      list-from 6 S.noCase (λ (c : (Token × Shape) × Shapes). S.caseS (c .0 .1) (c .1)) wholeCase (e .cells)
-      (λ cs. map₂ pair (map₂ pair (some (tokenAt cs 0)) (e .node (getD (drop 3 cs) 0 0))) (S.shapes e (runAt (drop 4 cs) 0)))
-      (λ i. ap₂ (map₂ pair) (ap₂ (map₂ pair) (ap some (token-drop (e .cells) i)) (ap (e .node) (cell-at i 3))) (ap (S.shapes e) (run-at i 4)))
-      (both (both token (resolve number (e .node))) (resolve run (S.shapes e)))
-      (sized-both _ 4 _ (sized-both _ 3 _ sized-token _ 1 _ (sized-cell (e .node))) _ 2 _ (sized-at (S.shapes e)))
+      list-from 6 S.noCase (λ (c : (Word × Shape) × Shapes). S.caseS (c .0 .1) (c .1)) wholeCase (e .cells)
+      (λ cs. map₂ pair (map₂ pair (S.w e (tokenAt cs 0)) (e .node (getD (drop 3 cs) 0 0))) (S.shapes e (runAt (drop 4 cs) 0)))
+      (λ i. ap₂ (map₂ pair) (ap₂ (map₂ pair) (ap (S.w e) (token-drop (e .cells) i)) (ap (e .node) (cell-at i 3))) (ap (S.shapes e) (run-at i 4)))
+      (both (both (resolve token (S.w e)) (resolve number (e .node))) (resolve run (S.shapes e)))
+      (sized-both _ 4 _ (sized-both _ 3 _ sized-w _ 1 _ (sized-cell (e .node))) _ 2 _ (sized-at (S.shapes e)))
       r
-      ∙ ap (λ (l : Option CaseShapes). if (leb (r .start + r .len * 6) (length (e .cells))) l none) (from-map compared 6 S.noCase (λ p. S.caseS (p .0) (p .1)) wholeCase caseAt (λ i. compared-is (tokenAt (e .cells) i) (e .node (getD (e .cells) (i + 3) 0)) (S.shapes e (runAt (e .cells) (i + 4)))) (r .len) (r .start))
+      ∙ ap (λ (l : Option CaseShapes). if (leb (r .start + r .len * 6) (length (e .cells))) l none) (from-map compared 6 S.noCase (λ p. S.caseS (p .0) (p .1)) wholeCase caseAt (λ i. compared-is (S.w e (tokenAt (e .cells) i)) (e .node (getD (e .cells) (i + 3) 0)) (S.shapes e (runAt (e .cells) (i + 4)))) (r .len) (r .start))

@@ -1,13 +1,13 @@
 -- What a comparison of two trees answers.
-use mathlib.Core.Path.{_≡_}
 use mathlib.Core.Bool.{Bool, true, false}
-use mathlib.Core.Option.{none, some}
-use Prim.Native.Nat.{ℕ, suc}
+use mathlib.Core.Option.{Option, none, some}
+use Prim.Native.Nat.{ℕ}
 use lib.Dec.{eqb}
 use Rattle.rules.specs.Shape.{Shapes}
 use Rattle.ast.specs.Decode.{if}
-use Rattle.ast.specs.Answer.{Answer, refused, answer, Lent, refusal}
+use Rattle.ast.specs.Answer.{Answer, refused, answer, unless, Lent, refusal}
 use Rattle.same.specs.Shapes.{shapeIn}
+use Rattle.same.specs.Same.{sameShapes}
 use Rattle.same.specs.declared.Comparison.{Comparison}
 use Rattle.same.specs.declared.Comparison.the-variants as C
 
@@ -15,13 +15,14 @@ use Rattle.same.specs.declared.Comparison.the-variants as C
 unfoldable pub refusals : Lent → Lent → ℕ
 refusals a b = if (eqb (refusal a) 1) 1 (if (eqb (refusal b) 1) 1 (if (eqb (refusal a) 0) (refusal b) (refusal a)))
 
--- the answer that is right; `compares-once` has that there is only one
-pub data Compares (a b : Lent) : Answer Bool → Type 0 where
-  refusedLent : {n : ℕ} → refusals a b ≡ suc n → Compares a b (refused (suc n))
-  malformedLeft : refusals a b ≡ 0 → shapeIn a ≡ none → Compares a b (refused 4)
-  malformedRight : refusals a b ≡ 0 → shapeIn b ≡ none → Compares a b (refused 4)
-  sameShape : {σ : Shapes} → refusals a b ≡ 0 → shapeIn a ≡ some σ → shapeIn b ≡ some σ → Compares a b (answer true)
-  otherShape : {σ τ : Shapes} → refusals a b ≡ 0 → shapeIn a ≡ some σ → shapeIn b ≡ some τ → (σ ≡ τ → ⊥) → Compares a b (answer false)
+-- 4 where anything that the roots of either tree reach is malformed, else whether the shapes are the same
+unfoldable pub compareShapes : Option Shapes → Option Shapes → Answer Bool
+compareShapes none y = refused 4
+compareShapes (some σ) none = refused 4
+compareShapes (some σ) (some τ) = answer (sameShapes σ τ)
+
+unfoldable pub compare : Lent → Lent → Answer Bool
+compare a b = unless (refusals a b) (compareShapes (shapeIn a) (shapeIn b))
 
 -- document 01's numbers, yes and no for each case of an answer
 unfoldable pub comparisonAnswer : Comparison → Answer Bool

@@ -2,5 +2,6 @@
 pub mod Shapes
 pub mod Agree
 pub mod Parts
+pub mod Same
 pub mod Compare
 pub mod Returned

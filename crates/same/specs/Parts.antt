@@ -1,7 +1,7 @@
 -- The parts of a node's record, in the order in which they are compared: what each is, and in which cell it stands.
 use mathlib.Core.Option.{Option, some}
 use mathlib.Core.List.{List, [], _∷_}
-use Prim.Native.Nat.{ℕ, _+_, _*_, _/_, _%_}
+use Prim.Native.Nat.{ℕ, zero, suc, _+_, _*_, _/_, _%_}
 use lib.Dec.{eqb}
 use lib.ListN.{getD}
 use Rattle.rules.specs.Shape.{Word, TypeShape, Params, FnShape, Shape, Shapes, FieldShapes, CaseShapes, Env, w, words, params, shapes, fields, cases, fns}
@@ -60,7 +60,7 @@ partOf k =
 abbrev encode : ℕ → ℕ → ℕ
 encode sort cell = 16 * sort + cell
 
--- six parts for each kind from 0 on, the last being the child that is compared last
+-- six parts for each kind from 0 on, the last being the child, or the list of nodes or of fields, that is compared last; behind them another order for an operator, its right side last, and for a call, its arguments last
 unfoldable pub parts : List ℕ
 parts =
     0 ∷ 0 ∷ 0 ∷ 0 ∷ 0 ∷ 0 ∷
@@ -69,15 +69,23 @@ parts =
     encode 1 2 ∷ encode 9 6 ∷ 0 ∷ 0 ∷ 0 ∷ encode 9 5 ∷
     encode 1 2 ∷ 0 ∷ 0 ∷ 0 ∷ 0 ∷ encode 9 5 ∷
     encode 2 2 ∷ encode 1 4 ∷ 0 ∷ 0 ∷ 0 ∷ encode 9 7 ∷
-    encode 2 2 ∷ encode 1 4 ∷ encode 3 7 ∷ encode 4 9 ∷ encode 6 10 ∷ 0 ∷
-    encode 8 2 ∷ encode 1 4 ∷ encode 6 7 ∷ 0 ∷ 0 ∷ 0 ∷
+    encode 2 2 ∷ encode 1 4 ∷ encode 3 7 ∷ encode 4 9 ∷ 0 ∷ encode 6 10 ∷
+    encode 8 2 ∷ encode 1 4 ∷ 0 ∷ 0 ∷ 0 ∷ encode 6 7 ∷
     encode 6 3 ∷ 0 ∷ 0 ∷ 0 ∷ 0 ∷ encode 9 2 ∷
     encode 1 3 ∷ 0 ∷ 0 ∷ 0 ∷ 0 ∷ encode 9 2 ∷
     encode 1 2 ∷ encode 4 6 ∷ 0 ∷ 0 ∷ 0 ∷ encode 9 5 ∷
     encode 1 2 ∷ encode 2 5 ∷ 0 ∷ 0 ∷ 0 ∷ 0 ∷
     encode 1 2 ∷ encode 2 5 ∷ encode 1 7 ∷ encode 5 10 ∷ 0 ∷ 0 ∷
-    encode 1 2 ∷ encode 7 5 ∷ 0 ∷ 0 ∷ 0 ∷ 0 ∷
-    encode 1 2 ∷ encode 6 5 ∷ 0 ∷ 0 ∷ 0 ∷ 0 ∷ []
+    encode 1 2 ∷ 0 ∷ 0 ∷ 0 ∷ 0 ∷ encode 7 5 ∷
+    encode 1 2 ∷ 0 ∷ 0 ∷ 0 ∷ 0 ∷ encode 6 5 ∷
+    encode 1 2 ∷ encode 9 5 ∷ 0 ∷ 0 ∷ 0 ∷ encode 9 6 ∷
+    encode 9 2 ∷ 0 ∷ 0 ∷ 0 ∷ 0 ∷ encode 6 3 ∷ []
+
+-- the orders in which a kind's parts are compared
+pub data Ordered : ℕ → ℕ → Type 0 where
+  own : {kind : ℕ} → Ordered kind kind
+  rightLast : Ordered 3 15
+  argumentsLast : Ordered 8 16
 
 unfoldable pub sortAt : ℕ → ℕ
 sortAt k = getD parts k 0 / 16
@@ -85,6 +93,13 @@ sortAt k = getD parts k 0 / 16
 unfoldable pub cellAt : ℕ → ℕ
 cellAt k = getD parts k 0 % 16
 
--- part `k` of two records of one kind, from the cells `p` and `p′` on
+-- the parts in an order as one number, eight bits each, those from `x` on
+unfoldable pub restOf : ℕ → ℕ → ℕ
+restOf order zero =
+    let part : ℕ → ℕ = λ k. getD parts (6 * order + k) 0 in
+    part 0 + 256 * (part 1 + 256 * (part 2 + 256 * (part 3 + 256 * (part 4 + 256 * part 5))))
+restOf order (suc x) = restOf order x / 256
+
+-- part `k` of two records in one order, from the cells `p` and `p′` on
 unfoldable pub PartsAgree : Env → Env → ℕ → List ℕ → ℕ → List ℕ → ℕ → ℕ → Type 0
-PartsAgree e e′ kind xs p xs′ p′ k = PartAgrees e e′ (partOf (sortAt (6 * kind + k))) xs (p + cellAt (6 * kind + k)) xs′ (p′ + cellAt (6 * kind + k))
+PartsAgree e e′ order xs p xs′ p′ k = PartAgrees e e′ (partOf (sortAt (6 * order + k))) xs (p + cellAt (6 * order + k)) xs′ (p′ + cellAt (6 * order + k))

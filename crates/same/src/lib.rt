@@ -9,10 +9,11 @@ use ast::lookup::refusal;
 use ast::lookup::used;
 use node::agree_node;
 use rules::Counts;
+ghost use mathlib.Core.Path.{_≡_};
 ghost use Rattle.ast.specs.Answer.{lent};
 ghost use Rattle.same.specs.Agree.{Agree, Decides};
 ghost use Rattle.same.specs.Shapes.{view, rootShapes};
-ghost use Rattle.same.specs.Compare.{Compares, comparisonAnswer};
+ghost use Rattle.same.specs.Compare.{compare, comparisonAnswer};
 
 pub enum Comparison {
     Same,
@@ -92,7 +93,7 @@ pub fn same_shape(
     roots2: &[u32],
     counts2: Counts,
 ) -> Comparison
-    ensures { λ r. ⌜ Compares (lent (now (script .entry)) (now (nodes .entry)) (now (types .entry)) (now (lists .entry)) (now (roots .entry)) counts) (lent (now (script2 .entry)) (now (nodes2 .entry)) (now (types2 .entry)) (now (lists2 .entry)) (now (roots2 .entry)) counts2) (comparisonAnswer r) ⌝ }
+    ensures { λ r. ⌜ comparisonAnswer r ≡ compare (lent (now (script .entry)) (now (nodes .entry)) (now (types .entry)) (now (lists .entry)) (now (roots .entry)) counts) (lent (now (script2 .entry)) (now (nodes2 .entry)) (now (types2 .entry)) (now (lists2 .entry)) (now (roots2 .entry)) counts2) ⌝ }
 {
     let a = refusal(script, nodes, types, lists, roots, counts);
     let b = refusal(script2, nodes2, types2, lists2, roots2, counts2);

@@ -3,143 +3,139 @@ use crate::kind::kind_at;
 use crate::type_expr::agree_fns;
 use crate::type_expr::agree_params;
 use crate::type_expr::agree_type;
-use crate::word::agree_token;
+use crate::word::agree_token_at;
 use crate::word::agree_words;
+use crate::word::formed_at;
 use ast::layout::cell;
 use ast::layout::run_at;
-use ast::layout::token_at;
 use rules::Node;
 use rules::NodeKind;
 use rules::Run;
+ghost use mathlib.Core.Path.{_≡_};
 ghost use Prim.Native.Nat.{ℕ, _*_, _<_};
 ghost use Rattle.rules.specs.Shape.{shapes, fields, cases};
 ghost use Rattle.same.specs.Agree.{Agree, Decides};
 ghost use Rattle.same.specs.Shapes.{view, nodesBelow, envBelow};
-ghost use Rattle.same.specs.Parts.{partOf, PartAgrees, PartsAgree};
+ghost use Rattle.same.specs.Parts.{partOf, PartAgrees, PartsAgree, Ordered, restOf};
 
 // What a part of a record is.
-struct Sort(u8);
+struct Sort(u64);
 
 impl Sort {
-    const TOKEN: u8 = 1;
+    const TOKEN: u64 = 1;
 
-    const TOKENS: u8 = 2;
+    const TOKENS: u64 = 2;
 
-    const PARAMS: u8 = 3;
+    const PARAMS: u64 = 3;
 
-    const TYPE: u8 = 4;
+    const TYPE: u64 = 4;
 
-    const FNS: u8 = 5;
+    const FNS: u64 = 5;
 
-    const NODES: u8 = 6;
+    const NODES: u64 = 6;
 
-    const FIELDS: u8 = 7;
+    const FIELDS: u64 = 7;
 
-    const CASES: u8 = 8;
+    const CASES: u64 = 8;
 
-    const NODE: u8 = 9;
+    const NODE: u64 = 9;
 }
 
-// Six parts for each kind of node from 0 on, in the order in which they are compared; the last is the child that is compared last. The
-// first digit is the part's sort, 0 where there is none, and the second its cell in the record.
-const PARTS: [u8; 90] = [
-    0x00,
-    0x00,
-    0x00,
-    0x00,
-    0x00,
-    0x00,
-    0x12,
-    0x00,
-    0x00,
-    0x00,
-    0x00,
-    0x00,
-    0x12,
-    0x00,
-    0x00,
-    0x00,
-    0x00,
-    0x00,
-    0x12,
-    0x96,
-    0x00,
-    0x00,
-    0x00,
-    0x95,
-    0x12,
-    0x00,
-    0x00,
-    0x00,
-    0x00,
-    0x95,
-    0x22,
-    0x14,
-    0x00,
-    0x00,
-    0x00,
-    0x97,
-    0x22,
-    0x14,
-    0x37,
-    0x49,
-    0x6a,
-    0x00,
-    0x82,
-    0x14,
-    0x67,
-    0x00,
-    0x00,
-    0x00,
-    0x63,
-    0x00,
-    0x00,
-    0x00,
-    0x00,
-    0x92,
-    0x13,
-    0x00,
-    0x00,
-    0x00,
-    0x00,
-    0x92,
-    0x12,
-    0x46,
-    0x00,
-    0x00,
-    0x00,
-    0x95,
-    0x12,
-    0x25,
-    0x00,
-    0x00,
-    0x00,
-    0x00,
-    0x12,
-    0x25,
-    0x17,
-    0x5a,
-    0x00,
-    0x00,
-    0x12,
-    0x75,
-    0x00,
-    0x00,
-    0x00,
-    0x00,
-    0x12,
-    0x65,
-    0x00,
-    0x00,
-    0x00,
-    0x00,
-];
+// The number of an order in which the parts of a node are compared: its kind, and two more.
+struct Order(u32);
 
-// The place of the last part among the six.
+impl Order {
+    // An operator, its right side last.
+    const RIGHT_LAST: u32 = 15;
+
+    // A call, its arguments last.
+    const ARGUMENTS_LAST: u32 = 16;
+}
+
+// The order for node `i`. Its kind's own one has the left side of an operator and the target of a call last; where that is a name or an
+// atom, it is compared first. Either order decides the same, and so chains on the right and in arguments take no stack either.
+fn order_of(nodes: &&[u32], kind: u32, i: u32) -> u32
+    ensures { λ r. ⌜ Ordered kind r ⌝ }
+{
+    if kind == NodeKind::BIN {
+        let lhs = cell(*nodes, Node::WIDTH * i as usize, 5);
+        if kind_at(*nodes, Node::WIDTH, NodeKind::ARRAY, lhs) <= NodeKind::IDENT {
+            return Order::RIGHT_LAST;
+        }
+    }
+    if kind == NodeKind::CALL {
+        let target = cell(*nodes, Node::WIDTH * i as usize, 2);
+        if kind_at(*nodes, Node::WIDTH, NodeKind::ARRAY, target) <= NodeKind::IDENT {
+            return Order::ARGUMENTS_LAST;
+        }
+    }
+    kind
+}
+
+// The six parts of a node in an order, eight bits each from the lowest on; the last is the child or the list that is compared
+// last. Of the eight bits the upper four are the part's sort, 0 where there is none, and the lower four its cell in the record.
+fn parts_of(order: u32) -> u64
+    requires { ⌜ order < 17 ⌝ }
+    ensures { λ r. ⌜ r ≡ restOf order 0 ⌝ }
+{
+    if order == NodeKind::ATOM {
+        return 0x000000000012;
+    }
+    if order == NodeKind::IDENT {
+        return 0x000000000012;
+    }
+    if order == NodeKind::BIN {
+        return 0x950000009612;
+    }
+    if order == NodeKind::UNARY {
+        return 0x950000000012;
+    }
+    if order == NodeKind::LET {
+        return 0x970000001422;
+    }
+    if order == NodeKind::FN {
+        return 0x6a0049371422;
+    }
+    if order == NodeKind::MATCH {
+        return 0x670000001482;
+    }
+    if order == NodeKind::CALL {
+        return 0x920000000063;
+    }
+    if order == NodeKind::FIELD {
+        return 0x920000000013;
+    }
+    if order == NodeKind::CAST {
+        return 0x950000004612;
+    }
+    if order == NodeKind::IMPORT {
+        return 0x000000002512;
+    }
+    if order == NodeKind::EXTERN {
+        return 0x00005a172512;
+    }
+    if order == NodeKind::RECORD {
+        return 0x750000000012;
+    }
+    if order == NodeKind::ARRAY {
+        return 0x650000000012;
+    }
+    if order == Order::RIGHT_LAST {
+        return 0x960000009512;
+    }
+    if order == Order::ARGUMENTS_LAST {
+        return 0x630000000092;
+    }
+    0
+}
+
+// The place of the last part among the six, and what stands before it.
 const LAST: usize = 5;
 
-// Node `i`, below `n`, and node `j`, below `m`. The last call is the last thing done, and passes nothing that lies in this function's
-// frame, so that a long chain takes no stack.
+const BEFORE_LAST: u64 = 0x10000000000;
+
+// Node `i`, below `n`, and node `j`, below `m`. The last child, or the last member of the last list, is the last thing done, and is passed
+// nothing that lies in this function's frame: so a long chain takes no stack.
 pub(crate) fn agree_node(
     s: &&[u8],
     nodes: &&[u32],
@@ -171,6 +167,7 @@ pub(crate) fn agree_node(
     if kind != kind_at(*nodes2, Node::WIDTH, NodeKind::ARRAY, j) {
         return false;
     }
+    let order = order_of(nodes, kind, i);
     if !agree_parts(
         s,
         nodes,
@@ -184,15 +181,136 @@ pub(crate) fn agree_node(
         cells2,
         k2,
         j,
-        kind,
+        order,
     ) {
         return false;
     }
-    let last = PARTS[6 * kind as usize + LAST];
-    if last / 16 == 0 {
+    let last = parts_of(order) / BEFORE_LAST;
+    let sort = last / 16;
+    if sort == 0 {
         return true;
     }
     let o = (last % 16) as usize;
+    if sort == Sort::NODE {
+        return agree_node(
+            s,
+            nodes,
+            types,
+            cells,
+            k,
+            i,
+            cell(*nodes, Node::WIDTH * i as usize, o),
+            s2,
+            nodes2,
+            types2,
+            cells2,
+            k2,
+            j,
+            cell(*nodes2, Node::WIDTH * j as usize, o),
+        );
+    }
+    let r = run_at(*nodes, Node::WIDTH * i as usize + o);
+    let r2 = run_at(*nodes2, Node::WIDTH * j as usize + o);
+    if sort == Sort::FIELDS {
+        if r.len != r2.len {
+            return false;
+        }
+        let mut at = r.start as usize;
+        let mut at2 = r2.start as usize;
+        let mut left = r.len as usize;
+        if cells.len() < at + left * 4 {
+            return false;
+        }
+        if cells2.len() < at2 + left * 4 {
+            return false;
+        }
+        if left == 0 {
+            return true;
+        }
+        while 1 < left {
+            if !agree_token_at(s, cells, at, s2, cells2, at2) {
+                return false;
+            }
+            if !agree_node(
+                s,
+                nodes,
+                types,
+                cells,
+                k,
+                i,
+                cell(*cells, at, 3),
+                s2,
+                nodes2,
+                types2,
+                cells2,
+                k2,
+                j,
+                cell(*cells2, at2, 3),
+            ) {
+                return false;
+            }
+            at += 4;
+            at2 += 4;
+            left -= 1;
+        }
+        if !agree_token_at(s, cells, at, s2, cells2, at2) {
+            return false;
+        }
+        return agree_node(
+            s,
+            nodes,
+            types,
+            cells,
+            k,
+            i,
+            cell(*cells, at, 3),
+            s2,
+            nodes2,
+            types2,
+            cells2,
+            k2,
+            j,
+            cell(*cells2, at2, 3),
+        );
+    }
+    if r.len != r2.len {
+        return false;
+    }
+    let mut at = r.start as usize;
+    let mut at2 = r2.start as usize;
+    let mut left = r.len as usize;
+    if cells.len() < at + left * 1 {
+        return false;
+    }
+    if cells2.len() < at2 + left * 1 {
+        return false;
+    }
+    if left == 0 {
+        return true;
+    }
+    while 1 < left {
+        if !agree_node(
+            s,
+            nodes,
+            types,
+            cells,
+            k,
+            i,
+            cell(*cells, at, 0),
+            s2,
+            nodes2,
+            types2,
+            cells2,
+            k2,
+            j,
+            cell(*cells2, at2, 0),
+        ) {
+            return false;
+        }
+        at += 1;
+        at2 += 1;
+        left -= 1;
+    }
     agree_node(
         s,
         nodes,
@@ -200,18 +318,18 @@ pub(crate) fn agree_node(
         cells,
         k,
         i,
-        cell(*nodes, Node::WIDTH * i as usize, o),
+        cell(*cells, at, 0),
         s2,
         nodes2,
         types2,
         cells2,
         k2,
         j,
-        cell(*nodes2, Node::WIDTH * j as usize, o),
+        cell(*cells2, at2, 0),
     )
 }
 
-// The parts of two nodes of one kind, but for the last.
+// The parts of two nodes in one order, but for the last.
 fn agree_parts(
     s: &&[u8],
     nodes: &&[u32],
@@ -225,14 +343,15 @@ fn agree_parts(
     cells2: &&[u32],
     k2: u32,
     j: u32,
-    kind: u32,
+    order: u32,
 ) -> bool
-    requires { ⌜ kind < 15 ⌝ }
-    ensures { λ r. ⌜ Decides r ((x : ℕ) → x < 5 → PartsAgree (envBelow (view (now (now (s .entry))) (now (now (nodes .entry))) (now (now (types .entry))) (now (now (cells .entry))) k) i) (envBelow (view (now (now (s2 .entry))) (now (now (nodes2 .entry))) (now (now (types2 .entry))) (now (now (cells2 .entry))) k2) j) kind (now (now (nodes .entry))) (16 * i) (now (now (nodes2 .entry))) (16 * j) x) ⌝ }
+    requires { ⌜ order < 17 ⌝ }
+    ensures { λ r. ⌜ Decides r ((x : ℕ) → x < 5 → PartsAgree (envBelow (view (now (now (s .entry))) (now (now (nodes .entry))) (now (now (types .entry))) (now (now (cells .entry))) k) i) (envBelow (view (now (now (s2 .entry))) (now (now (nodes2 .entry))) (now (now (types2 .entry))) (now (now (cells2 .entry))) k2) j) order (now (now (nodes .entry))) (16 * i) (now (now (nodes2 .entry))) (16 * j) x) ⌝ }
 {
+    let mut rest = parts_of(order);
     let mut x = 0;
     while x < LAST {
-        let part = PARTS[6 * kind as usize + x];
+        let part = rest % 256;
         let o = (part % 16) as usize;
         if !agree_part(
             s,
@@ -253,6 +372,7 @@ fn agree_parts(
         ) {
             return false;
         }
+        rest = rest / 256;
         x += 1;
     }
     true
@@ -274,20 +394,20 @@ fn agree_part(
     k2: u32,
     j: u32,
     at2: usize,
-    sort: u8,
+    sort: u64,
 ) -> bool
     ensures { λ r. ⌜ Decides r (PartAgrees (envBelow (view (now (now (s .entry))) (now (now (nodes .entry))) (now (now (types .entry))) (now (now (cells .entry))) k) i) (envBelow (view (now (now (s2 .entry))) (now (now (nodes2 .entry))) (now (now (types2 .entry))) (now (now (cells2 .entry))) k2) j) (partOf sort) (now (now (nodes .entry))) at (now (now (nodes2 .entry))) at2) ⌝ }
 {
     if sort == Sort::TOKEN {
-        return agree_token(*s, token_at(*nodes, at), *s2, token_at(*nodes2, at2));
+        return agree_token_at(s, nodes, at, s2, nodes2, at2);
     }
     if sort == Sort::TOKENS {
         return agree_words(
-            *s,
-            *cells,
+            s,
+            cells,
             run_at(*nodes, at),
-            *s2,
-            *cells2,
+            s2,
+            cells2,
             run_at(*nodes2, at2),
         );
     }
@@ -497,7 +617,7 @@ fn agree_fields(
         return false;
     }
     while 0 < left {
-        if !agree_token(*s, token_at(*cells, at), *s2, token_at(*cells2, at2)) {
+        if !agree_token_at(s, cells, at, s2, cells2, at2) {
             return false;
         }
         if !agree_node(
@@ -525,7 +645,7 @@ fn agree_fields(
     true
 }
 
-// Two lists of cases: condition and body. A case's own token is left out.
+// Two lists of cases: condition and body. Of a case's own token only that it is well formed counts.
 fn agree_cases(
     s: &&[u8],
     nodes: &&[u32],
@@ -557,6 +677,12 @@ fn agree_cases(
         return false;
     }
     while 0 < left {
+        if !formed_at(s, cells, at) {
+            return false;
+        }
+        if !formed_at(s2, cells2, at2) {
+            return false;
+        }
         if !agree_node(
             s,
             nodes,

@@ -1,10 +1,9 @@
 // When two types, or two lists of arguments or of fns, agree. The number of a type falls from call to call.
 use crate::kind::kind_at;
-use crate::word::agree_token;
+use crate::word::agree_token_at;
 use crate::word::agree_words;
 use ast::layout::cell;
 use ast::layout::run_at;
-use ast::layout::token_at;
 use rules::Run;
 use rules::TypeExpr;
 use rules::TypeExprKind;
@@ -71,12 +70,7 @@ pub(crate) fn agree_type(
             cell(*types2, at2, 1),
         );
     }
-    if !agree_token(
-        *s,
-        token_at(*types, at + 1),
-        *s2,
-        token_at(*types2, at2 + 1),
-    ) {
+    if !agree_token_at(s, types, at + 1, s2, types2, at2 + 1) {
         return false;
     }
     if kind != TypeExprKind::RECORD {
@@ -124,7 +118,7 @@ pub(crate) fn agree_params(
         return false;
     }
     while 0 < left {
-        if !agree_token(*s, token_at(*cells, at), *s2, token_at(*cells2, at2)) {
+        if !agree_token_at(s, cells, at, s2, cells2, at2) {
             return false;
         }
         if !agree_type(
@@ -177,21 +171,16 @@ pub(crate) fn agree_fns(
     }
     while 0 < left {
         if !agree_words(
-            *s,
-            *cells,
+            s,
+            cells,
             run_at(*cells, at),
-            *s2,
-            *cells2,
+            s2,
+            cells2,
             run_at(*cells2, at2),
         ) {
             return false;
         }
-        if !agree_token(
-            *s,
-            token_at(*cells, at + 2),
-            *s2,
-            token_at(*cells2, at2 + 2),
-        ) {
+        if !agree_token_at(s, cells, at + 2, s2, cells2, at2 + 2) {
             return false;
         }
         if !agree_params(

@@ -1,10 +1,9 @@
 -- What the definitions say of the cases that `tree_cases` reads, in their order: written by tools/cases, with the program's stdin and stdout.
-use mathlib.Core.Path.{_≡_, refl, ap}
+use mathlib.Core.Path.{_≡_, refl}
 use mathlib.Core.Bool.{true, false}
 use mathlib.Core.Option.{none, some}
 use mathlib.Core.List.{List, [], _∷_}
 use Prim.Native.Nat.{ℕ}
-use native.Mathlib.Omega.{arith}
 use lib.ListN.{replicate}
 use Rattle.lex.specs.Bytes.{between}
 use Rattle.lex.specs.Lex.{leadingSpace}
@@ -21,31 +20,11 @@ use Rattle.ast.specs.Lookup.{tokenStart, orElse, matchStart, startOf, nodeStart
 use Rattle.ast.specs.Span.{spanOf, tokenSpan}
 use Rattle.ast.specs.Position.{feeds, since, placeOf, placeAt}
 use Rattle.same.specs.Shapes.{typesBelow, nodesBelow, rootShapes}
-use Rattle.same.specs.Compare.{refusals, Compares, refusedLent, malformedLeft, malformedRight, sameShape, otherShape}
+use Rattle.same.specs.Same.{computed}
+use Rattle.same.specs.Compare.{refusals, compareShapes, compare}
 
 abbrev counts : ℕ → ℕ → ℕ → ℕ → Counts
 counts n t c r = record { nodes = n; types = t; cells = c; roots = r; values = 0; diagnostics = 0 }
-
--- something by which two shapes differ
-key : R.Shape → List ℕ
-key (R.atom a) = a .spelling
-key (R.ident a) = a .spelling
-key (R.bin op l r) = op .kind ∷ key r
-key (R.unary op r) = []
-key (R.letS a b c) = []
-key (R.fnS a b c d e) = []
-key (R.matchS a d c) = d .kind ∷ []
-key (R.call a b) = []
-key (R.field a b) = []
-key (R.cast a b c) = []
-key (R.importS a b) = []
-key (R.externS a b c d) = []
-key (R.recordS a b) = []
-key (R.array a b) = []
-
-keys : R.Shapes → List ℕ
-keys R.noShape = []
-keys (R.shape σ σs) = key σ
 
 -- `unfolding tokens`, .. opens all that a definition is made of
 unfoldable tokens : Unit {0}
@@ -72,9 +51,9 @@ unfoldable place : Unit {0}
 unfolding placeAt placeOf feeds since
 place = tt
 
-unfoldable compare : Unit {0}
-unfolding records key keys refusals rootShapes nodesBelow typesBelow R.shapesOf R.nodeShape R.typeShape R.w R.word R.wordOf R.words R.wordIn R.params R.paramIn R.shapes R.fields R.fieldIn R.cases R.caseIn R.fns R.fnIn R.listAt R.items R.from R.chain R.resolve R.both R.number R.token R.run R.decoded map₁ map₂ map₃ map₄ map₅
-compare = tt
+unfoldable comparison : Unit {0}
+unfolding records computed compare compareShapes refusals rootShapes nodesBelow typesBelow R.shapesOf R.nodeShape R.typeShape R.w R.word R.wordOf R.words R.wordIn R.params R.paramIn R.shapes R.fields R.fieldIn R.cases R.caseIn R.fns R.fnIn R.listAt R.items R.from R.chain R.resolve R.both R.number R.token R.run R.decoded map₁ map₂ map₃ map₄ map₅
+comparison = tt
 
 -- []
 case-0 : nodeStart (lent (91 ∷ 93 ∷ []) (padded 32 (14 ∷ 0 ∷ 18 ∷ 0 ∷ 1 ∷ [])) (padded 16 ([])) (padded 16 ([])) (padded 2 ([])) (counts 1 0 0 0)) 0 ≡ answer none
@@ -392,216 +371,236 @@ unfolding place
 case-62 = refl
 
 -- a + b and a+b, its nodes in another order
-case-63 : Compares (lent (97 ∷ 32 ∷ 43 ∷ 32 ∷ 98 ∷ []) (padded 80 (2 ∷ 0 ∷ 25 ∷ 0 ∷ 1 ∷ 0 ∷ 0 ∷ 0 ∷ 0 ∷ 0 ∷ 0 ∷ 0 ∷ 0 ∷ 0 ∷ 0 ∷ 0 ∷ 2 ∷ 0 ∷ 25 ∷ 4 ∷ 1 ∷ 0 ∷ 0 ∷ 0 ∷ 0 ∷ 0 ∷ 0 ∷ 0 ∷ 0 ∷ 0 ∷ 0 ∷ 0 ∷ 3 ∷ 2 ∷ 4 ∷ 2 ∷ 1 ∷ 0 ∷ 1 ∷ [])) (padded 40 ([])) (padded 40 ([])) (padded 5 (2 ∷ [])) (counts 3 0 0 1)) (lent (97 ∷ 43 ∷ 98 ∷ []) (padded 48 (2 ∷ 0 ∷ 25 ∷ 2 ∷ 1 ∷ 0 ∷ 0 ∷ 0 ∷ 0 ∷ 0 ∷ 0 ∷ 0 ∷ 0 ∷ 0 ∷ 0 ∷ 0 ∷ 2 ∷ 0 ∷ 25 ∷ 0 ∷ 1 ∷ 0 ∷ 0 ∷ 0 ∷ 0 ∷ 0 ∷ 0 ∷ 0 ∷ 0 ∷ 0 ∷ 0 ∷ 0 ∷ 3 ∷ 9 ∷ 4 ∷ 1 ∷ 1 ∷ 1 ∷ [])) (padded 24 ([])) (padded 24 ([])) (padded 3 (2 ∷ [])) (counts 3 0 0 1)) (answer true)
-unfolding compare
-case-63 = sameShape refl refl refl
+case-63 : compare (lent (97 ∷ 32 ∷ 43 ∷ 32 ∷ 98 ∷ []) (padded 80 (2 ∷ 0 ∷ 25 ∷ 0 ∷ 1 ∷ 0 ∷ 0 ∷ 0 ∷ 0 ∷ 0 ∷ 0 ∷ 0 ∷ 0 ∷ 0 ∷ 0 ∷ 0 ∷ 2 ∷ 0 ∷ 25 ∷ 4 ∷ 1 ∷ 0 ∷ 0 ∷ 0 ∷ 0 ∷ 0 ∷ 0 ∷ 0 ∷ 0 ∷ 0 ∷ 0 ∷ 0 ∷ 3 ∷ 2 ∷ 4 ∷ 2 ∷ 1 ∷ 0 ∷ 1 ∷ [])) (padded 40 ([])) (padded 40 ([])) (padded 5 (2 ∷ [])) (counts 3 0 0 1)) (lent (97 ∷ 43 ∷ 98 ∷ []) (padded 48 (2 ∷ 0 ∷ 25 ∷ 2 ∷ 1 ∷ 0 ∷ 0 ∷ 0 ∷ 0 ∷ 0 ∷ 0 ∷ 0 ∷ 0 ∷ 0 ∷ 0 ∷ 0 ∷ 2 ∷ 0 ∷ 25 ∷ 0 ∷ 1 ∷ 0 ∷ 0 ∷ 0 ∷ 0 ∷ 0 ∷ 0 ∷ 0 ∷ 0 ∷ 0 ∷ 0 ∷ 0 ∷ 3 ∷ 9 ∷ 4 ∷ 1 ∷ 1 ∷ 1 ∷ [])) (padded 24 ([])) (padded 24 ([])) (padded 3 (2 ∷ [])) (counts 3 0 0 1)) ≡ answer true
+unfolding comparison
+case-63 = refl
 
 -- a + b and a+c
-case-64 : Compares (lent (97 ∷ 32 ∷ 43 ∷ 32 ∷ 98 ∷ []) (padded 80 (2 ∷ 0 ∷ 25 ∷ 0 ∷ 1 ∷ 0 ∷ 0 ∷ 0 ∷ 0 ∷ 0 ∷ 0 ∷ 0 ∷ 0 ∷ 0 ∷ 0 ∷ 0 ∷ 2 ∷ 0 ∷ 25 ∷ 4 ∷ 1 ∷ 0 ∷ 0 ∷ 0 ∷ 0 ∷ 0 ∷ 0 ∷ 0 ∷ 0 ∷ 0 ∷ 0 ∷ 0 ∷ 3 ∷ 2 ∷ 4 ∷ 2 ∷ 1 ∷ 0 ∷ 1 ∷ [])) (padded 40 ([])) (padded 40 ([])) (padded 5 (2 ∷ [])) (counts 3 0 0 1)) (lent (97 ∷ 43 ∷ 99 ∷ []) (padded 48 (2 ∷ 0 ∷ 25 ∷ 0 ∷ 1 ∷ 0 ∷ 0 ∷ 0 ∷ 0 ∷ 0 ∷ 0 ∷ 0 ∷ 0 ∷ 0 ∷ 0 ∷ 0 ∷ 2 ∷ 0 ∷ 25 ∷ 2 ∷ 1 ∷ 0 ∷ 0 ∷ 0 ∷ 0 ∷ 0 ∷ 0 ∷ 0 ∷ 0 ∷ 0 ∷ 0 ∷ 0 ∷ 3 ∷ 2 ∷ 4 ∷ 1 ∷ 1 ∷ 0 ∷ 1 ∷ [])) (padded 24 ([])) (padded 24 ([])) (padded 3 (2 ∷ [])) (counts 3 0 0 1)) (answer false)
-unfolding compare
-case-64 = otherShape refl refl refl (λ e. let z : _≡_ {A = ℕ} 98 99 = cc (ap keys e) in omega arith)
+case-64 : compare (lent (97 ∷ 32 ∷ 43 ∷ 32 ∷ 98 ∷ []) (padded 80 (2 ∷ 0 ∷ 25 ∷ 0 ∷ 1 ∷ 0 ∷ 0 ∷ 0 ∷ 0 ∷ 0 ∷ 0 ∷ 0 ∷ 0 ∷ 0 ∷ 0 ∷ 0 ∷ 2 ∷ 0 ∷ 25 ∷ 4 ∷ 1 ∷ 0 ∷ 0 ∷ 0 ∷ 0 ∷ 0 ∷ 0 ∷ 0 ∷ 0 ∷ 0 ∷ 0 ∷ 0 ∷ 3 ∷ 2 ∷ 4 ∷ 2 ∷ 1 ∷ 0 ∷ 1 ∷ [])) (padded 40 ([])) (padded 40 ([])) (padded 5 (2 ∷ [])) (counts 3 0 0 1)) (lent (97 ∷ 43 ∷ 99 ∷ []) (padded 48 (2 ∷ 0 ∷ 25 ∷ 0 ∷ 1 ∷ 0 ∷ 0 ∷ 0 ∷ 0 ∷ 0 ∷ 0 ∷ 0 ∷ 0 ∷ 0 ∷ 0 ∷ 0 ∷ 2 ∷ 0 ∷ 25 ∷ 2 ∷ 1 ∷ 0 ∷ 0 ∷ 0 ∷ 0 ∷ 0 ∷ 0 ∷ 0 ∷ 0 ∷ 0 ∷ 0 ∷ 0 ∷ 3 ∷ 2 ∷ 4 ∷ 1 ∷ 1 ∷ 0 ∷ 1 ∷ [])) (padded 24 ([])) (padded 24 ([])) (padded 3 (2 ∷ [])) (counts 3 0 0 1)) ≡ answer false
+unfolding comparison
+case-64 = refl
 
 -- a + b and a*b
-case-65 : Compares (lent (97 ∷ 32 ∷ 43 ∷ 32 ∷ 98 ∷ []) (padded 80 (2 ∷ 0 ∷ 25 ∷ 0 ∷ 1 ∷ 0 ∷ 0 ∷ 0 ∷ 0 ∷ 0 ∷ 0 ∷ 0 ∷ 0 ∷ 0 ∷ 0 ∷ 0 ∷ 2 ∷ 0 ∷ 25 ∷ 4 ∷ 1 ∷ 0 ∷ 0 ∷ 0 ∷ 0 ∷ 0 ∷ 0 ∷ 0 ∷ 0 ∷ 0 ∷ 0 ∷ 0 ∷ 3 ∷ 2 ∷ 4 ∷ 2 ∷ 1 ∷ 0 ∷ 1 ∷ [])) (padded 40 ([])) (padded 40 ([])) (padded 5 (2 ∷ [])) (counts 3 0 0 1)) (lent (97 ∷ 42 ∷ 98 ∷ []) (padded 48 (2 ∷ 0 ∷ 25 ∷ 0 ∷ 1 ∷ 0 ∷ 0 ∷ 0 ∷ 0 ∷ 0 ∷ 0 ∷ 0 ∷ 0 ∷ 0 ∷ 0 ∷ 0 ∷ 2 ∷ 0 ∷ 25 ∷ 2 ∷ 1 ∷ 0 ∷ 0 ∷ 0 ∷ 0 ∷ 0 ∷ 0 ∷ 0 ∷ 0 ∷ 0 ∷ 0 ∷ 0 ∷ 3 ∷ 2 ∷ 6 ∷ 1 ∷ 1 ∷ 0 ∷ 1 ∷ [])) (padded 24 ([])) (padded 24 ([])) (padded 3 (2 ∷ [])) (counts 3 0 0 1)) (answer false)
-unfolding compare
-case-65 = otherShape refl refl refl (λ e. let z : _≡_ {A = ℕ} 4 6 = cc (ap keys e) in omega arith)
+case-65 : compare (lent (97 ∷ 32 ∷ 43 ∷ 32 ∷ 98 ∷ []) (padded 80 (2 ∷ 0 ∷ 25 ∷ 0 ∷ 1 ∷ 0 ∷ 0 ∷ 0 ∷ 0 ∷ 0 ∷ 0 ∷ 0 ∷ 0 ∷ 0 ∷ 0 ∷ 0 ∷ 2 ∷ 0 ∷ 25 ∷ 4 ∷ 1 ∷ 0 ∷ 0 ∷ 0 ∷ 0 ∷ 0 ∷ 0 ∷ 0 ∷ 0 ∷ 0 ∷ 0 ∷ 0 ∷ 3 ∷ 2 ∷ 4 ∷ 2 ∷ 1 ∷ 0 ∷ 1 ∷ [])) (padded 40 ([])) (padded 40 ([])) (padded 5 (2 ∷ [])) (counts 3 0 0 1)) (lent (97 ∷ 42 ∷ 98 ∷ []) (padded 48 (2 ∷ 0 ∷ 25 ∷ 0 ∷ 1 ∷ 0 ∷ 0 ∷ 0 ∷ 0 ∷ 0 ∷ 0 ∷ 0 ∷ 0 ∷ 0 ∷ 0 ∷ 0 ∷ 2 ∷ 0 ∷ 25 ∷ 2 ∷ 1 ∷ 0 ∷ 0 ∷ 0 ∷ 0 ∷ 0 ∷ 0 ∷ 0 ∷ 0 ∷ 0 ∷ 0 ∷ 0 ∷ 3 ∷ 2 ∷ 6 ∷ 1 ∷ 1 ∷ 0 ∷ 1 ∷ [])) (padded 24 ([])) (padded 24 ([])) (padded 3 (2 ∷ [])) (counts 3 0 0 1)) ≡ answer false
+unfolding comparison
+case-65 = refl
 
 -- one root more
-case-66 : Compares (lent (97 ∷ 32 ∷ 43 ∷ 32 ∷ 98 ∷ []) (padded 80 (2 ∷ 0 ∷ 25 ∷ 0 ∷ 1 ∷ 0 ∷ 0 ∷ 0 ∷ 0 ∷ 0 ∷ 0 ∷ 0 ∷ 0 ∷ 0 ∷ 0 ∷ 0 ∷ 2 ∷ 0 ∷ 25 ∷ 4 ∷ 1 ∷ 0 ∷ 0 ∷ 0 ∷ 0 ∷ 0 ∷ 0 ∷ 0 ∷ 0 ∷ 0 ∷ 0 ∷ 0 ∷ 3 ∷ 2 ∷ 4 ∷ 2 ∷ 1 ∷ 0 ∷ 1 ∷ [])) (padded 40 ([])) (padded 40 ([])) (padded 5 (2 ∷ [])) (counts 3 0 0 1)) (lent (97 ∷ 43 ∷ 98 ∷ []) (padded 48 (2 ∷ 0 ∷ 25 ∷ 0 ∷ 1 ∷ 0 ∷ 0 ∷ 0 ∷ 0 ∷ 0 ∷ 0 ∷ 0 ∷ 0 ∷ 0 ∷ 0 ∷ 0 ∷ 2 ∷ 0 ∷ 25 ∷ 2 ∷ 1 ∷ 0 ∷ 0 ∷ 0 ∷ 0 ∷ 0 ∷ 0 ∷ 0 ∷ 0 ∷ 0 ∷ 0 ∷ 0 ∷ 3 ∷ 2 ∷ 4 ∷ 1 ∷ 1 ∷ 0 ∷ 1 ∷ [])) (padded 24 ([])) (padded 24 ([])) (padded 3 (2 ∷ [])) (counts 3 0 0 2)) (answer false)
-unfolding compare
-case-66 = otherShape refl refl refl (λ e. let z : _≡_ {A = ℕ} 0 1 = cc in omega arith)
+case-66 : compare (lent (97 ∷ 32 ∷ 43 ∷ 32 ∷ 98 ∷ []) (padded 80 (2 ∷ 0 ∷ 25 ∷ 0 ∷ 1 ∷ 0 ∷ 0 ∷ 0 ∷ 0 ∷ 0 ∷ 0 ∷ 0 ∷ 0 ∷ 0 ∷ 0 ∷ 0 ∷ 2 ∷ 0 ∷ 25 ∷ 4 ∷ 1 ∷ 0 ∷ 0 ∷ 0 ∷ 0 ∷ 0 ∷ 0 ∷ 0 ∷ 0 ∷ 0 ∷ 0 ∷ 0 ∷ 3 ∷ 2 ∷ 4 ∷ 2 ∷ 1 ∷ 0 ∷ 1 ∷ [])) (padded 40 ([])) (padded 40 ([])) (padded 5 (2 ∷ [])) (counts 3 0 0 1)) (lent (97 ∷ 43 ∷ 98 ∷ []) (padded 48 (2 ∷ 0 ∷ 25 ∷ 0 ∷ 1 ∷ 0 ∷ 0 ∷ 0 ∷ 0 ∷ 0 ∷ 0 ∷ 0 ∷ 0 ∷ 0 ∷ 0 ∷ 0 ∷ 2 ∷ 0 ∷ 25 ∷ 2 ∷ 1 ∷ 0 ∷ 0 ∷ 0 ∷ 0 ∷ 0 ∷ 0 ∷ 0 ∷ 0 ∷ 0 ∷ 0 ∷ 0 ∷ 3 ∷ 2 ∷ 4 ∷ 1 ∷ 1 ∷ 0 ∷ 1 ∷ [])) (padded 24 ([])) (padded 24 ([])) (padded 3 (2 ∷ [])) (counts 3 0 0 2)) ≡ answer false
+unfolding comparison
+case-66 = refl
 
 -- no roots
-case-67 : Compares (lent ([]) (padded 0 ([])) (padded 0 ([])) (padded 0 ([])) (padded 0 ([])) (counts 0 0 0 0)) (lent (97 ∷ []) (padded 16 ([])) (padded 8 ([])) (padded 8 ([])) (padded 1 ([])) (counts 0 0 0 0)) (answer true)
-unfolding compare
-case-67 = sameShape refl refl refl
+case-67 : compare (lent ([]) (padded 0 ([])) (padded 0 ([])) (padded 0 ([])) (padded 0 ([])) (counts 0 0 0 0)) (lent (97 ∷ []) (padded 16 ([])) (padded 8 ([])) (padded 8 ([])) (padded 1 ([])) (counts 0 0 0 0)) ≡ answer true
+unfolding comparison
+case-67 = refl
 
 -- a name and a number
-case-68 : Compares (lent (97 ∷ []) (padded 16 (2 ∷ 0 ∷ 25 ∷ 0 ∷ 1 ∷ [])) (padded 8 ([])) (padded 8 ([])) (padded 1 ([])) (counts 1 0 0 1)) (lent (49 ∷ []) (padded 16 (1 ∷ 0 ∷ 24 ∷ 0 ∷ 1 ∷ [])) (padded 8 ([])) (padded 8 ([])) (padded 1 ([])) (counts 1 0 0 1)) (answer false)
-unfolding compare
-case-68 = otherShape refl refl refl (λ e. let z : _≡_ {A = ℕ} 0 1 = cc in omega arith)
+case-68 : compare (lent (97 ∷ []) (padded 16 (2 ∷ 0 ∷ 25 ∷ 0 ∷ 1 ∷ [])) (padded 8 ([])) (padded 8 ([])) (padded 1 ([])) (counts 1 0 0 1)) (lent (49 ∷ []) (padded 16 (1 ∷ 0 ∷ 24 ∷ 0 ∷ 1 ∷ [])) (padded 8 ([])) (padded 8 ([])) (padded 1 ([])) (counts 1 0 0 1)) ≡ answer false
+unfolding comparison
+case-68 = refl
 
 -- a call with one argument more
-case-69 : Compares (lent (102 ∷ 32 ∷ 97 ∷ 32 ∷ []) (padded 64 (2 ∷ 0 ∷ 25 ∷ 0 ∷ 1 ∷ 0 ∷ 0 ∷ 0 ∷ 0 ∷ 0 ∷ 0 ∷ 0 ∷ 0 ∷ 0 ∷ 0 ∷ 0 ∷ 2 ∷ 0 ∷ 25 ∷ 2 ∷ 1 ∷ 0 ∷ 0 ∷ 0 ∷ 0 ∷ 0 ∷ 0 ∷ 0 ∷ 0 ∷ 0 ∷ 0 ∷ 0 ∷ 8 ∷ 2 ∷ [])) (padded 32 ([])) (padded 32 (1 ∷ [])) (padded 4 (2 ∷ [])) (counts 3 0 1 1)) (lent (102 ∷ 32 ∷ 97 ∷ 32 ∷ []) (padded 64 (2 ∷ 0 ∷ 25 ∷ 0 ∷ 1 ∷ 0 ∷ 0 ∷ 0 ∷ 0 ∷ 0 ∷ 0 ∷ 0 ∷ 0 ∷ 0 ∷ 0 ∷ 0 ∷ 2 ∷ 0 ∷ 25 ∷ 2 ∷ 1 ∷ 0 ∷ 0 ∷ 0 ∷ 0 ∷ 0 ∷ 0 ∷ 0 ∷ 0 ∷ 0 ∷ 0 ∷ 0 ∷ 8 ∷ 2 ∷ 0 ∷ 0 ∷ 1 ∷ [])) (padded 32 ([])) (padded 32 (1 ∷ [])) (padded 4 (2 ∷ [])) (counts 3 0 1 1)) (answer false)
-unfolding compare
-case-69 = otherShape refl refl refl (λ e. let z : _≡_ {A = ℕ} 0 1 = cc in omega arith)
+case-69 : compare (lent (102 ∷ 32 ∷ 97 ∷ 32 ∷ []) (padded 64 (2 ∷ 0 ∷ 25 ∷ 0 ∷ 1 ∷ 0 ∷ 0 ∷ 0 ∷ 0 ∷ 0 ∷ 0 ∷ 0 ∷ 0 ∷ 0 ∷ 0 ∷ 0 ∷ 2 ∷ 0 ∷ 25 ∷ 2 ∷ 1 ∷ 0 ∷ 0 ∷ 0 ∷ 0 ∷ 0 ∷ 0 ∷ 0 ∷ 0 ∷ 0 ∷ 0 ∷ 0 ∷ 8 ∷ 2 ∷ [])) (padded 32 ([])) (padded 32 (1 ∷ [])) (padded 4 (2 ∷ [])) (counts 3 0 1 1)) (lent (102 ∷ 32 ∷ 97 ∷ 32 ∷ []) (padded 64 (2 ∷ 0 ∷ 25 ∷ 0 ∷ 1 ∷ 0 ∷ 0 ∷ 0 ∷ 0 ∷ 0 ∷ 0 ∷ 0 ∷ 0 ∷ 0 ∷ 0 ∷ 0 ∷ 2 ∷ 0 ∷ 25 ∷ 2 ∷ 1 ∷ 0 ∷ 0 ∷ 0 ∷ 0 ∷ 0 ∷ 0 ∷ 0 ∷ 0 ∷ 0 ∷ 0 ∷ 0 ∷ 8 ∷ 2 ∷ 0 ∷ 0 ∷ 1 ∷ [])) (padded 32 ([])) (padded 32 (1 ∷ [])) (padded 4 (2 ∷ [])) (counts 3 0 1 1)) ≡ answer false
+unfolding comparison
+case-69 = refl
 
 -- a let with a doc
-case-70 : Compares (lent (35 ∷ 33 ∷ 100 ∷ 32 ∷ 97 ∷ []) (padded 80 (2 ∷ 0 ∷ 25 ∷ 4 ∷ 1 ∷ 0 ∷ 0 ∷ 0 ∷ 0 ∷ 0 ∷ 0 ∷ 0 ∷ 0 ∷ 0 ∷ 0 ∷ 0 ∷ 5 ∷ 1 ∷ 0 ∷ 0 ∷ 25 ∷ 4 ∷ 1 ∷ [])) (padded 40 ([])) (padded 40 (26 ∷ 0 ∷ 1 ∷ [])) (padded 5 (1 ∷ [])) (counts 2 0 3 1)) (lent (35 ∷ 33 ∷ 100 ∷ 32 ∷ 97 ∷ []) (padded 80 (2 ∷ 0 ∷ 25 ∷ 4 ∷ 1 ∷ 0 ∷ 0 ∷ 0 ∷ 0 ∷ 0 ∷ 0 ∷ 0 ∷ 0 ∷ 0 ∷ 0 ∷ 0 ∷ 5 ∷ 1 ∷ 0 ∷ 1 ∷ 25 ∷ 4 ∷ 1 ∷ [])) (padded 40 ([])) (padded 40 (26 ∷ 0 ∷ 1 ∷ [])) (padded 5 (1 ∷ [])) (counts 2 0 3 1)) (answer false)
-unfolding compare
-case-70 = otherShape refl refl refl (λ e. let z : _≡_ {A = ℕ} 0 1 = cc in omega arith)
+case-70 : compare (lent (35 ∷ 33 ∷ 100 ∷ 32 ∷ 97 ∷ []) (padded 80 (2 ∷ 0 ∷ 25 ∷ 4 ∷ 1 ∷ 0 ∷ 0 ∷ 0 ∷ 0 ∷ 0 ∷ 0 ∷ 0 ∷ 0 ∷ 0 ∷ 0 ∷ 0 ∷ 5 ∷ 1 ∷ 0 ∷ 0 ∷ 25 ∷ 4 ∷ 1 ∷ [])) (padded 40 ([])) (padded 40 (26 ∷ 0 ∷ 1 ∷ [])) (padded 5 (1 ∷ [])) (counts 2 0 3 1)) (lent (35 ∷ 33 ∷ 100 ∷ 32 ∷ 97 ∷ []) (padded 80 (2 ∷ 0 ∷ 25 ∷ 4 ∷ 1 ∷ 0 ∷ 0 ∷ 0 ∷ 0 ∷ 0 ∷ 0 ∷ 0 ∷ 0 ∷ 0 ∷ 0 ∷ 0 ∷ 5 ∷ 1 ∷ 0 ∷ 1 ∷ 25 ∷ 4 ∷ 1 ∷ [])) (padded 40 ([])) (padded 40 (26 ∷ 0 ∷ 1 ∷ [])) (padded 5 (1 ∷ [])) (counts 2 0 3 1)) ≡ answer false
+unfolding comparison
+case-70 = refl
 
--- a case's own token is left out
-case-71 : Compares (lent (97 ∷ 98 ∷ 99 ∷ []) (padded 48 (2 ∷ 0 ∷ 25 ∷ 0 ∷ 1 ∷ 0 ∷ 0 ∷ 0 ∷ 0 ∷ 0 ∷ 0 ∷ 0 ∷ 0 ∷ 0 ∷ 0 ∷ 0 ∷ 2 ∷ 0 ∷ 25 ∷ 1 ∷ 1 ∷ 0 ∷ 0 ∷ 0 ∷ 0 ∷ 0 ∷ 0 ∷ 0 ∷ 0 ∷ 0 ∷ 0 ∷ 0 ∷ 7 ∷ 2 ∷ 0 ∷ 1 ∷ 20 ∷ 0 ∷ 1 ∷ 7 ∷ 1 ∷ [])) (padded 24 ([])) (padded 24 (20 ∷ 0 ∷ 1 ∷ 0 ∷ 6 ∷ 1 ∷ 1 ∷ 1 ∷ [])) (padded 3 (2 ∷ [])) (counts 3 0 8 1)) (lent (97 ∷ 98 ∷ 99 ∷ []) (padded 48 (2 ∷ 0 ∷ 25 ∷ 0 ∷ 1 ∷ 0 ∷ 0 ∷ 0 ∷ 0 ∷ 0 ∷ 0 ∷ 0 ∷ 0 ∷ 0 ∷ 0 ∷ 0 ∷ 2 ∷ 0 ∷ 25 ∷ 1 ∷ 1 ∷ 0 ∷ 0 ∷ 0 ∷ 0 ∷ 0 ∷ 0 ∷ 0 ∷ 0 ∷ 0 ∷ 0 ∷ 0 ∷ 7 ∷ 2 ∷ 0 ∷ 1 ∷ 20 ∷ 0 ∷ 1 ∷ 7 ∷ 1 ∷ [])) (padded 24 ([])) (padded 24 (21 ∷ 0 ∷ 1 ∷ 0 ∷ 6 ∷ 1 ∷ 1 ∷ 1 ∷ [])) (padded 3 (2 ∷ [])) (counts 3 0 8 1)) (answer true)
-unfolding compare
-case-71 = sameShape refl refl refl
+-- a case's own token, well formed, is left out
+case-71 : compare (lent (97 ∷ 98 ∷ 99 ∷ []) (padded 48 (2 ∷ 0 ∷ 25 ∷ 0 ∷ 1 ∷ 0 ∷ 0 ∷ 0 ∷ 0 ∷ 0 ∷ 0 ∷ 0 ∷ 0 ∷ 0 ∷ 0 ∷ 0 ∷ 2 ∷ 0 ∷ 25 ∷ 1 ∷ 1 ∷ 0 ∷ 0 ∷ 0 ∷ 0 ∷ 0 ∷ 0 ∷ 0 ∷ 0 ∷ 0 ∷ 0 ∷ 0 ∷ 7 ∷ 2 ∷ 0 ∷ 1 ∷ 20 ∷ 0 ∷ 1 ∷ 7 ∷ 1 ∷ [])) (padded 24 ([])) (padded 24 (20 ∷ 0 ∷ 1 ∷ 0 ∷ 6 ∷ 1 ∷ 1 ∷ 1 ∷ [])) (padded 3 (2 ∷ [])) (counts 3 0 8 1)) (lent (97 ∷ 98 ∷ 99 ∷ []) (padded 48 (2 ∷ 0 ∷ 25 ∷ 0 ∷ 1 ∷ 0 ∷ 0 ∷ 0 ∷ 0 ∷ 0 ∷ 0 ∷ 0 ∷ 0 ∷ 0 ∷ 0 ∷ 0 ∷ 2 ∷ 0 ∷ 25 ∷ 1 ∷ 1 ∷ 0 ∷ 0 ∷ 0 ∷ 0 ∷ 0 ∷ 0 ∷ 0 ∷ 0 ∷ 0 ∷ 0 ∷ 0 ∷ 7 ∷ 2 ∷ 0 ∷ 1 ∷ 20 ∷ 0 ∷ 1 ∷ 7 ∷ 1 ∷ [])) (padded 24 ([])) (padded 24 (21 ∷ 0 ∷ 1 ∷ 0 ∷ 6 ∷ 1 ∷ 1 ∷ 1 ∷ [])) (padded 3 (2 ∷ [])) (counts 3 0 8 1)) ≡ answer true
+unfolding comparison
+case-71 = refl
 
 -- a default's own token is not
-case-72 : Compares (lent (97 ∷ 98 ∷ 99 ∷ []) (padded 48 (2 ∷ 0 ∷ 25 ∷ 0 ∷ 1 ∷ 0 ∷ 0 ∷ 0 ∷ 0 ∷ 0 ∷ 0 ∷ 0 ∷ 0 ∷ 0 ∷ 0 ∷ 0 ∷ 2 ∷ 0 ∷ 25 ∷ 1 ∷ 1 ∷ 0 ∷ 0 ∷ 0 ∷ 0 ∷ 0 ∷ 0 ∷ 0 ∷ 0 ∷ 0 ∷ 0 ∷ 0 ∷ 7 ∷ 2 ∷ 0 ∷ 1 ∷ 20 ∷ 0 ∷ 1 ∷ 7 ∷ 1 ∷ [])) (padded 24 ([])) (padded 24 (20 ∷ 0 ∷ 1 ∷ 0 ∷ 6 ∷ 1 ∷ 1 ∷ 1 ∷ [])) (padded 3 (2 ∷ [])) (counts 3 0 8 1)) (lent (97 ∷ 98 ∷ 99 ∷ []) (padded 48 (2 ∷ 0 ∷ 25 ∷ 0 ∷ 1 ∷ 0 ∷ 0 ∷ 0 ∷ 0 ∷ 0 ∷ 0 ∷ 0 ∷ 0 ∷ 0 ∷ 0 ∷ 0 ∷ 2 ∷ 0 ∷ 25 ∷ 1 ∷ 1 ∷ 0 ∷ 0 ∷ 0 ∷ 0 ∷ 0 ∷ 0 ∷ 0 ∷ 0 ∷ 0 ∷ 0 ∷ 0 ∷ 7 ∷ 2 ∷ 0 ∷ 1 ∷ 21 ∷ 0 ∷ 1 ∷ 7 ∷ 1 ∷ [])) (padded 24 ([])) (padded 24 (20 ∷ 0 ∷ 1 ∷ 0 ∷ 6 ∷ 1 ∷ 1 ∷ 1 ∷ [])) (padded 3 (2 ∷ [])) (counts 3 0 8 1)) (answer false)
-unfolding compare
-case-72 = otherShape refl refl refl (λ e. let z : _≡_ {A = ℕ} 20 21 = cc (ap keys e) in omega arith)
+case-72 : compare (lent (97 ∷ 98 ∷ 99 ∷ []) (padded 48 (2 ∷ 0 ∷ 25 ∷ 0 ∷ 1 ∷ 0 ∷ 0 ∷ 0 ∷ 0 ∷ 0 ∷ 0 ∷ 0 ∷ 0 ∷ 0 ∷ 0 ∷ 0 ∷ 2 ∷ 0 ∷ 25 ∷ 1 ∷ 1 ∷ 0 ∷ 0 ∷ 0 ∷ 0 ∷ 0 ∷ 0 ∷ 0 ∷ 0 ∷ 0 ∷ 0 ∷ 0 ∷ 7 ∷ 2 ∷ 0 ∷ 1 ∷ 20 ∷ 0 ∷ 1 ∷ 7 ∷ 1 ∷ [])) (padded 24 ([])) (padded 24 (20 ∷ 0 ∷ 1 ∷ 0 ∷ 6 ∷ 1 ∷ 1 ∷ 1 ∷ [])) (padded 3 (2 ∷ [])) (counts 3 0 8 1)) (lent (97 ∷ 98 ∷ 99 ∷ []) (padded 48 (2 ∷ 0 ∷ 25 ∷ 0 ∷ 1 ∷ 0 ∷ 0 ∷ 0 ∷ 0 ∷ 0 ∷ 0 ∷ 0 ∷ 0 ∷ 0 ∷ 0 ∷ 0 ∷ 2 ∷ 0 ∷ 25 ∷ 1 ∷ 1 ∷ 0 ∷ 0 ∷ 0 ∷ 0 ∷ 0 ∷ 0 ∷ 0 ∷ 0 ∷ 0 ∷ 0 ∷ 0 ∷ 7 ∷ 2 ∷ 0 ∷ 1 ∷ 21 ∷ 0 ∷ 1 ∷ 7 ∷ 1 ∷ [])) (padded 24 ([])) (padded 24 (20 ∷ 0 ∷ 1 ∷ 0 ∷ 6 ∷ 1 ∷ 1 ∷ 1 ∷ [])) (padded 3 (2 ∷ [])) (counts 3 0 8 1)) ≡ answer false
+unfolding comparison
+case-72 = refl
 
 -- an orphan is not reached
-case-73 : Compares (lent (97 ∷ []) (padded 32 (99 ∷ 0 ∷ 0 ∷ 0 ∷ 0 ∷ 0 ∷ 0 ∷ 0 ∷ 0 ∷ 0 ∷ 0 ∷ 0 ∷ 0 ∷ 0 ∷ 0 ∷ 0 ∷ 2 ∷ 0 ∷ 25 ∷ 0 ∷ 1 ∷ [])) (padded 8 ([])) (padded 8 ([])) (padded 1 (1 ∷ [])) (counts 2 0 0 1)) (lent (97 ∷ []) (padded 16 (2 ∷ 0 ∷ 25 ∷ 0 ∷ 1 ∷ [])) (padded 8 ([])) (padded 8 ([])) (padded 1 ([])) (counts 1 0 0 1)) (answer true)
-unfolding compare
-case-73 = sameShape refl refl refl
+case-73 : compare (lent (97 ∷ []) (padded 32 (99 ∷ 0 ∷ 0 ∷ 0 ∷ 0 ∷ 0 ∷ 0 ∷ 0 ∷ 0 ∷ 0 ∷ 0 ∷ 0 ∷ 0 ∷ 0 ∷ 0 ∷ 0 ∷ 2 ∷ 0 ∷ 25 ∷ 0 ∷ 1 ∷ [])) (padded 8 ([])) (padded 8 ([])) (padded 1 (1 ∷ [])) (counts 2 0 0 1)) (lent (97 ∷ []) (padded 16 (2 ∷ 0 ∷ 25 ∷ 0 ∷ 1 ∷ [])) (padded 8 ([])) (padded 8 ([])) (padded 1 ([])) (counts 1 0 0 1)) ≡ answer true
+unfolding comparison
+case-73 = refl
 
 -- fn with docs, arguments, type and body
-case-74 : Compares (lent (35 ∷ 33 ∷ 32 ∷ 100 ∷ 32 ∷ 102 ∷ 58 ∷ 73 ∷ 97 ∷ []) (padded 144 (2 ∷ 0 ∷ 25 ∷ 7 ∷ 1 ∷ 0 ∷ 0 ∷ 0 ∷ 0 ∷ 0 ∷ 0 ∷ 0 ∷ 0 ∷ 0 ∷ 0 ∷ 0 ∷ 6 ∷ 1 ∷ 0 ∷ 1 ∷ 25 ∷ 5 ∷ 1 ∷ 3 ∷ 1 ∷ 0 ∷ 7 ∷ 1 ∷ [])) (padded 72 (1 ∷ 36 ∷ 7 ∷ 3 ∷ [])) (padded 72 (26 ∷ 0 ∷ 1 ∷ 25 ∷ 8 ∷ 1 ∷ [])) (padded 9 (1 ∷ [])) (counts 2 1 8 1)) (lent (35 ∷ 33 ∷ 100 ∷ 32 ∷ 102 ∷ 58 ∷ 73 ∷ 97 ∷ 97 ∷ []) (padded 144 (2 ∷ 0 ∷ 25 ∷ 6 ∷ 1 ∷ 0 ∷ 0 ∷ 0 ∷ 0 ∷ 0 ∷ 0 ∷ 0 ∷ 0 ∷ 0 ∷ 0 ∷ 0 ∷ 6 ∷ 1 ∷ 0 ∷ 1 ∷ 25 ∷ 4 ∷ 1 ∷ 3 ∷ 1 ∷ 0 ∷ 7 ∷ 1 ∷ [])) (padded 72 (1 ∷ 36 ∷ 6 ∷ 3 ∷ [])) (padded 72 (26 ∷ 0 ∷ 1 ∷ 25 ∷ 7 ∷ 1 ∷ [])) (padded 9 (1 ∷ [])) (counts 2 1 8 1)) (answer true)
-unfolding compare
-case-74 = sameShape refl refl refl
+case-74 : compare (lent (35 ∷ 33 ∷ 32 ∷ 100 ∷ 32 ∷ 102 ∷ 58 ∷ 73 ∷ 97 ∷ []) (padded 144 (2 ∷ 0 ∷ 25 ∷ 7 ∷ 1 ∷ 0 ∷ 0 ∷ 0 ∷ 0 ∷ 0 ∷ 0 ∷ 0 ∷ 0 ∷ 0 ∷ 0 ∷ 0 ∷ 6 ∷ 1 ∷ 0 ∷ 1 ∷ 25 ∷ 5 ∷ 1 ∷ 3 ∷ 1 ∷ 0 ∷ 7 ∷ 1 ∷ [])) (padded 72 (1 ∷ 36 ∷ 7 ∷ 3 ∷ [])) (padded 72 (26 ∷ 0 ∷ 1 ∷ 25 ∷ 8 ∷ 1 ∷ [])) (padded 9 (1 ∷ [])) (counts 2 1 8 1)) (lent (35 ∷ 33 ∷ 100 ∷ 32 ∷ 102 ∷ 58 ∷ 73 ∷ 97 ∷ 97 ∷ []) (padded 144 (2 ∷ 0 ∷ 25 ∷ 6 ∷ 1 ∷ 0 ∷ 0 ∷ 0 ∷ 0 ∷ 0 ∷ 0 ∷ 0 ∷ 0 ∷ 0 ∷ 0 ∷ 0 ∷ 6 ∷ 1 ∷ 0 ∷ 1 ∷ 25 ∷ 4 ∷ 1 ∷ 3 ∷ 1 ∷ 0 ∷ 7 ∷ 1 ∷ [])) (padded 72 (1 ∷ 36 ∷ 6 ∷ 3 ∷ [])) (padded 72 (26 ∷ 0 ∷ 1 ∷ 25 ∷ 7 ∷ 1 ∷ [])) (padded 9 (1 ∷ [])) (counts 2 1 8 1)) ≡ answer true
+unfolding comparison
+case-74 = refl
 
 -- root past the nodes, left
-case-75 : Compares (lent (97 ∷ []) (padded 16 (2 ∷ 0 ∷ 25 ∷ 0 ∷ 1 ∷ [])) (padded 8 ([])) (padded 8 ([])) (padded 1 (1 ∷ [])) (counts 1 0 0 1)) (lent (97 ∷ 32 ∷ 43 ∷ 32 ∷ 98 ∷ []) (padded 80 (2 ∷ 0 ∷ 25 ∷ 0 ∷ 1 ∷ 0 ∷ 0 ∷ 0 ∷ 0 ∷ 0 ∷ 0 ∷ 0 ∷ 0 ∷ 0 ∷ 0 ∷ 0 ∷ 2 ∷ 0 ∷ 25 ∷ 4 ∷ 1 ∷ 0 ∷ 0 ∷ 0 ∷ 0 ∷ 0 ∷ 0 ∷ 0 ∷ 0 ∷ 0 ∷ 0 ∷ 0 ∷ 3 ∷ 2 ∷ 4 ∷ 2 ∷ 1 ∷ 0 ∷ 1 ∷ [])) (padded 40 ([])) (padded 40 ([])) (padded 5 (2 ∷ [])) (counts 3 0 0 1)) (refused 4)
-unfolding compare
-case-75 = malformedLeft refl refl
+case-75 : compare (lent (97 ∷ []) (padded 16 (2 ∷ 0 ∷ 25 ∷ 0 ∷ 1 ∷ [])) (padded 8 ([])) (padded 8 ([])) (padded 1 (1 ∷ [])) (counts 1 0 0 1)) (lent (97 ∷ 32 ∷ 43 ∷ 32 ∷ 98 ∷ []) (padded 80 (2 ∷ 0 ∷ 25 ∷ 0 ∷ 1 ∷ 0 ∷ 0 ∷ 0 ∷ 0 ∷ 0 ∷ 0 ∷ 0 ∷ 0 ∷ 0 ∷ 0 ∷ 0 ∷ 2 ∷ 0 ∷ 25 ∷ 4 ∷ 1 ∷ 0 ∷ 0 ∷ 0 ∷ 0 ∷ 0 ∷ 0 ∷ 0 ∷ 0 ∷ 0 ∷ 0 ∷ 0 ∷ 3 ∷ 2 ∷ 4 ∷ 2 ∷ 1 ∷ 0 ∷ 1 ∷ [])) (padded 40 ([])) (padded 40 ([])) (padded 5 (2 ∷ [])) (counts 3 0 0 1)) ≡ refused 4
+unfolding comparison
+case-75 = refl
 
 -- root past the nodes, right
-case-76 : Compares (lent (97 ∷ 32 ∷ 43 ∷ 32 ∷ 98 ∷ []) (padded 80 (2 ∷ 0 ∷ 25 ∷ 0 ∷ 1 ∷ 0 ∷ 0 ∷ 0 ∷ 0 ∷ 0 ∷ 0 ∷ 0 ∷ 0 ∷ 0 ∷ 0 ∷ 0 ∷ 2 ∷ 0 ∷ 25 ∷ 4 ∷ 1 ∷ 0 ∷ 0 ∷ 0 ∷ 0 ∷ 0 ∷ 0 ∷ 0 ∷ 0 ∷ 0 ∷ 0 ∷ 0 ∷ 3 ∷ 2 ∷ 4 ∷ 2 ∷ 1 ∷ 0 ∷ 1 ∷ [])) (padded 40 ([])) (padded 40 ([])) (padded 5 (2 ∷ [])) (counts 3 0 0 1)) (lent (97 ∷ []) (padded 16 (2 ∷ 0 ∷ 25 ∷ 0 ∷ 1 ∷ [])) (padded 8 ([])) (padded 8 ([])) (padded 1 (1 ∷ [])) (counts 1 0 0 1)) (refused 4)
-unfolding compare
-case-76 = malformedRight refl refl
+case-76 : compare (lent (97 ∷ 32 ∷ 43 ∷ 32 ∷ 98 ∷ []) (padded 80 (2 ∷ 0 ∷ 25 ∷ 0 ∷ 1 ∷ 0 ∷ 0 ∷ 0 ∷ 0 ∷ 0 ∷ 0 ∷ 0 ∷ 0 ∷ 0 ∷ 0 ∷ 0 ∷ 2 ∷ 0 ∷ 25 ∷ 4 ∷ 1 ∷ 0 ∷ 0 ∷ 0 ∷ 0 ∷ 0 ∷ 0 ∷ 0 ∷ 0 ∷ 0 ∷ 0 ∷ 0 ∷ 3 ∷ 2 ∷ 4 ∷ 2 ∷ 1 ∷ 0 ∷ 1 ∷ [])) (padded 40 ([])) (padded 40 ([])) (padded 5 (2 ∷ [])) (counts 3 0 0 1)) (lent (97 ∷ []) (padded 16 (2 ∷ 0 ∷ 25 ∷ 0 ∷ 1 ∷ [])) (padded 8 ([])) (padded 8 ([])) (padded 1 (1 ∷ [])) (counts 1 0 0 1)) ≡ refused 4
+unfolding comparison
+case-76 = refl
 
 -- root past the array's whole records, left
-case-77 : Compares (lent (97 ∷ []) (padded 31 (2 ∷ 0 ∷ 25 ∷ 0 ∷ 1 ∷ 0 ∷ 0 ∷ 0 ∷ 0 ∷ 0 ∷ 0 ∷ 0 ∷ 0 ∷ 0 ∷ 0 ∷ 0 ∷ 2 ∷ 0 ∷ 25 ∷ [])) (padded 8 ([])) (padded 8 ([])) (padded 1 (1 ∷ [])) (counts 9 0 0 1)) (lent (97 ∷ 32 ∷ 43 ∷ 32 ∷ 98 ∷ []) (padded 80 (2 ∷ 0 ∷ 25 ∷ 0 ∷ 1 ∷ 0 ∷ 0 ∷ 0 ∷ 0 ∷ 0 ∷ 0 ∷ 0 ∷ 0 ∷ 0 ∷ 0 ∷ 0 ∷ 2 ∷ 0 ∷ 25 ∷ 4 ∷ 1 ∷ 0 ∷ 0 ∷ 0 ∷ 0 ∷ 0 ∷ 0 ∷ 0 ∷ 0 ∷ 0 ∷ 0 ∷ 0 ∷ 3 ∷ 2 ∷ 4 ∷ 2 ∷ 1 ∷ 0 ∷ 1 ∷ [])) (padded 40 ([])) (padded 40 ([])) (padded 5 (2 ∷ [])) (counts 3 0 0 1)) (refused 4)
-unfolding compare
-case-77 = malformedLeft refl refl
+case-77 : compare (lent (97 ∷ []) (padded 31 (2 ∷ 0 ∷ 25 ∷ 0 ∷ 1 ∷ 0 ∷ 0 ∷ 0 ∷ 0 ∷ 0 ∷ 0 ∷ 0 ∷ 0 ∷ 0 ∷ 0 ∷ 0 ∷ 2 ∷ 0 ∷ 25 ∷ [])) (padded 8 ([])) (padded 8 ([])) (padded 1 (1 ∷ [])) (counts 9 0 0 1)) (lent (97 ∷ 32 ∷ 43 ∷ 32 ∷ 98 ∷ []) (padded 80 (2 ∷ 0 ∷ 25 ∷ 0 ∷ 1 ∷ 0 ∷ 0 ∷ 0 ∷ 0 ∷ 0 ∷ 0 ∷ 0 ∷ 0 ∷ 0 ∷ 0 ∷ 0 ∷ 2 ∷ 0 ∷ 25 ∷ 4 ∷ 1 ∷ 0 ∷ 0 ∷ 0 ∷ 0 ∷ 0 ∷ 0 ∷ 0 ∷ 0 ∷ 0 ∷ 0 ∷ 0 ∷ 3 ∷ 2 ∷ 4 ∷ 2 ∷ 1 ∷ 0 ∷ 1 ∷ [])) (padded 40 ([])) (padded 40 ([])) (padded 5 (2 ∷ [])) (counts 3 0 0 1)) ≡ refused 4
+unfolding comparison
+case-77 = refl
 
 -- root past the array's whole records, right
-case-78 : Compares (lent (97 ∷ 32 ∷ 43 ∷ 32 ∷ 98 ∷ []) (padded 80 (2 ∷ 0 ∷ 25 ∷ 0 ∷ 1 ∷ 0 ∷ 0 ∷ 0 ∷ 0 ∷ 0 ∷ 0 ∷ 0 ∷ 0 ∷ 0 ∷ 0 ∷ 0 ∷ 2 ∷ 0 ∷ 25 ∷ 4 ∷ 1 ∷ 0 ∷ 0 ∷ 0 ∷ 0 ∷ 0 ∷ 0 ∷ 0 ∷ 0 ∷ 0 ∷ 0 ∷ 0 ∷ 3 ∷ 2 ∷ 4 ∷ 2 ∷ 1 ∷ 0 ∷ 1 ∷ [])) (padded 40 ([])) (padded 40 ([])) (padded 5 (2 ∷ [])) (counts 3 0 0 1)) (lent (97 ∷ []) (padded 31 (2 ∷ 0 ∷ 25 ∷ 0 ∷ 1 ∷ 0 ∷ 0 ∷ 0 ∷ 0 ∷ 0 ∷ 0 ∷ 0 ∷ 0 ∷ 0 ∷ 0 ∷ 0 ∷ 2 ∷ 0 ∷ 25 ∷ [])) (padded 8 ([])) (padded 8 ([])) (padded 1 (1 ∷ [])) (counts 9 0 0 1)) (refused 4)
-unfolding compare
-case-78 = malformedRight refl refl
+case-78 : compare (lent (97 ∷ 32 ∷ 43 ∷ 32 ∷ 98 ∷ []) (padded 80 (2 ∷ 0 ∷ 25 ∷ 0 ∷ 1 ∷ 0 ∷ 0 ∷ 0 ∷ 0 ∷ 0 ∷ 0 ∷ 0 ∷ 0 ∷ 0 ∷ 0 ∷ 0 ∷ 2 ∷ 0 ∷ 25 ∷ 4 ∷ 1 ∷ 0 ∷ 0 ∷ 0 ∷ 0 ∷ 0 ∷ 0 ∷ 0 ∷ 0 ∷ 0 ∷ 0 ∷ 0 ∷ 3 ∷ 2 ∷ 4 ∷ 2 ∷ 1 ∷ 0 ∷ 1 ∷ [])) (padded 40 ([])) (padded 40 ([])) (padded 5 (2 ∷ [])) (counts 3 0 0 1)) (lent (97 ∷ []) (padded 31 (2 ∷ 0 ∷ 25 ∷ 0 ∷ 1 ∷ 0 ∷ 0 ∷ 0 ∷ 0 ∷ 0 ∷ 0 ∷ 0 ∷ 0 ∷ 0 ∷ 0 ∷ 0 ∷ 2 ∷ 0 ∷ 25 ∷ [])) (padded 8 ([])) (padded 8 ([])) (padded 1 (1 ∷ [])) (counts 9 0 0 1)) ≡ refused 4
+unfolding comparison
+case-78 = refl
 
 -- count of roots past the array, left
-case-79 : Compares (lent (97 ∷ []) (padded 16 (2 ∷ 0 ∷ 25 ∷ 0 ∷ 1 ∷ [])) (padded 8 ([])) (padded 8 ([])) (padded 1 ([])) (counts 1 0 0 2)) (lent (97 ∷ 32 ∷ 43 ∷ 32 ∷ 98 ∷ []) (padded 80 (2 ∷ 0 ∷ 25 ∷ 0 ∷ 1 ∷ 0 ∷ 0 ∷ 0 ∷ 0 ∷ 0 ∷ 0 ∷ 0 ∷ 0 ∷ 0 ∷ 0 ∷ 0 ∷ 2 ∷ 0 ∷ 25 ∷ 4 ∷ 1 ∷ 0 ∷ 0 ∷ 0 ∷ 0 ∷ 0 ∷ 0 ∷ 0 ∷ 0 ∷ 0 ∷ 0 ∷ 0 ∷ 3 ∷ 2 ∷ 4 ∷ 2 ∷ 1 ∷ 0 ∷ 1 ∷ [])) (padded 40 ([])) (padded 40 ([])) (padded 5 (2 ∷ [])) (counts 3 0 0 1)) (refused 4)
-unfolding compare
-case-79 = malformedLeft refl refl
+case-79 : compare (lent (97 ∷ []) (padded 16 (2 ∷ 0 ∷ 25 ∷ 0 ∷ 1 ∷ [])) (padded 8 ([])) (padded 8 ([])) (padded 1 ([])) (counts 1 0 0 2)) (lent (97 ∷ 32 ∷ 43 ∷ 32 ∷ 98 ∷ []) (padded 80 (2 ∷ 0 ∷ 25 ∷ 0 ∷ 1 ∷ 0 ∷ 0 ∷ 0 ∷ 0 ∷ 0 ∷ 0 ∷ 0 ∷ 0 ∷ 0 ∷ 0 ∷ 0 ∷ 2 ∷ 0 ∷ 25 ∷ 4 ∷ 1 ∷ 0 ∷ 0 ∷ 0 ∷ 0 ∷ 0 ∷ 0 ∷ 0 ∷ 0 ∷ 0 ∷ 0 ∷ 0 ∷ 3 ∷ 2 ∷ 4 ∷ 2 ∷ 1 ∷ 0 ∷ 1 ∷ [])) (padded 40 ([])) (padded 40 ([])) (padded 5 (2 ∷ [])) (counts 3 0 0 1)) ≡ refused 4
+unfolding comparison
+case-79 = refl
 
 -- count of roots past the array, right
-case-80 : Compares (lent (97 ∷ 32 ∷ 43 ∷ 32 ∷ 98 ∷ []) (padded 80 (2 ∷ 0 ∷ 25 ∷ 0 ∷ 1 ∷ 0 ∷ 0 ∷ 0 ∷ 0 ∷ 0 ∷ 0 ∷ 0 ∷ 0 ∷ 0 ∷ 0 ∷ 0 ∷ 2 ∷ 0 ∷ 25 ∷ 4 ∷ 1 ∷ 0 ∷ 0 ∷ 0 ∷ 0 ∷ 0 ∷ 0 ∷ 0 ∷ 0 ∷ 0 ∷ 0 ∷ 0 ∷ 3 ∷ 2 ∷ 4 ∷ 2 ∷ 1 ∷ 0 ∷ 1 ∷ [])) (padded 40 ([])) (padded 40 ([])) (padded 5 (2 ∷ [])) (counts 3 0 0 1)) (lent (97 ∷ []) (padded 16 (2 ∷ 0 ∷ 25 ∷ 0 ∷ 1 ∷ [])) (padded 8 ([])) (padded 8 ([])) (padded 1 ([])) (counts 1 0 0 2)) (refused 4)
-unfolding compare
-case-80 = malformedRight refl refl
+case-80 : compare (lent (97 ∷ 32 ∷ 43 ∷ 32 ∷ 98 ∷ []) (padded 80 (2 ∷ 0 ∷ 25 ∷ 0 ∷ 1 ∷ 0 ∷ 0 ∷ 0 ∷ 0 ∷ 0 ∷ 0 ∷ 0 ∷ 0 ∷ 0 ∷ 0 ∷ 0 ∷ 2 ∷ 0 ∷ 25 ∷ 4 ∷ 1 ∷ 0 ∷ 0 ∷ 0 ∷ 0 ∷ 0 ∷ 0 ∷ 0 ∷ 0 ∷ 0 ∷ 0 ∷ 0 ∷ 3 ∷ 2 ∷ 4 ∷ 2 ∷ 1 ∷ 0 ∷ 1 ∷ [])) (padded 40 ([])) (padded 40 ([])) (padded 5 (2 ∷ [])) (counts 3 0 0 1)) (lent (97 ∷ []) (padded 16 (2 ∷ 0 ∷ 25 ∷ 0 ∷ 1 ∷ [])) (padded 8 ([])) (padded 8 ([])) (padded 1 ([])) (counts 1 0 0 2)) ≡ refused 4
+unfolding comparison
+case-80 = refl
 
 -- root of an unknown kind, left
-case-81 : Compares (lent (97 ∷ []) (padded 16 (15 ∷ [])) (padded 8 ([])) (padded 8 ([])) (padded 1 ([])) (counts 1 0 0 1)) (lent (97 ∷ 32 ∷ 43 ∷ 32 ∷ 98 ∷ []) (padded 80 (2 ∷ 0 ∷ 25 ∷ 0 ∷ 1 ∷ 0 ∷ 0 ∷ 0 ∷ 0 ∷ 0 ∷ 0 ∷ 0 ∷ 0 ∷ 0 ∷ 0 ∷ 0 ∷ 2 ∷ 0 ∷ 25 ∷ 4 ∷ 1 ∷ 0 ∷ 0 ∷ 0 ∷ 0 ∷ 0 ∷ 0 ∷ 0 ∷ 0 ∷ 0 ∷ 0 ∷ 0 ∷ 3 ∷ 2 ∷ 4 ∷ 2 ∷ 1 ∷ 0 ∷ 1 ∷ [])) (padded 40 ([])) (padded 40 ([])) (padded 5 (2 ∷ [])) (counts 3 0 0 1)) (refused 4)
-unfolding compare
-case-81 = malformedLeft refl refl
+case-81 : compare (lent (97 ∷ []) (padded 16 (15 ∷ [])) (padded 8 ([])) (padded 8 ([])) (padded 1 ([])) (counts 1 0 0 1)) (lent (97 ∷ 32 ∷ 43 ∷ 32 ∷ 98 ∷ []) (padded 80 (2 ∷ 0 ∷ 25 ∷ 0 ∷ 1 ∷ 0 ∷ 0 ∷ 0 ∷ 0 ∷ 0 ∷ 0 ∷ 0 ∷ 0 ∷ 0 ∷ 0 ∷ 0 ∷ 2 ∷ 0 ∷ 25 ∷ 4 ∷ 1 ∷ 0 ∷ 0 ∷ 0 ∷ 0 ∷ 0 ∷ 0 ∷ 0 ∷ 0 ∷ 0 ∷ 0 ∷ 0 ∷ 3 ∷ 2 ∷ 4 ∷ 2 ∷ 1 ∷ 0 ∷ 1 ∷ [])) (padded 40 ([])) (padded 40 ([])) (padded 5 (2 ∷ [])) (counts 3 0 0 1)) ≡ refused 4
+unfolding comparison
+case-81 = refl
 
 -- root of an unknown kind, right
-case-82 : Compares (lent (97 ∷ 32 ∷ 43 ∷ 32 ∷ 98 ∷ []) (padded 80 (2 ∷ 0 ∷ 25 ∷ 0 ∷ 1 ∷ 0 ∷ 0 ∷ 0 ∷ 0 ∷ 0 ∷ 0 ∷ 0 ∷ 0 ∷ 0 ∷ 0 ∷ 0 ∷ 2 ∷ 0 ∷ 25 ∷ 4 ∷ 1 ∷ 0 ∷ 0 ∷ 0 ∷ 0 ∷ 0 ∷ 0 ∷ 0 ∷ 0 ∷ 0 ∷ 0 ∷ 0 ∷ 3 ∷ 2 ∷ 4 ∷ 2 ∷ 1 ∷ 0 ∷ 1 ∷ [])) (padded 40 ([])) (padded 40 ([])) (padded 5 (2 ∷ [])) (counts 3 0 0 1)) (lent (97 ∷ []) (padded 16 (15 ∷ [])) (padded 8 ([])) (padded 8 ([])) (padded 1 ([])) (counts 1 0 0 1)) (refused 4)
-unfolding compare
-case-82 = malformedRight refl refl
+case-82 : compare (lent (97 ∷ 32 ∷ 43 ∷ 32 ∷ 98 ∷ []) (padded 80 (2 ∷ 0 ∷ 25 ∷ 0 ∷ 1 ∷ 0 ∷ 0 ∷ 0 ∷ 0 ∷ 0 ∷ 0 ∷ 0 ∷ 0 ∷ 0 ∷ 0 ∷ 0 ∷ 2 ∷ 0 ∷ 25 ∷ 4 ∷ 1 ∷ 0 ∷ 0 ∷ 0 ∷ 0 ∷ 0 ∷ 0 ∷ 0 ∷ 0 ∷ 0 ∷ 0 ∷ 0 ∷ 3 ∷ 2 ∷ 4 ∷ 2 ∷ 1 ∷ 0 ∷ 1 ∷ [])) (padded 40 ([])) (padded 40 ([])) (padded 5 (2 ∷ [])) (counts 3 0 0 1)) (lent (97 ∷ []) (padded 16 (15 ∷ [])) (padded 8 ([])) (padded 8 ([])) (padded 1 ([])) (counts 1 0 0 1)) ≡ refused 4
+unfolding comparison
+case-82 = refl
 
 -- right child not below, left
-case-83 : Compares (lent (97 ∷ 97 ∷ []) (padded 32 (2 ∷ 0 ∷ 25 ∷ 0 ∷ 1 ∷ 0 ∷ 0 ∷ 0 ∷ 0 ∷ 0 ∷ 0 ∷ 0 ∷ 0 ∷ 0 ∷ 0 ∷ 0 ∷ 3 ∷ 2 ∷ 4 ∷ 0 ∷ 1 ∷ 0 ∷ 1 ∷ [])) (padded 16 ([])) (padded 16 ([])) (padded 2 (1 ∷ [])) (counts 2 0 0 1)) (lent (97 ∷ 32 ∷ 43 ∷ 32 ∷ 98 ∷ []) (padded 80 (2 ∷ 0 ∷ 25 ∷ 0 ∷ 1 ∷ 0 ∷ 0 ∷ 0 ∷ 0 ∷ 0 ∷ 0 ∷ 0 ∷ 0 ∷ 0 ∷ 0 ∷ 0 ∷ 2 ∷ 0 ∷ 25 ∷ 4 ∷ 1 ∷ 0 ∷ 0 ∷ 0 ∷ 0 ∷ 0 ∷ 0 ∷ 0 ∷ 0 ∷ 0 ∷ 0 ∷ 0 ∷ 3 ∷ 2 ∷ 4 ∷ 2 ∷ 1 ∷ 0 ∷ 1 ∷ [])) (padded 40 ([])) (padded 40 ([])) (padded 5 (2 ∷ [])) (counts 3 0 0 1)) (refused 4)
-unfolding compare
-case-83 = malformedLeft refl refl
+case-83 : compare (lent (97 ∷ 97 ∷ []) (padded 32 (2 ∷ 0 ∷ 25 ∷ 0 ∷ 1 ∷ 0 ∷ 0 ∷ 0 ∷ 0 ∷ 0 ∷ 0 ∷ 0 ∷ 0 ∷ 0 ∷ 0 ∷ 0 ∷ 3 ∷ 2 ∷ 4 ∷ 0 ∷ 1 ∷ 0 ∷ 1 ∷ [])) (padded 16 ([])) (padded 16 ([])) (padded 2 (1 ∷ [])) (counts 2 0 0 1)) (lent (97 ∷ 32 ∷ 43 ∷ 32 ∷ 98 ∷ []) (padded 80 (2 ∷ 0 ∷ 25 ∷ 0 ∷ 1 ∷ 0 ∷ 0 ∷ 0 ∷ 0 ∷ 0 ∷ 0 ∷ 0 ∷ 0 ∷ 0 ∷ 0 ∷ 0 ∷ 2 ∷ 0 ∷ 25 ∷ 4 ∷ 1 ∷ 0 ∷ 0 ∷ 0 ∷ 0 ∷ 0 ∷ 0 ∷ 0 ∷ 0 ∷ 0 ∷ 0 ∷ 0 ∷ 3 ∷ 2 ∷ 4 ∷ 2 ∷ 1 ∷ 0 ∷ 1 ∷ [])) (padded 40 ([])) (padded 40 ([])) (padded 5 (2 ∷ [])) (counts 3 0 0 1)) ≡ refused 4
+unfolding comparison
+case-83 = refl
 
 -- right child not below, right
-case-84 : Compares (lent (97 ∷ 32 ∷ 43 ∷ 32 ∷ 98 ∷ []) (padded 80 (2 ∷ 0 ∷ 25 ∷ 0 ∷ 1 ∷ 0 ∷ 0 ∷ 0 ∷ 0 ∷ 0 ∷ 0 ∷ 0 ∷ 0 ∷ 0 ∷ 0 ∷ 0 ∷ 2 ∷ 0 ∷ 25 ∷ 4 ∷ 1 ∷ 0 ∷ 0 ∷ 0 ∷ 0 ∷ 0 ∷ 0 ∷ 0 ∷ 0 ∷ 0 ∷ 0 ∷ 0 ∷ 3 ∷ 2 ∷ 4 ∷ 2 ∷ 1 ∷ 0 ∷ 1 ∷ [])) (padded 40 ([])) (padded 40 ([])) (padded 5 (2 ∷ [])) (counts 3 0 0 1)) (lent (97 ∷ 97 ∷ []) (padded 32 (2 ∷ 0 ∷ 25 ∷ 0 ∷ 1 ∷ 0 ∷ 0 ∷ 0 ∷ 0 ∷ 0 ∷ 0 ∷ 0 ∷ 0 ∷ 0 ∷ 0 ∷ 0 ∷ 3 ∷ 2 ∷ 4 ∷ 0 ∷ 1 ∷ 0 ∷ 1 ∷ [])) (padded 16 ([])) (padded 16 ([])) (padded 2 (1 ∷ [])) (counts 2 0 0 1)) (refused 4)
-unfolding compare
-case-84 = malformedRight refl refl
+case-84 : compare (lent (97 ∷ 32 ∷ 43 ∷ 32 ∷ 98 ∷ []) (padded 80 (2 ∷ 0 ∷ 25 ∷ 0 ∷ 1 ∷ 0 ∷ 0 ∷ 0 ∷ 0 ∷ 0 ∷ 0 ∷ 0 ∷ 0 ∷ 0 ∷ 0 ∷ 0 ∷ 2 ∷ 0 ∷ 25 ∷ 4 ∷ 1 ∷ 0 ∷ 0 ∷ 0 ∷ 0 ∷ 0 ∷ 0 ∷ 0 ∷ 0 ∷ 0 ∷ 0 ∷ 0 ∷ 3 ∷ 2 ∷ 4 ∷ 2 ∷ 1 ∷ 0 ∷ 1 ∷ [])) (padded 40 ([])) (padded 40 ([])) (padded 5 (2 ∷ [])) (counts 3 0 0 1)) (lent (97 ∷ 97 ∷ []) (padded 32 (2 ∷ 0 ∷ 25 ∷ 0 ∷ 1 ∷ 0 ∷ 0 ∷ 0 ∷ 0 ∷ 0 ∷ 0 ∷ 0 ∷ 0 ∷ 0 ∷ 0 ∷ 0 ∷ 3 ∷ 2 ∷ 4 ∷ 0 ∷ 1 ∷ 0 ∷ 1 ∷ [])) (padded 16 ([])) (padded 16 ([])) (padded 2 (1 ∷ [])) (counts 2 0 0 1)) ≡ refused 4
+unfolding comparison
+case-84 = refl
 
 -- type past the types, left
-case-85 : Compares (lent (97 ∷ 97 ∷ []) (padded 32 (2 ∷ 0 ∷ 25 ∷ 0 ∷ 1 ∷ 0 ∷ 0 ∷ 0 ∷ 0 ∷ 0 ∷ 0 ∷ 0 ∷ 0 ∷ 0 ∷ 0 ∷ 0 ∷ 10 ∷ 1 ∷ 32 ∷ 0 ∷ 2 ∷ [])) (padded 16 ([])) (padded 16 ([])) (padded 2 (1 ∷ [])) (counts 2 0 0 1)) (lent (97 ∷ 32 ∷ 43 ∷ 32 ∷ 98 ∷ []) (padded 80 (2 ∷ 0 ∷ 25 ∷ 0 ∷ 1 ∷ 0 ∷ 0 ∷ 0 ∷ 0 ∷ 0 ∷ 0 ∷ 0 ∷ 0 ∷ 0 ∷ 0 ∷ 0 ∷ 2 ∷ 0 ∷ 25 ∷ 4 ∷ 1 ∷ 0 ∷ 0 ∷ 0 ∷ 0 ∷ 0 ∷ 0 ∷ 0 ∷ 0 ∷ 0 ∷ 0 ∷ 0 ∷ 3 ∷ 2 ∷ 4 ∷ 2 ∷ 1 ∷ 0 ∷ 1 ∷ [])) (padded 40 ([])) (padded 40 ([])) (padded 5 (2 ∷ [])) (counts 3 0 0 1)) (refused 4)
-unfolding compare
-case-85 = malformedLeft refl refl
+case-85 : compare (lent (97 ∷ 97 ∷ []) (padded 32 (2 ∷ 0 ∷ 25 ∷ 0 ∷ 1 ∷ 0 ∷ 0 ∷ 0 ∷ 0 ∷ 0 ∷ 0 ∷ 0 ∷ 0 ∷ 0 ∷ 0 ∷ 0 ∷ 10 ∷ 1 ∷ 32 ∷ 0 ∷ 2 ∷ [])) (padded 16 ([])) (padded 16 ([])) (padded 2 (1 ∷ [])) (counts 2 0 0 1)) (lent (97 ∷ 32 ∷ 43 ∷ 32 ∷ 98 ∷ []) (padded 80 (2 ∷ 0 ∷ 25 ∷ 0 ∷ 1 ∷ 0 ∷ 0 ∷ 0 ∷ 0 ∷ 0 ∷ 0 ∷ 0 ∷ 0 ∷ 0 ∷ 0 ∷ 0 ∷ 2 ∷ 0 ∷ 25 ∷ 4 ∷ 1 ∷ 0 ∷ 0 ∷ 0 ∷ 0 ∷ 0 ∷ 0 ∷ 0 ∷ 0 ∷ 0 ∷ 0 ∷ 0 ∷ 3 ∷ 2 ∷ 4 ∷ 2 ∷ 1 ∷ 0 ∷ 1 ∷ [])) (padded 40 ([])) (padded 40 ([])) (padded 5 (2 ∷ [])) (counts 3 0 0 1)) ≡ refused 4
+unfolding comparison
+case-85 = refl
 
 -- type past the types, right
-case-86 : Compares (lent (97 ∷ 32 ∷ 43 ∷ 32 ∷ 98 ∷ []) (padded 80 (2 ∷ 0 ∷ 25 ∷ 0 ∷ 1 ∷ 0 ∷ 0 ∷ 0 ∷ 0 ∷ 0 ∷ 0 ∷ 0 ∷ 0 ∷ 0 ∷ 0 ∷ 0 ∷ 2 ∷ 0 ∷ 25 ∷ 4 ∷ 1 ∷ 0 ∷ 0 ∷ 0 ∷ 0 ∷ 0 ∷ 0 ∷ 0 ∷ 0 ∷ 0 ∷ 0 ∷ 0 ∷ 3 ∷ 2 ∷ 4 ∷ 2 ∷ 1 ∷ 0 ∷ 1 ∷ [])) (padded 40 ([])) (padded 40 ([])) (padded 5 (2 ∷ [])) (counts 3 0 0 1)) (lent (97 ∷ 97 ∷ []) (padded 32 (2 ∷ 0 ∷ 25 ∷ 0 ∷ 1 ∷ 0 ∷ 0 ∷ 0 ∷ 0 ∷ 0 ∷ 0 ∷ 0 ∷ 0 ∷ 0 ∷ 0 ∷ 0 ∷ 10 ∷ 1 ∷ 32 ∷ 0 ∷ 2 ∷ [])) (padded 16 ([])) (padded 16 ([])) (padded 2 (1 ∷ [])) (counts 2 0 0 1)) (refused 4)
-unfolding compare
-case-86 = malformedRight refl refl
+case-86 : compare (lent (97 ∷ 32 ∷ 43 ∷ 32 ∷ 98 ∷ []) (padded 80 (2 ∷ 0 ∷ 25 ∷ 0 ∷ 1 ∷ 0 ∷ 0 ∷ 0 ∷ 0 ∷ 0 ∷ 0 ∷ 0 ∷ 0 ∷ 0 ∷ 0 ∷ 0 ∷ 2 ∷ 0 ∷ 25 ∷ 4 ∷ 1 ∷ 0 ∷ 0 ∷ 0 ∷ 0 ∷ 0 ∷ 0 ∷ 0 ∷ 0 ∷ 0 ∷ 0 ∷ 0 ∷ 3 ∷ 2 ∷ 4 ∷ 2 ∷ 1 ∷ 0 ∷ 1 ∷ [])) (padded 40 ([])) (padded 40 ([])) (padded 5 (2 ∷ [])) (counts 3 0 0 1)) (lent (97 ∷ 97 ∷ []) (padded 32 (2 ∷ 0 ∷ 25 ∷ 0 ∷ 1 ∷ 0 ∷ 0 ∷ 0 ∷ 0 ∷ 0 ∷ 0 ∷ 0 ∷ 0 ∷ 0 ∷ 0 ∷ 0 ∷ 10 ∷ 1 ∷ 32 ∷ 0 ∷ 2 ∷ [])) (padded 16 ([])) (padded 16 ([])) (padded 2 (1 ∷ [])) (counts 2 0 0 1)) ≡ refused 4
+unfolding comparison
+case-86 = refl
 
 -- type of an unknown kind, left
-case-87 : Compares (lent (97 ∷ 97 ∷ []) (padded 32 (2 ∷ 0 ∷ 25 ∷ 0 ∷ 1 ∷ 0 ∷ 0 ∷ 0 ∷ 0 ∷ 0 ∷ 0 ∷ 0 ∷ 0 ∷ 0 ∷ 0 ∷ 0 ∷ 10 ∷ 1 ∷ 32 ∷ 0 ∷ 2 ∷ [])) (padded 16 (6 ∷ 36 ∷ 0 ∷ 3 ∷ [])) (padded 16 ([])) (padded 2 (1 ∷ [])) (counts 2 1 0 1)) (lent (97 ∷ 32 ∷ 43 ∷ 32 ∷ 98 ∷ []) (padded 80 (2 ∷ 0 ∷ 25 ∷ 0 ∷ 1 ∷ 0 ∷ 0 ∷ 0 ∷ 0 ∷ 0 ∷ 0 ∷ 0 ∷ 0 ∷ 0 ∷ 0 ∷ 0 ∷ 2 ∷ 0 ∷ 25 ∷ 4 ∷ 1 ∷ 0 ∷ 0 ∷ 0 ∷ 0 ∷ 0 ∷ 0 ∷ 0 ∷ 0 ∷ 0 ∷ 0 ∷ 0 ∷ 3 ∷ 2 ∷ 4 ∷ 2 ∷ 1 ∷ 0 ∷ 1 ∷ [])) (padded 40 ([])) (padded 40 ([])) (padded 5 (2 ∷ [])) (counts 3 0 0 1)) (refused 4)
-unfolding compare
-case-87 = malformedLeft refl refl
+case-87 : compare (lent (97 ∷ 97 ∷ []) (padded 32 (2 ∷ 0 ∷ 25 ∷ 0 ∷ 1 ∷ 0 ∷ 0 ∷ 0 ∷ 0 ∷ 0 ∷ 0 ∷ 0 ∷ 0 ∷ 0 ∷ 0 ∷ 0 ∷ 10 ∷ 1 ∷ 32 ∷ 0 ∷ 2 ∷ [])) (padded 16 (6 ∷ 36 ∷ 0 ∷ 3 ∷ [])) (padded 16 ([])) (padded 2 (1 ∷ [])) (counts 2 1 0 1)) (lent (97 ∷ 32 ∷ 43 ∷ 32 ∷ 98 ∷ []) (padded 80 (2 ∷ 0 ∷ 25 ∷ 0 ∷ 1 ∷ 0 ∷ 0 ∷ 0 ∷ 0 ∷ 0 ∷ 0 ∷ 0 ∷ 0 ∷ 0 ∷ 0 ∷ 0 ∷ 2 ∷ 0 ∷ 25 ∷ 4 ∷ 1 ∷ 0 ∷ 0 ∷ 0 ∷ 0 ∷ 0 ∷ 0 ∷ 0 ∷ 0 ∷ 0 ∷ 0 ∷ 0 ∷ 3 ∷ 2 ∷ 4 ∷ 2 ∷ 1 ∷ 0 ∷ 1 ∷ [])) (padded 40 ([])) (padded 40 ([])) (padded 5 (2 ∷ [])) (counts 3 0 0 1)) ≡ refused 4
+unfolding comparison
+case-87 = refl
 
 -- type of an unknown kind, right
-case-88 : Compares (lent (97 ∷ 32 ∷ 43 ∷ 32 ∷ 98 ∷ []) (padded 80 (2 ∷ 0 ∷ 25 ∷ 0 ∷ 1 ∷ 0 ∷ 0 ∷ 0 ∷ 0 ∷ 0 ∷ 0 ∷ 0 ∷ 0 ∷ 0 ∷ 0 ∷ 0 ∷ 2 ∷ 0 ∷ 25 ∷ 4 ∷ 1 ∷ 0 ∷ 0 ∷ 0 ∷ 0 ∷ 0 ∷ 0 ∷ 0 ∷ 0 ∷ 0 ∷ 0 ∷ 0 ∷ 3 ∷ 2 ∷ 4 ∷ 2 ∷ 1 ∷ 0 ∷ 1 ∷ [])) (padded 40 ([])) (padded 40 ([])) (padded 5 (2 ∷ [])) (counts 3 0 0 1)) (lent (97 ∷ 97 ∷ []) (padded 32 (2 ∷ 0 ∷ 25 ∷ 0 ∷ 1 ∷ 0 ∷ 0 ∷ 0 ∷ 0 ∷ 0 ∷ 0 ∷ 0 ∷ 0 ∷ 0 ∷ 0 ∷ 0 ∷ 10 ∷ 1 ∷ 32 ∷ 0 ∷ 2 ∷ [])) (padded 16 (6 ∷ 36 ∷ 0 ∷ 3 ∷ [])) (padded 16 ([])) (padded 2 (1 ∷ [])) (counts 2 1 0 1)) (refused 4)
-unfolding compare
-case-88 = malformedRight refl refl
+case-88 : compare (lent (97 ∷ 32 ∷ 43 ∷ 32 ∷ 98 ∷ []) (padded 80 (2 ∷ 0 ∷ 25 ∷ 0 ∷ 1 ∷ 0 ∷ 0 ∷ 0 ∷ 0 ∷ 0 ∷ 0 ∷ 0 ∷ 0 ∷ 0 ∷ 0 ∷ 0 ∷ 2 ∷ 0 ∷ 25 ∷ 4 ∷ 1 ∷ 0 ∷ 0 ∷ 0 ∷ 0 ∷ 0 ∷ 0 ∷ 0 ∷ 0 ∷ 0 ∷ 0 ∷ 0 ∷ 3 ∷ 2 ∷ 4 ∷ 2 ∷ 1 ∷ 0 ∷ 1 ∷ [])) (padded 40 ([])) (padded 40 ([])) (padded 5 (2 ∷ [])) (counts 3 0 0 1)) (lent (97 ∷ 97 ∷ []) (padded 32 (2 ∷ 0 ∷ 25 ∷ 0 ∷ 1 ∷ 0 ∷ 0 ∷ 0 ∷ 0 ∷ 0 ∷ 0 ∷ 0 ∷ 0 ∷ 0 ∷ 0 ∷ 0 ∷ 10 ∷ 1 ∷ 32 ∷ 0 ∷ 2 ∷ [])) (padded 16 (6 ∷ 36 ∷ 0 ∷ 3 ∷ [])) (padded 16 ([])) (padded 2 (1 ∷ [])) (counts 2 1 0 1)) ≡ refused 4
+unfolding comparison
+case-88 = refl
 
 -- docs past the list cells, left
-case-89 : Compares (lent (97 ∷ 97 ∷ []) (padded 32 (2 ∷ 0 ∷ 25 ∷ 0 ∷ 1 ∷ 0 ∷ 0 ∷ 0 ∷ 0 ∷ 0 ∷ 0 ∷ 0 ∷ 0 ∷ 0 ∷ 0 ∷ 0 ∷ 5 ∷ 1 ∷ 0 ∷ 1 ∷ 25 ∷ 0 ∷ 1 ∷ [])) (padded 16 ([])) (padded 16 (26 ∷ [])) (padded 2 (1 ∷ [])) (counts 2 0 2 1)) (lent (97 ∷ 32 ∷ 43 ∷ 32 ∷ 98 ∷ []) (padded 80 (2 ∷ 0 ∷ 25 ∷ 0 ∷ 1 ∷ 0 ∷ 0 ∷ 0 ∷ 0 ∷ 0 ∷ 0 ∷ 0 ∷ 0 ∷ 0 ∷ 0 ∷ 0 ∷ 2 ∷ 0 ∷ 25 ∷ 4 ∷ 1 ∷ 0 ∷ 0 ∷ 0 ∷ 0 ∷ 0 ∷ 0 ∷ 0 ∷ 0 ∷ 0 ∷ 0 ∷ 0 ∷ 3 ∷ 2 ∷ 4 ∷ 2 ∷ 1 ∷ 0 ∷ 1 ∷ [])) (padded 40 ([])) (padded 40 ([])) (padded 5 (2 ∷ [])) (counts 3 0 0 1)) (refused 4)
-unfolding compare
-case-89 = malformedLeft refl refl
+case-89 : compare (lent (97 ∷ 97 ∷ []) (padded 32 (2 ∷ 0 ∷ 25 ∷ 0 ∷ 1 ∷ 0 ∷ 0 ∷ 0 ∷ 0 ∷ 0 ∷ 0 ∷ 0 ∷ 0 ∷ 0 ∷ 0 ∷ 0 ∷ 5 ∷ 1 ∷ 0 ∷ 1 ∷ 25 ∷ 0 ∷ 1 ∷ [])) (padded 16 ([])) (padded 16 (26 ∷ [])) (padded 2 (1 ∷ [])) (counts 2 0 2 1)) (lent (97 ∷ 32 ∷ 43 ∷ 32 ∷ 98 ∷ []) (padded 80 (2 ∷ 0 ∷ 25 ∷ 0 ∷ 1 ∷ 0 ∷ 0 ∷ 0 ∷ 0 ∷ 0 ∷ 0 ∷ 0 ∷ 0 ∷ 0 ∷ 0 ∷ 0 ∷ 2 ∷ 0 ∷ 25 ∷ 4 ∷ 1 ∷ 0 ∷ 0 ∷ 0 ∷ 0 ∷ 0 ∷ 0 ∷ 0 ∷ 0 ∷ 0 ∷ 0 ∷ 0 ∷ 3 ∷ 2 ∷ 4 ∷ 2 ∷ 1 ∷ 0 ∷ 1 ∷ [])) (padded 40 ([])) (padded 40 ([])) (padded 5 (2 ∷ [])) (counts 3 0 0 1)) ≡ refused 4
+unfolding comparison
+case-89 = refl
 
 -- docs past the list cells, right
-case-90 : Compares (lent (97 ∷ 32 ∷ 43 ∷ 32 ∷ 98 ∷ []) (padded 80 (2 ∷ 0 ∷ 25 ∷ 0 ∷ 1 ∷ 0 ∷ 0 ∷ 0 ∷ 0 ∷ 0 ∷ 0 ∷ 0 ∷ 0 ∷ 0 ∷ 0 ∷ 0 ∷ 2 ∷ 0 ∷ 25 ∷ 4 ∷ 1 ∷ 0 ∷ 0 ∷ 0 ∷ 0 ∷ 0 ∷ 0 ∷ 0 ∷ 0 ∷ 0 ∷ 0 ∷ 0 ∷ 3 ∷ 2 ∷ 4 ∷ 2 ∷ 1 ∷ 0 ∷ 1 ∷ [])) (padded 40 ([])) (padded 40 ([])) (padded 5 (2 ∷ [])) (counts 3 0 0 1)) (lent (97 ∷ 97 ∷ []) (padded 32 (2 ∷ 0 ∷ 25 ∷ 0 ∷ 1 ∷ 0 ∷ 0 ∷ 0 ∷ 0 ∷ 0 ∷ 0 ∷ 0 ∷ 0 ∷ 0 ∷ 0 ∷ 0 ∷ 5 ∷ 1 ∷ 0 ∷ 1 ∷ 25 ∷ 0 ∷ 1 ∷ [])) (padded 16 ([])) (padded 16 (26 ∷ [])) (padded 2 (1 ∷ [])) (counts 2 0 2 1)) (refused 4)
-unfolding compare
-case-90 = malformedRight refl refl
+case-90 : compare (lent (97 ∷ 32 ∷ 43 ∷ 32 ∷ 98 ∷ []) (padded 80 (2 ∷ 0 ∷ 25 ∷ 0 ∷ 1 ∷ 0 ∷ 0 ∷ 0 ∷ 0 ∷ 0 ∷ 0 ∷ 0 ∷ 0 ∷ 0 ∷ 0 ∷ 0 ∷ 2 ∷ 0 ∷ 25 ∷ 4 ∷ 1 ∷ 0 ∷ 0 ∷ 0 ∷ 0 ∷ 0 ∷ 0 ∷ 0 ∷ 0 ∷ 0 ∷ 0 ∷ 0 ∷ 3 ∷ 2 ∷ 4 ∷ 2 ∷ 1 ∷ 0 ∷ 1 ∷ [])) (padded 40 ([])) (padded 40 ([])) (padded 5 (2 ∷ [])) (counts 3 0 0 1)) (lent (97 ∷ 97 ∷ []) (padded 32 (2 ∷ 0 ∷ 25 ∷ 0 ∷ 1 ∷ 0 ∷ 0 ∷ 0 ∷ 0 ∷ 0 ∷ 0 ∷ 0 ∷ 0 ∷ 0 ∷ 0 ∷ 0 ∷ 5 ∷ 1 ∷ 0 ∷ 1 ∷ 25 ∷ 0 ∷ 1 ∷ [])) (padded 16 ([])) (padded 16 (26 ∷ [])) (padded 2 (1 ∷ [])) (counts 2 0 2 1)) ≡ refused 4
+unfolding comparison
+case-90 = refl
 
 -- spelling past the script, left
-case-91 : Compares (lent (97 ∷ 97 ∷ []) (padded 32 (2 ∷ 0 ∷ 25 ∷ 1 ∷ 2 ∷ [])) (padded 16 ([])) (padded 16 ([])) (padded 2 ([])) (counts 1 0 0 1)) (lent (97 ∷ 32 ∷ 43 ∷ 32 ∷ 98 ∷ []) (padded 80 (2 ∷ 0 ∷ 25 ∷ 0 ∷ 1 ∷ 0 ∷ 0 ∷ 0 ∷ 0 ∷ 0 ∷ 0 ∷ 0 ∷ 0 ∷ 0 ∷ 0 ∷ 0 ∷ 2 ∷ 0 ∷ 25 ∷ 4 ∷ 1 ∷ 0 ∷ 0 ∷ 0 ∷ 0 ∷ 0 ∷ 0 ∷ 0 ∷ 0 ∷ 0 ∷ 0 ∷ 0 ∷ 3 ∷ 2 ∷ 4 ∷ 2 ∷ 1 ∷ 0 ∷ 1 ∷ [])) (padded 40 ([])) (padded 40 ([])) (padded 5 (2 ∷ [])) (counts 3 0 0 1)) (refused 4)
-unfolding compare
-case-91 = malformedLeft refl refl
+case-91 : compare (lent (97 ∷ 97 ∷ []) (padded 32 (2 ∷ 0 ∷ 25 ∷ 1 ∷ 2 ∷ [])) (padded 16 ([])) (padded 16 ([])) (padded 2 ([])) (counts 1 0 0 1)) (lent (97 ∷ 32 ∷ 43 ∷ 32 ∷ 98 ∷ []) (padded 80 (2 ∷ 0 ∷ 25 ∷ 0 ∷ 1 ∷ 0 ∷ 0 ∷ 0 ∷ 0 ∷ 0 ∷ 0 ∷ 0 ∷ 0 ∷ 0 ∷ 0 ∷ 0 ∷ 2 ∷ 0 ∷ 25 ∷ 4 ∷ 1 ∷ 0 ∷ 0 ∷ 0 ∷ 0 ∷ 0 ∷ 0 ∷ 0 ∷ 0 ∷ 0 ∷ 0 ∷ 0 ∷ 3 ∷ 2 ∷ 4 ∷ 2 ∷ 1 ∷ 0 ∷ 1 ∷ [])) (padded 40 ([])) (padded 40 ([])) (padded 5 (2 ∷ [])) (counts 3 0 0 1)) ≡ refused 4
+unfolding comparison
+case-91 = refl
 
 -- spelling past the script, right
-case-92 : Compares (lent (97 ∷ 32 ∷ 43 ∷ 32 ∷ 98 ∷ []) (padded 80 (2 ∷ 0 ∷ 25 ∷ 0 ∷ 1 ∷ 0 ∷ 0 ∷ 0 ∷ 0 ∷ 0 ∷ 0 ∷ 0 ∷ 0 ∷ 0 ∷ 0 ∷ 0 ∷ 2 ∷ 0 ∷ 25 ∷ 4 ∷ 1 ∷ 0 ∷ 0 ∷ 0 ∷ 0 ∷ 0 ∷ 0 ∷ 0 ∷ 0 ∷ 0 ∷ 0 ∷ 0 ∷ 3 ∷ 2 ∷ 4 ∷ 2 ∷ 1 ∷ 0 ∷ 1 ∷ [])) (padded 40 ([])) (padded 40 ([])) (padded 5 (2 ∷ [])) (counts 3 0 0 1)) (lent (97 ∷ 97 ∷ []) (padded 32 (2 ∷ 0 ∷ 25 ∷ 1 ∷ 2 ∷ [])) (padded 16 ([])) (padded 16 ([])) (padded 2 ([])) (counts 1 0 0 1)) (refused 4)
-unfolding compare
-case-92 = malformedRight refl refl
+case-92 : compare (lent (97 ∷ 32 ∷ 43 ∷ 32 ∷ 98 ∷ []) (padded 80 (2 ∷ 0 ∷ 25 ∷ 0 ∷ 1 ∷ 0 ∷ 0 ∷ 0 ∷ 0 ∷ 0 ∷ 0 ∷ 0 ∷ 0 ∷ 0 ∷ 0 ∷ 0 ∷ 2 ∷ 0 ∷ 25 ∷ 4 ∷ 1 ∷ 0 ∷ 0 ∷ 0 ∷ 0 ∷ 0 ∷ 0 ∷ 0 ∷ 0 ∷ 0 ∷ 0 ∷ 0 ∷ 3 ∷ 2 ∷ 4 ∷ 2 ∷ 1 ∷ 0 ∷ 1 ∷ [])) (padded 40 ([])) (padded 40 ([])) (padded 5 (2 ∷ [])) (counts 3 0 0 1)) (lent (97 ∷ 97 ∷ []) (padded 32 (2 ∷ 0 ∷ 25 ∷ 1 ∷ 2 ∷ [])) (padded 16 ([])) (padded 16 ([])) (padded 2 ([])) (counts 1 0 0 1)) ≡ refused 4
+unfolding comparison
+case-92 = refl
+
+-- case's own token of an unknown kind, left
+case-93 : compare (lent (97 ∷ 98 ∷ 99 ∷ []) (padded 48 (2 ∷ 0 ∷ 25 ∷ 0 ∷ 1 ∷ 0 ∷ 0 ∷ 0 ∷ 0 ∷ 0 ∷ 0 ∷ 0 ∷ 0 ∷ 0 ∷ 0 ∷ 0 ∷ 2 ∷ 0 ∷ 25 ∷ 1 ∷ 1 ∷ 0 ∷ 0 ∷ 0 ∷ 0 ∷ 0 ∷ 0 ∷ 0 ∷ 0 ∷ 0 ∷ 0 ∷ 0 ∷ 7 ∷ 2 ∷ 0 ∷ 1 ∷ 20 ∷ 0 ∷ 1 ∷ 7 ∷ 1 ∷ [])) (padded 24 ([])) (padded 24 (99 ∷ 0 ∷ 1 ∷ 0 ∷ 6 ∷ 1 ∷ 1 ∷ 1 ∷ [])) (padded 3 (2 ∷ [])) (counts 3 0 8 1)) (lent (97 ∷ 32 ∷ 43 ∷ 32 ∷ 98 ∷ []) (padded 80 (2 ∷ 0 ∷ 25 ∷ 0 ∷ 1 ∷ 0 ∷ 0 ∷ 0 ∷ 0 ∷ 0 ∷ 0 ∷ 0 ∷ 0 ∷ 0 ∷ 0 ∷ 0 ∷ 2 ∷ 0 ∷ 25 ∷ 4 ∷ 1 ∷ 0 ∷ 0 ∷ 0 ∷ 0 ∷ 0 ∷ 0 ∷ 0 ∷ 0 ∷ 0 ∷ 0 ∷ 0 ∷ 3 ∷ 2 ∷ 4 ∷ 2 ∷ 1 ∷ 0 ∷ 1 ∷ [])) (padded 40 ([])) (padded 40 ([])) (padded 5 (2 ∷ [])) (counts 3 0 0 1)) ≡ refused 4
+unfolding comparison
+case-93 = refl
+
+-- case's own token of an unknown kind, right
+case-94 : compare (lent (97 ∷ 32 ∷ 43 ∷ 32 ∷ 98 ∷ []) (padded 80 (2 ∷ 0 ∷ 25 ∷ 0 ∷ 1 ∷ 0 ∷ 0 ∷ 0 ∷ 0 ∷ 0 ∷ 0 ∷ 0 ∷ 0 ∷ 0 ∷ 0 ∷ 0 ∷ 2 ∷ 0 ∷ 25 ∷ 4 ∷ 1 ∷ 0 ∷ 0 ∷ 0 ∷ 0 ∷ 0 ∷ 0 ∷ 0 ∷ 0 ∷ 0 ∷ 0 ∷ 0 ∷ 3 ∷ 2 ∷ 4 ∷ 2 ∷ 1 ∷ 0 ∷ 1 ∷ [])) (padded 40 ([])) (padded 40 ([])) (padded 5 (2 ∷ [])) (counts 3 0 0 1)) (lent (97 ∷ 98 ∷ 99 ∷ []) (padded 48 (2 ∷ 0 ∷ 25 ∷ 0 ∷ 1 ∷ 0 ∷ 0 ∷ 0 ∷ 0 ∷ 0 ∷ 0 ∷ 0 ∷ 0 ∷ 0 ∷ 0 ∷ 0 ∷ 2 ∷ 0 ∷ 25 ∷ 1 ∷ 1 ∷ 0 ∷ 0 ∷ 0 ∷ 0 ∷ 0 ∷ 0 ∷ 0 ∷ 0 ∷ 0 ∷ 0 ∷ 0 ∷ 7 ∷ 2 ∷ 0 ∷ 1 ∷ 20 ∷ 0 ∷ 1 ∷ 7 ∷ 1 ∷ [])) (padded 24 ([])) (padded 24 (99 ∷ 0 ∷ 1 ∷ 0 ∷ 6 ∷ 1 ∷ 1 ∷ 1 ∷ [])) (padded 3 (2 ∷ [])) (counts 3 0 8 1)) ≡ refused 4
+unfolding comparison
+case-94 = refl
+
+-- case's own token past the script, left
+case-95 : compare (lent (97 ∷ 98 ∷ 99 ∷ []) (padded 48 (2 ∷ 0 ∷ 25 ∷ 0 ∷ 1 ∷ 0 ∷ 0 ∷ 0 ∷ 0 ∷ 0 ∷ 0 ∷ 0 ∷ 0 ∷ 0 ∷ 0 ∷ 0 ∷ 2 ∷ 0 ∷ 25 ∷ 1 ∷ 1 ∷ 0 ∷ 0 ∷ 0 ∷ 0 ∷ 0 ∷ 0 ∷ 0 ∷ 0 ∷ 0 ∷ 0 ∷ 0 ∷ 7 ∷ 2 ∷ 0 ∷ 1 ∷ 20 ∷ 0 ∷ 1 ∷ 7 ∷ 1 ∷ [])) (padded 24 ([])) (padded 24 (25 ∷ 3 ∷ 1 ∷ 0 ∷ 6 ∷ 1 ∷ 1 ∷ 1 ∷ [])) (padded 3 (2 ∷ [])) (counts 3 0 8 1)) (lent (97 ∷ 32 ∷ 43 ∷ 32 ∷ 98 ∷ []) (padded 80 (2 ∷ 0 ∷ 25 ∷ 0 ∷ 1 ∷ 0 ∷ 0 ∷ 0 ∷ 0 ∷ 0 ∷ 0 ∷ 0 ∷ 0 ∷ 0 ∷ 0 ∷ 0 ∷ 2 ∷ 0 ∷ 25 ∷ 4 ∷ 1 ∷ 0 ∷ 0 ∷ 0 ∷ 0 ∷ 0 ∷ 0 ∷ 0 ∷ 0 ∷ 0 ∷ 0 ∷ 0 ∷ 3 ∷ 2 ∷ 4 ∷ 2 ∷ 1 ∷ 0 ∷ 1 ∷ [])) (padded 40 ([])) (padded 40 ([])) (padded 5 (2 ∷ [])) (counts 3 0 0 1)) ≡ refused 4
+unfolding comparison
+case-95 = refl
+
+-- case's own token past the script, right
+case-96 : compare (lent (97 ∷ 32 ∷ 43 ∷ 32 ∷ 98 ∷ []) (padded 80 (2 ∷ 0 ∷ 25 ∷ 0 ∷ 1 ∷ 0 ∷ 0 ∷ 0 ∷ 0 ∷ 0 ∷ 0 ∷ 0 ∷ 0 ∷ 0 ∷ 0 ∷ 0 ∷ 2 ∷ 0 ∷ 25 ∷ 4 ∷ 1 ∷ 0 ∷ 0 ∷ 0 ∷ 0 ∷ 0 ∷ 0 ∷ 0 ∷ 0 ∷ 0 ∷ 0 ∷ 0 ∷ 3 ∷ 2 ∷ 4 ∷ 2 ∷ 1 ∷ 0 ∷ 1 ∷ [])) (padded 40 ([])) (padded 40 ([])) (padded 5 (2 ∷ [])) (counts 3 0 0 1)) (lent (97 ∷ 98 ∷ 99 ∷ []) (padded 48 (2 ∷ 0 ∷ 25 ∷ 0 ∷ 1 ∷ 0 ∷ 0 ∷ 0 ∷ 0 ∷ 0 ∷ 0 ∷ 0 ∷ 0 ∷ 0 ∷ 0 ∷ 0 ∷ 2 ∷ 0 ∷ 25 ∷ 1 ∷ 1 ∷ 0 ∷ 0 ∷ 0 ∷ 0 ∷ 0 ∷ 0 ∷ 0 ∷ 0 ∷ 0 ∷ 0 ∷ 0 ∷ 7 ∷ 2 ∷ 0 ∷ 1 ∷ 20 ∷ 0 ∷ 1 ∷ 7 ∷ 1 ∷ [])) (padded 24 ([])) (padded 24 (25 ∷ 3 ∷ 1 ∷ 0 ∷ 6 ∷ 1 ∷ 1 ∷ 1 ∷ [])) (padded 3 (2 ∷ [])) (counts 3 0 8 1)) ≡ refused 4
+unfolding comparison
+case-96 = refl
 
 -- default's token of an unknown kind, left
-case-93 : Compares (lent (97 ∷ 97 ∷ []) (padded 32 (7 ∷ 0 ∷ 0 ∷ 0 ∷ 44 ∷ 0 ∷ 1 ∷ [])) (padded 16 ([])) (padded 16 ([])) (padded 2 ([])) (counts 1 0 0 1)) (lent (97 ∷ 32 ∷ 43 ∷ 32 ∷ 98 ∷ []) (padded 80 (2 ∷ 0 ∷ 25 ∷ 0 ∷ 1 ∷ 0 ∷ 0 ∷ 0 ∷ 0 ∷ 0 ∷ 0 ∷ 0 ∷ 0 ∷ 0 ∷ 0 ∷ 0 ∷ 2 ∷ 0 ∷ 25 ∷ 4 ∷ 1 ∷ 0 ∷ 0 ∷ 0 ∷ 0 ∷ 0 ∷ 0 ∷ 0 ∷ 0 ∷ 0 ∷ 0 ∷ 0 ∷ 3 ∷ 2 ∷ 4 ∷ 2 ∷ 1 ∷ 0 ∷ 1 ∷ [])) (padded 40 ([])) (padded 40 ([])) (padded 5 (2 ∷ [])) (counts 3 0 0 1)) (refused 4)
-unfolding compare
-case-93 = malformedLeft refl refl
+case-97 : compare (lent (97 ∷ 97 ∷ []) (padded 32 (7 ∷ 0 ∷ 0 ∷ 0 ∷ 44 ∷ 0 ∷ 1 ∷ [])) (padded 16 ([])) (padded 16 ([])) (padded 2 ([])) (counts 1 0 0 1)) (lent (97 ∷ 32 ∷ 43 ∷ 32 ∷ 98 ∷ []) (padded 80 (2 ∷ 0 ∷ 25 ∷ 0 ∷ 1 ∷ 0 ∷ 0 ∷ 0 ∷ 0 ∷ 0 ∷ 0 ∷ 0 ∷ 0 ∷ 0 ∷ 0 ∷ 0 ∷ 2 ∷ 0 ∷ 25 ∷ 4 ∷ 1 ∷ 0 ∷ 0 ∷ 0 ∷ 0 ∷ 0 ∷ 0 ∷ 0 ∷ 0 ∷ 0 ∷ 0 ∷ 0 ∷ 3 ∷ 2 ∷ 4 ∷ 2 ∷ 1 ∷ 0 ∷ 1 ∷ [])) (padded 40 ([])) (padded 40 ([])) (padded 5 (2 ∷ [])) (counts 3 0 0 1)) ≡ refused 4
+unfolding comparison
+case-97 = refl
 
 -- default's token of an unknown kind, right
-case-94 : Compares (lent (97 ∷ 32 ∷ 43 ∷ 32 ∷ 98 ∷ []) (padded 80 (2 ∷ 0 ∷ 25 ∷ 0 ∷ 1 ∷ 0 ∷ 0 ∷ 0 ∷ 0 ∷ 0 ∷ 0 ∷ 0 ∷ 0 ∷ 0 ∷ 0 ∷ 0 ∷ 2 ∷ 0 ∷ 25 ∷ 4 ∷ 1 ∷ 0 ∷ 0 ∷ 0 ∷ 0 ∷ 0 ∷ 0 ∷ 0 ∷ 0 ∷ 0 ∷ 0 ∷ 0 ∷ 3 ∷ 2 ∷ 4 ∷ 2 ∷ 1 ∷ 0 ∷ 1 ∷ [])) (padded 40 ([])) (padded 40 ([])) (padded 5 (2 ∷ [])) (counts 3 0 0 1)) (lent (97 ∷ 97 ∷ []) (padded 32 (7 ∷ 0 ∷ 0 ∷ 0 ∷ 44 ∷ 0 ∷ 1 ∷ [])) (padded 16 ([])) (padded 16 ([])) (padded 2 ([])) (counts 1 0 0 1)) (refused 4)
-unfolding compare
-case-94 = malformedRight refl refl
+case-98 : compare (lent (97 ∷ 32 ∷ 43 ∷ 32 ∷ 98 ∷ []) (padded 80 (2 ∷ 0 ∷ 25 ∷ 0 ∷ 1 ∷ 0 ∷ 0 ∷ 0 ∷ 0 ∷ 0 ∷ 0 ∷ 0 ∷ 0 ∷ 0 ∷ 0 ∷ 0 ∷ 2 ∷ 0 ∷ 25 ∷ 4 ∷ 1 ∷ 0 ∷ 0 ∷ 0 ∷ 0 ∷ 0 ∷ 0 ∷ 0 ∷ 0 ∷ 0 ∷ 0 ∷ 0 ∷ 3 ∷ 2 ∷ 4 ∷ 2 ∷ 1 ∷ 0 ∷ 1 ∷ [])) (padded 40 ([])) (padded 40 ([])) (padded 5 (2 ∷ [])) (counts 3 0 0 1)) (lent (97 ∷ 97 ∷ []) (padded 32 (7 ∷ 0 ∷ 0 ∷ 0 ∷ 44 ∷ 0 ∷ 1 ∷ [])) (padded 16 ([])) (padded 16 ([])) (padded 2 ([])) (counts 1 0 0 1)) ≡ refused 4
+unfolding comparison
+case-98 = refl
 
 -- nodes one cell short, left
-case-95 : Compares (lent (97 ∷ 97 ∷ []) (padded 31 (15 ∷ [])) (padded 16 ([])) (padded 16 ([])) (padded 2 ([])) (counts 1 0 0 1)) (lent (97 ∷ 32 ∷ 43 ∷ 32 ∷ 98 ∷ []) (padded 80 (2 ∷ 0 ∷ 25 ∷ 0 ∷ 1 ∷ 0 ∷ 0 ∷ 0 ∷ 0 ∷ 0 ∷ 0 ∷ 0 ∷ 0 ∷ 0 ∷ 0 ∷ 0 ∷ 2 ∷ 0 ∷ 25 ∷ 4 ∷ 1 ∷ 0 ∷ 0 ∷ 0 ∷ 0 ∷ 0 ∷ 0 ∷ 0 ∷ 0 ∷ 0 ∷ 0 ∷ 0 ∷ 3 ∷ 2 ∷ 4 ∷ 2 ∷ 1 ∷ 0 ∷ 1 ∷ [])) (padded 40 ([])) (padded 40 ([])) (padded 5 (2 ∷ [])) (counts 3 0 0 1)) (refused 2)
-unfolding compare
-case-95 = refusedLent refl
+case-99 : compare (lent (97 ∷ 97 ∷ []) (padded 31 (15 ∷ [])) (padded 16 ([])) (padded 16 ([])) (padded 2 ([])) (counts 1 0 0 1)) (lent (97 ∷ 32 ∷ 43 ∷ 32 ∷ 98 ∷ []) (padded 80 (2 ∷ 0 ∷ 25 ∷ 0 ∷ 1 ∷ 0 ∷ 0 ∷ 0 ∷ 0 ∷ 0 ∷ 0 ∷ 0 ∷ 0 ∷ 0 ∷ 0 ∷ 0 ∷ 2 ∷ 0 ∷ 25 ∷ 4 ∷ 1 ∷ 0 ∷ 0 ∷ 0 ∷ 0 ∷ 0 ∷ 0 ∷ 0 ∷ 0 ∷ 0 ∷ 0 ∷ 0 ∷ 3 ∷ 2 ∷ 4 ∷ 2 ∷ 1 ∷ 0 ∷ 1 ∷ [])) (padded 40 ([])) (padded 40 ([])) (padded 5 (2 ∷ [])) (counts 3 0 0 1)) ≡ refused 2
+unfolding comparison
+case-99 = refl
 
 -- nodes one cell short, right
-case-96 : Compares (lent (97 ∷ 32 ∷ 43 ∷ 32 ∷ 98 ∷ []) (padded 80 (2 ∷ 0 ∷ 25 ∷ 0 ∷ 1 ∷ 0 ∷ 0 ∷ 0 ∷ 0 ∷ 0 ∷ 0 ∷ 0 ∷ 0 ∷ 0 ∷ 0 ∷ 0 ∷ 2 ∷ 0 ∷ 25 ∷ 4 ∷ 1 ∷ 0 ∷ 0 ∷ 0 ∷ 0 ∷ 0 ∷ 0 ∷ 0 ∷ 0 ∷ 0 ∷ 0 ∷ 0 ∷ 3 ∷ 2 ∷ 4 ∷ 2 ∷ 1 ∷ 0 ∷ 1 ∷ [])) (padded 40 ([])) (padded 40 ([])) (padded 5 (2 ∷ [])) (counts 3 0 0 1)) (lent (97 ∷ 97 ∷ []) (padded 31 (15 ∷ [])) (padded 16 ([])) (padded 16 ([])) (padded 2 ([])) (counts 1 0 0 1)) (refused 2)
-unfolding compare
-case-96 = refusedLent refl
+case-100 : compare (lent (97 ∷ 32 ∷ 43 ∷ 32 ∷ 98 ∷ []) (padded 80 (2 ∷ 0 ∷ 25 ∷ 0 ∷ 1 ∷ 0 ∷ 0 ∷ 0 ∷ 0 ∷ 0 ∷ 0 ∷ 0 ∷ 0 ∷ 0 ∷ 0 ∷ 0 ∷ 2 ∷ 0 ∷ 25 ∷ 4 ∷ 1 ∷ 0 ∷ 0 ∷ 0 ∷ 0 ∷ 0 ∷ 0 ∷ 0 ∷ 0 ∷ 0 ∷ 0 ∷ 0 ∷ 3 ∷ 2 ∷ 4 ∷ 2 ∷ 1 ∷ 0 ∷ 1 ∷ [])) (padded 40 ([])) (padded 40 ([])) (padded 5 (2 ∷ [])) (counts 3 0 0 1)) (lent (97 ∷ 97 ∷ []) (padded 31 (15 ∷ [])) (padded 16 ([])) (padded 16 ([])) (padded 2 ([])) (counts 1 0 0 1)) ≡ refused 2
+unfolding comparison
+case-100 = refl
 
 -- types one cell short, left
-case-97 : Compares (lent (97 ∷ 97 ∷ []) (padded 32 (15 ∷ [])) (padded 15 ([])) (padded 16 ([])) (padded 2 ([])) (counts 1 0 0 1)) (lent (97 ∷ 32 ∷ 43 ∷ 32 ∷ 98 ∷ []) (padded 80 (2 ∷ 0 ∷ 25 ∷ 0 ∷ 1 ∷ 0 ∷ 0 ∷ 0 ∷ 0 ∷ 0 ∷ 0 ∷ 0 ∷ 0 ∷ 0 ∷ 0 ∷ 0 ∷ 2 ∷ 0 ∷ 25 ∷ 4 ∷ 1 ∷ 0 ∷ 0 ∷ 0 ∷ 0 ∷ 0 ∷ 0 ∷ 0 ∷ 0 ∷ 0 ∷ 0 ∷ 0 ∷ 3 ∷ 2 ∷ 4 ∷ 2 ∷ 1 ∷ 0 ∷ 1 ∷ [])) (padded 40 ([])) (padded 40 ([])) (padded 5 (2 ∷ [])) (counts 3 0 0 1)) (refused 2)
-unfolding compare
-case-97 = refusedLent refl
+case-101 : compare (lent (97 ∷ 97 ∷ []) (padded 32 (15 ∷ [])) (padded 15 ([])) (padded 16 ([])) (padded 2 ([])) (counts 1 0 0 1)) (lent (97 ∷ 32 ∷ 43 ∷ 32 ∷ 98 ∷ []) (padded 80 (2 ∷ 0 ∷ 25 ∷ 0 ∷ 1 ∷ 0 ∷ 0 ∷ 0 ∷ 0 ∷ 0 ∷ 0 ∷ 0 ∷ 0 ∷ 0 ∷ 0 ∷ 0 ∷ 2 ∷ 0 ∷ 25 ∷ 4 ∷ 1 ∷ 0 ∷ 0 ∷ 0 ∷ 0 ∷ 0 ∷ 0 ∷ 0 ∷ 0 ∷ 0 ∷ 0 ∷ 0 ∷ 3 ∷ 2 ∷ 4 ∷ 2 ∷ 1 ∷ 0 ∷ 1 ∷ [])) (padded 40 ([])) (padded 40 ([])) (padded 5 (2 ∷ [])) (counts 3 0 0 1)) ≡ refused 2
+unfolding comparison
+case-101 = refl
 
 -- types one cell short, right
-case-98 : Compares (lent (97 ∷ 32 ∷ 43 ∷ 32 ∷ 98 ∷ []) (padded 80 (2 ∷ 0 ∷ 25 ∷ 0 ∷ 1 ∷ 0 ∷ 0 ∷ 0 ∷ 0 ∷ 0 ∷ 0 ∷ 0 ∷ 0 ∷ 0 ∷ 0 ∷ 0 ∷ 2 ∷ 0 ∷ 25 ∷ 4 ∷ 1 ∷ 0 ∷ 0 ∷ 0 ∷ 0 ∷ 0 ∷ 0 ∷ 0 ∷ 0 ∷ 0 ∷ 0 ∷ 0 ∷ 3 ∷ 2 ∷ 4 ∷ 2 ∷ 1 ∷ 0 ∷ 1 ∷ [])) (padded 40 ([])) (padded 40 ([])) (padded 5 (2 ∷ [])) (counts 3 0 0 1)) (lent (97 ∷ 97 ∷ []) (padded 32 (15 ∷ [])) (padded 15 ([])) (padded 16 ([])) (padded 2 ([])) (counts 1 0 0 1)) (refused 2)
-unfolding compare
-case-98 = refusedLent refl
+case-102 : compare (lent (97 ∷ 32 ∷ 43 ∷ 32 ∷ 98 ∷ []) (padded 80 (2 ∷ 0 ∷ 25 ∷ 0 ∷ 1 ∷ 0 ∷ 0 ∷ 0 ∷ 0 ∷ 0 ∷ 0 ∷ 0 ∷ 0 ∷ 0 ∷ 0 ∷ 0 ∷ 2 ∷ 0 ∷ 25 ∷ 4 ∷ 1 ∷ 0 ∷ 0 ∷ 0 ∷ 0 ∷ 0 ∷ 0 ∷ 0 ∷ 0 ∷ 0 ∷ 0 ∷ 0 ∷ 3 ∷ 2 ∷ 4 ∷ 2 ∷ 1 ∷ 0 ∷ 1 ∷ [])) (padded 40 ([])) (padded 40 ([])) (padded 5 (2 ∷ [])) (counts 3 0 0 1)) (lent (97 ∷ 97 ∷ []) (padded 32 (15 ∷ [])) (padded 15 ([])) (padded 16 ([])) (padded 2 ([])) (counts 1 0 0 1)) ≡ refused 2
+unfolding comparison
+case-102 = refl
 
 -- lists one cell short, left
-case-99 : Compares (lent (97 ∷ 97 ∷ []) (padded 32 (15 ∷ [])) (padded 16 ([])) (padded 15 ([])) (padded 2 ([])) (counts 1 0 0 1)) (lent (97 ∷ 32 ∷ 43 ∷ 32 ∷ 98 ∷ []) (padded 80 (2 ∷ 0 ∷ 25 ∷ 0 ∷ 1 ∷ 0 ∷ 0 ∷ 0 ∷ 0 ∷ 0 ∷ 0 ∷ 0 ∷ 0 ∷ 0 ∷ 0 ∷ 0 ∷ 2 ∷ 0 ∷ 25 ∷ 4 ∷ 1 ∷ 0 ∷ 0 ∷ 0 ∷ 0 ∷ 0 ∷ 0 ∷ 0 ∷ 0 ∷ 0 ∷ 0 ∷ 0 ∷ 3 ∷ 2 ∷ 4 ∷ 2 ∷ 1 ∷ 0 ∷ 1 ∷ [])) (padded 40 ([])) (padded 40 ([])) (padded 5 (2 ∷ [])) (counts 3 0 0 1)) (refused 2)
-unfolding compare
-case-99 = refusedLent refl
+case-103 : compare (lent (97 ∷ 97 ∷ []) (padded 32 (15 ∷ [])) (padded 16 ([])) (padded 15 ([])) (padded 2 ([])) (counts 1 0 0 1)) (lent (97 ∷ 32 ∷ 43 ∷ 32 ∷ 98 ∷ []) (padded 80 (2 ∷ 0 ∷ 25 ∷ 0 ∷ 1 ∷ 0 ∷ 0 ∷ 0 ∷ 0 ∷ 0 ∷ 0 ∷ 0 ∷ 0 ∷ 0 ∷ 0 ∷ 0 ∷ 2 ∷ 0 ∷ 25 ∷ 4 ∷ 1 ∷ 0 ∷ 0 ∷ 0 ∷ 0 ∷ 0 ∷ 0 ∷ 0 ∷ 0 ∷ 0 ∷ 0 ∷ 0 ∷ 3 ∷ 2 ∷ 4 ∷ 2 ∷ 1 ∷ 0 ∷ 1 ∷ [])) (padded 40 ([])) (padded 40 ([])) (padded 5 (2 ∷ [])) (counts 3 0 0 1)) ≡ refused 2
+unfolding comparison
+case-103 = refl
 
 -- lists one cell short, right
-case-100 : Compares (lent (97 ∷ 32 ∷ 43 ∷ 32 ∷ 98 ∷ []) (padded 80 (2 ∷ 0 ∷ 25 ∷ 0 ∷ 1 ∷ 0 ∷ 0 ∷ 0 ∷ 0 ∷ 0 ∷ 0 ∷ 0 ∷ 0 ∷ 0 ∷ 0 ∷ 0 ∷ 2 ∷ 0 ∷ 25 ∷ 4 ∷ 1 ∷ 0 ∷ 0 ∷ 0 ∷ 0 ∷ 0 ∷ 0 ∷ 0 ∷ 0 ∷ 0 ∷ 0 ∷ 0 ∷ 3 ∷ 2 ∷ 4 ∷ 2 ∷ 1 ∷ 0 ∷ 1 ∷ [])) (padded 40 ([])) (padded 40 ([])) (padded 5 (2 ∷ [])) (counts 3 0 0 1)) (lent (97 ∷ 97 ∷ []) (padded 32 (15 ∷ [])) (padded 16 ([])) (padded 15 ([])) (padded 2 ([])) (counts 1 0 0 1)) (refused 2)
-unfolding compare
-case-100 = refusedLent refl
+case-104 : compare (lent (97 ∷ 32 ∷ 43 ∷ 32 ∷ 98 ∷ []) (padded 80 (2 ∷ 0 ∷ 25 ∷ 0 ∷ 1 ∷ 0 ∷ 0 ∷ 0 ∷ 0 ∷ 0 ∷ 0 ∷ 0 ∷ 0 ∷ 0 ∷ 0 ∷ 0 ∷ 2 ∷ 0 ∷ 25 ∷ 4 ∷ 1 ∷ 0 ∷ 0 ∷ 0 ∷ 0 ∷ 0 ∷ 0 ∷ 0 ∷ 0 ∷ 0 ∷ 0 ∷ 0 ∷ 3 ∷ 2 ∷ 4 ∷ 2 ∷ 1 ∷ 0 ∷ 1 ∷ [])) (padded 40 ([])) (padded 40 ([])) (padded 5 (2 ∷ [])) (counts 3 0 0 1)) (lent (97 ∷ 97 ∷ []) (padded 32 (15 ∷ [])) (padded 16 ([])) (padded 15 ([])) (padded 2 ([])) (counts 1 0 0 1)) ≡ refused 2
+unfolding comparison
+case-104 = refl
 
 -- roots one cell short, left
-case-101 : Compares (lent (97 ∷ 97 ∷ []) (padded 32 (15 ∷ [])) (padded 16 ([])) (padded 16 ([])) (padded 1 ([])) (counts 1 0 0 1)) (lent (97 ∷ 32 ∷ 43 ∷ 32 ∷ 98 ∷ []) (padded 80 (2 ∷ 0 ∷ 25 ∷ 0 ∷ 1 ∷ 0 ∷ 0 ∷ 0 ∷ 0 ∷ 0 ∷ 0 ∷ 0 ∷ 0 ∷ 0 ∷ 0 ∷ 0 ∷ 2 ∷ 0 ∷ 25 ∷ 4 ∷ 1 ∷ 0 ∷ 0 ∷ 0 ∷ 0 ∷ 0 ∷ 0 ∷ 0 ∷ 0 ∷ 0 ∷ 0 ∷ 0 ∷ 3 ∷ 2 ∷ 4 ∷ 2 ∷ 1 ∷ 0 ∷ 1 ∷ [])) (padded 40 ([])) (padded 40 ([])) (padded 5 (2 ∷ [])) (counts 3 0 0 1)) (refused 2)
-unfolding compare
-case-101 = refusedLent refl
+case-105 : compare (lent (97 ∷ 97 ∷ []) (padded 32 (15 ∷ [])) (padded 16 ([])) (padded 16 ([])) (padded 1 ([])) (counts 1 0 0 1)) (lent (97 ∷ 32 ∷ 43 ∷ 32 ∷ 98 ∷ []) (padded 80 (2 ∷ 0 ∷ 25 ∷ 0 ∷ 1 ∷ 0 ∷ 0 ∷ 0 ∷ 0 ∷ 0 ∷ 0 ∷ 0 ∷ 0 ∷ 0 ∷ 0 ∷ 0 ∷ 2 ∷ 0 ∷ 25 ∷ 4 ∷ 1 ∷ 0 ∷ 0 ∷ 0 ∷ 0 ∷ 0 ∷ 0 ∷ 0 ∷ 0 ∷ 0 ∷ 0 ∷ 0 ∷ 3 ∷ 2 ∷ 4 ∷ 2 ∷ 1 ∷ 0 ∷ 1 ∷ [])) (padded 40 ([])) (padded 40 ([])) (padded 5 (2 ∷ [])) (counts 3 0 0 1)) ≡ refused 2
+unfolding comparison
+case-105 = refl
 
 -- roots one cell short, right
-case-102 : Compares (lent (97 ∷ 32 ∷ 43 ∷ 32 ∷ 98 ∷ []) (padded 80 (2 ∷ 0 ∷ 25 ∷ 0 ∷ 1 ∷ 0 ∷ 0 ∷ 0 ∷ 0 ∷ 0 ∷ 0 ∷ 0 ∷ 0 ∷ 0 ∷ 0 ∷ 0 ∷ 2 ∷ 0 ∷ 25 ∷ 4 ∷ 1 ∷ 0 ∷ 0 ∷ 0 ∷ 0 ∷ 0 ∷ 0 ∷ 0 ∷ 0 ∷ 0 ∷ 0 ∷ 0 ∷ 3 ∷ 2 ∷ 4 ∷ 2 ∷ 1 ∷ 0 ∷ 1 ∷ [])) (padded 40 ([])) (padded 40 ([])) (padded 5 (2 ∷ [])) (counts 3 0 0 1)) (lent (97 ∷ 97 ∷ []) (padded 32 (15 ∷ [])) (padded 16 ([])) (padded 16 ([])) (padded 1 ([])) (counts 1 0 0 1)) (refused 2)
-unfolding compare
-case-102 = refusedLent refl
+case-106 : compare (lent (97 ∷ 32 ∷ 43 ∷ 32 ∷ 98 ∷ []) (padded 80 (2 ∷ 0 ∷ 25 ∷ 0 ∷ 1 ∷ 0 ∷ 0 ∷ 0 ∷ 0 ∷ 0 ∷ 0 ∷ 0 ∷ 0 ∷ 0 ∷ 0 ∷ 0 ∷ 2 ∷ 0 ∷ 25 ∷ 4 ∷ 1 ∷ 0 ∷ 0 ∷ 0 ∷ 0 ∷ 0 ∷ 0 ∷ 0 ∷ 0 ∷ 0 ∷ 0 ∷ 0 ∷ 3 ∷ 2 ∷ 4 ∷ 2 ∷ 1 ∷ 0 ∷ 1 ∷ [])) (padded 40 ([])) (padded 40 ([])) (padded 5 (2 ∷ [])) (counts 3 0 0 1)) (lent (97 ∷ 97 ∷ []) (padded 32 (15 ∷ [])) (padded 16 ([])) (padded 16 ([])) (padded 1 ([])) (counts 1 0 0 1)) ≡ refused 2
+unfolding comparison
+case-106 = refl
 
 -- 2 on the right before 4 on the left
-case-103 : Compares (lent (97 ∷ []) (padded 16 (15 ∷ [])) (padded 8 ([])) (padded 8 ([])) (padded 1 ([])) (counts 1 0 0 1)) (lent (97 ∷ 97 ∷ []) (padded 32 ([])) (padded 16 ([])) (padded 16 ([])) (padded 1 ([])) (counts 0 0 0 0)) (refused 2)
-unfolding compare
-case-103 = refusedLent refl
+case-107 : compare (lent (97 ∷ []) (padded 16 (15 ∷ [])) (padded 8 ([])) (padded 8 ([])) (padded 1 ([])) (counts 1 0 0 1)) (lent (97 ∷ 97 ∷ []) (padded 32 ([])) (padded 16 ([])) (padded 16 ([])) (padded 1 ([])) (counts 0 0 0 0)) ≡ refused 2
+unfolding comparison
+case-107 = refl
 
 -- 1 on the right before 2 on the left
-case-104 : Compares (lent (97 ∷ 97 ∷ []) (padded 1 ([])) (padded 1 ([])) (padded 1 ([])) (padded 1 ([])) (counts 0 0 0 0)) (lent (replicate 65537 32) (padded 1 ([])) (padded 1 ([])) (padded 1 ([])) (padded 1 ([])) (counts 0 0 0 0)) (refused 1)
-unfolding compare
-case-104 = refusedLent refl
+case-108 : compare (lent (97 ∷ 97 ∷ []) (padded 1 ([])) (padded 1 ([])) (padded 1 ([])) (padded 1 ([])) (counts 0 0 0 0)) (lent (replicate 65537 32) (padded 1 ([])) (padded 1 ([])) (padded 1 ([])) (padded 1 ([])) (counts 0 0 0 0)) ≡ refused 1
+unfolding comparison
+case-108 = refl
 
 -- 65,536 bytes on the right
-case-105 : Compares (lent (97 ∷ 32 ∷ 43 ∷ 32 ∷ 98 ∷ []) (padded 80 (2 ∷ 0 ∷ 25 ∷ 0 ∷ 1 ∷ 0 ∷ 0 ∷ 0 ∷ 0 ∷ 0 ∷ 0 ∷ 0 ∷ 0 ∷ 0 ∷ 0 ∷ 0 ∷ 2 ∷ 0 ∷ 25 ∷ 4 ∷ 1 ∷ 0 ∷ 0 ∷ 0 ∷ 0 ∷ 0 ∷ 0 ∷ 0 ∷ 0 ∷ 0 ∷ 0 ∷ 0 ∷ 3 ∷ 2 ∷ 4 ∷ 2 ∷ 1 ∷ 0 ∷ 1 ∷ [])) (padded 40 ([])) (padded 40 ([])) (padded 5 (2 ∷ [])) (counts 3 0 0 1)) (lent (replicate 65536 32) (padded 1 ([])) (padded 1 ([])) (padded 1 ([])) (padded 1 ([])) (counts 0 0 0 0)) (refused 2)
-unfolding compare
-case-105 = refusedLent refl
+case-109 : compare (lent (97 ∷ 32 ∷ 43 ∷ 32 ∷ 98 ∷ []) (padded 80 (2 ∷ 0 ∷ 25 ∷ 0 ∷ 1 ∷ 0 ∷ 0 ∷ 0 ∷ 0 ∷ 0 ∷ 0 ∷ 0 ∷ 0 ∷ 0 ∷ 0 ∷ 0 ∷ 2 ∷ 0 ∷ 25 ∷ 4 ∷ 1 ∷ 0 ∷ 0 ∷ 0 ∷ 0 ∷ 0 ∷ 0 ∷ 0 ∷ 0 ∷ 0 ∷ 0 ∷ 0 ∷ 3 ∷ 2 ∷ 4 ∷ 2 ∷ 1 ∷ 0 ∷ 1 ∷ [])) (padded 40 ([])) (padded 40 ([])) (padded 5 (2 ∷ [])) (counts 3 0 0 1)) (lent (replicate 65536 32) (padded 1 ([])) (padded 1 ([])) (padded 1 ([])) (padded 1 ([])) (counts 0 0 0 0)) ≡ refused 2
+unfolding comparison
+case-109 = refl

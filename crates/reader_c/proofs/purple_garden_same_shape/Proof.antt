@@ -1,7 +1,10 @@
 -- `purple_garden_same_shape` meets its contract.
 -- Assumes nothing.
+use mathlib.Core.Path.{_∙_, ap₂}
 use Rattle.ast.specs.Answer.{lent}
-use Rattle.reader_c.proofs.Answers.{answers-comparison}
+use Rattle.same.specs.Compare.{compare}
+use Rattle.reader_c.specs.Numbers.{yesCells}
+use Rattle.reader_c.proofs.Answers.{answers-same}
 use borrow.Author.Needs.{needs}
 use Rattle.reader_c.proofs.purple_garden_same_shape.Statement.{statement}
 use Rattle.reader_c.proofs.purple_garden_same_shape.Tie as tie
@@ -9,7 +12,7 @@ use Rattle.reader_c.proofs.purple_garden_same_shape.Tie as tie
 returns : tie.Need-returns
 returns c =
     let a = c .before .before .before .before .before .before .before .before .before .before .before .before .before .before .before .args in
-    answers-comparison (lent (a .script .now) (a .nodes .now) (a .types .now) (a .lists .now) (a .roots .now)) (lent (a .script2 .now) (a .nodes2 .now) (a .types2 .now) (a .lists2 .now) (a .roots2 .now)) (c .before .before .before .before .counts-of .ensures) (c .before .before .before .counts-of2 .ensures) (c .before .before .same-shape .ensures) (c .put-same .ensures)
+    answers-same yesCells (a .same .now) (c .before .before .same-shape .ensures ∙ ap₂ (λ x y. compare (lent (a .script .now) (a .nodes .now) (a .types .now) (a .lists .now) (a .roots .now) x) (lent (a .script2 .now) (a .nodes2 .now) (a .types2 .now) (a .lists2 .now) (a .roots2 .now) y)) (c .before .before .before .before .counts-of .ensures) (c .before .before .before .counts-of2 .ensures)) (c .put-same .ensures)
 
 pub purple-garden-same-shape-spec : {M : Type 1} → statement M
 purple-garden-same-shape-spec =

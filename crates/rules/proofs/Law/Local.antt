@@ -132,7 +132,7 @@ module _ (script cells : List ℕ) (ty ty′ : ℕ → Option TypeShape) (nd nd�
 
   cases-defined : (r : Run) → Is (S.cases e₁ r) → Is (S.cases e₂ r)
   unfolding S.cases S.caseIn
-  cases-defined r h = list-defined _ _ _ _ _ _ (both-defined _ _ _ _ (both-defined _ _ _ _ (same-defined token) node-defined) (resolve-defined run _ _ shapes-defined)) cells r h
+  cases-defined r h = list-defined _ _ _ _ _ _ (both-defined _ _ _ _ (both-defined _ _ _ _ word-defined node-defined) (resolve-defined run _ _ shapes-defined)) cells r h
 
   fns-defined : (r : Run) → Is (S.fns e₁ r) → Is (S.fns e₂ r)
   unfolding S.fns S.fnIn

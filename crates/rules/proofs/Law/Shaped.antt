@@ -213,10 +213,11 @@ module _ (e : Env) where
   case-reads : Reads (S.caseIn e) (L.caseIn (e .cells))
   unfolding S.caseIn
   case-reads cs a rest h =
-      let p = both-is (both token (resolve number (e .node))) (resolve run (S.shapes e)) cs a rest h in
-      let q = both-is token (resolve number (e .node)) cs (p .left) (p .middle) (p .first) in
+      let p = both-is (both (S.wordIn e) (resolve number (e .node))) (resolve run (S.shapes e)) cs a rest h in
+      let q = both-is (S.wordIn e) (resolve number (e .node)) cs (p .left) (p .middle) (p .first) in
+      let t = word-reads cs (q .left) (q .middle) (q .first) in
       let r = resolve-is run (S.shapes e) (p .middle) (p .right) rest (p .second) in
-      case-from (q .first) (node-reads (q .middle) (q .right) (p .middle) (q .second)) (r .1) (nodes-read (r .0) (p .right, r .2))
+      case-from (t .1) (node-reads (q .middle) (q .right) (p .middle) (q .second)) (r .1) (nodes-read (r .0) (p .right, r .2))
 
   fn-from : {cs c₁ c₂ c₃ rest : List ℕ} {docs r : Run} {t : Token} → run cs ≡ some (docs, c₁) → token c₁ ≡ some (t, c₂) → run c₂ ≡ some (r, c₃) → Children (listed L.paramIn (e .cells) r) → Read L.typeIn c₃ rest → Read (L.fnIn (e .cells)) cs rest
   unfolding L.fnIn map₁

@@ -175,7 +175,7 @@ module _ (script cells more : List ℕ) (ty ty′ : ℕ → Option TypeShape) (n
 
   pub caseIn-mono : Le (S.caseIn e₁) (S.caseIn e₂)
   unfolding S.caseIn
-  caseIn-mono = both-mono _ _ _ _ (both-mono _ _ _ _ token-mono node-mono) (to-mono _ _ _ _ run-mono shapes-mono)
+  caseIn-mono = both-mono _ _ _ _ (both-mono _ _ _ _ wordIn-mono node-mono) (to-mono _ _ _ _ run-mono shapes-mono)
 
   pub cases-mono : (r : Run) → S.cases e₁ r ⊑ S.cases e₂ r
   unfolding S.cases

@@ -347,7 +347,7 @@ module _ (script : List ℕ) where
     -- ---- match
 
     abbrev CaseCells : Type 0
-    CaseCells = (Token × Shape) × Shapes
+    CaseCells = (Word × Shape) × Shapes
 
     abbrev caseRd : Arena → Decoder CaseCells
     caseRd m = S.caseIn (envOf script m)
@@ -394,7 +394,7 @@ module _ (script : List ℕ) where
     }
 
     conditionCase-ok : (c : Cases) (s : State) → Invariant script s → Holds script (λ e s′. (cell : List ℕ) × (e ≡ record { cases = c .cases ++ (cell ∷ []); default = c .default }) × CaseDone s cell s′) (Q.conditionCase d c s)
-    unfolding Q.conditionCase printCase S.caseIn tokenCells runCells both resolve chain decoded number token run andThen map₁
+    unfolding Q.conditionCase printCase S.caseIn S.wordIn S.w tokenCells runCells both resolve chain decoded number token run andThen map₁
     conditionCase-ok c s k = cur-ok _ s (
         bind-ok _ _ s (deep .expr 0 s k) (λ n s₁ d₁.
         bind-ok _ _ s₁ (parseBody-ok s₁ (d₁ .consumed .invariant)) (λ b s₂ d₂.
@@ -402,8 +402,8 @@ module _ (script : List ℕ) where
           _,
           refl,
           record {
-            value = ((current (s .left), d₁ .shape), d₂ .shapes);
-            is = rw (d₂ .consumed .grows .nodes _ _ (d₁ .is), d₂ .is);
+            value = ((w (current (s .left)), d₁ .shape), d₂ .shapes);
+            is = rw (tokensOk-current script (NoDocBeforeImport script) (s .left) (k .tokensOk), d₂ .consumed .grows .nodes _ _ (d₁ .is), d₂ .is);
             consumed = d₁ .consumed ▷ d₂ .consumed;
           },
         ))))

@@ -61,38 +61,32 @@ agree-words-requires c κs = search needs
 returns-4 : tie.Need-returns-4 Inv-loop μ-loop
 unfolding words wordIn w params paramIn
 returns-4 c =
-    let p = rw (c .before .before .before .before .before .before .run-at .ensures, c .before .before .run-at2 .ensures) at (c .before .agree-words .ensures) in
-    stop fnLists (c .before .before .before .before .before .before .before .before .before .before .before .before .before .before .before .before .before .if1 .left) (c .before .before .before .before .before .before .before .before .before .before .before .loop .inv) (c .before .before .before .before .before .before .before .before .before .before .loop-test .taken) (λ b. decides-not _ (not-true _ (c .if4 .taken)) p (pair-parts _ _ _ _ (pair-parts _ _ _ _ (pair-parts _ _ _ _ b .0) .0) .0))
+    let p = rw (c .before .before .before .before .run-at .ensures, c .before .before .run-at2 .ensures) at (c .before .agree-words .ensures) in
+    stop fnLists (c .before .before .before .before .before .before .before .before .before .before .before .before .before .if1 .left) (c .before .before .before .before .before .before .before .loop .inv) (c .before .before .before .before .before .before .loop-test .taken) (λ b. decides-not _ (not-true _ (c .if4 .taken)) p (pair-parts _ _ _ _ (pair-parts _ _ _ _ (pair-parts _ _ _ _ b .0) .0) .0))
 
-add-token-at : tie.Need-add-token-at Inv-loop μ-loop
-add-token-at c = omega (arith, c .before .before .before .before .before .before .before .before .before .before .before .before .before .loop .inv .small, c .before .before .before .before .before .before .before .before .before .before .before .before .loop-test .taken)
+add-agree-token-at : tie.Need-add-agree-token-at Inv-loop μ-loop
+add-agree-token-at c = omega (arith, c .before .before .before .before .before .before .before .loop .inv .small, c .before .before .before .before .before .before .loop-test .taken)
 
-token-at-requires : tie.Need-token-at-requires Inv-loop μ-loop
-token-at-requires c κs = search needs
+add-agree-token-at-2 : tie.Need-add-agree-token-at-2 Inv-loop μ-loop
+add-agree-token-at-2 c = omega (arith, c .before .before .before .before .before .before .before .loop .inv .small′, c .before .before .before .before .before .before .loop-test .taken)
 
-add-token-at-2 : tie.Need-add-token-at-2 Inv-loop μ-loop
-add-token-at-2 c = omega (arith, c .before .before .before .before .before .before .before .before .before .before .before .before .before .before .before .before .loop .inv .small′, c .before .before .before .before .before .before .before .before .before .before .before .before .before .before .before .loop-test .taken)
-
-token-at-requires-2 : tie.Need-token-at-requires-2 Inv-loop μ-loop
-token-at-requires-2 c κs = search needs
-
-agree-token-requires : tie.Need-agree-token-requires Inv-loop μ-loop
-agree-token-requires c κs = search needs
+agree-token-at-requires : tie.Need-agree-token-at-requires Inv-loop μ-loop
+agree-token-at-requires c κs = search needs
 
 returns-5 : tie.Need-returns-5 Inv-loop μ-loop
 unfolding words wordIn w params paramIn
 returns-5 c =
-    let d = rw (c .before .before .before .before .before .token-at .ensures, c .before .before .token-at2 .ensures) at (c .before .agree-token .ensures) in
-    stop fnLists (c .before .before .before .before .before .before .before .before .before .before .before .before .before .before .before .before .before .before .before .before .before .before .before .before .before .if1 .left) (c .before .before .before .before .before .before .before .before .before .before .before .before .before .before .before .before .before .before .before .loop .inv) (c .before .before .before .before .before .before .before .before .before .before .before .before .before .before .before .before .before .before .loop-test .taken) (λ b. decides-not _ (not-true _ (c .if5 .taken)) d (pair-parts _ _ _ _ (pair-parts _ _ _ _ (pair-parts _ _ _ _ b .0) .0) .1))
+    let d = c .before .agree-token-at .ensures in
+    stop fnLists (c .before .before .before .before .before .before .before .before .before .before .before .before .before .before .before .if1 .left) (c .before .before .before .before .before .before .before .before .before .loop .inv) (c .before .before .before .before .before .before .before .before .loop-test .taken) (λ b. decides-not _ (not-true _ (c .if5 .taken)) d (pair-parts _ _ _ _ (pair-parts _ _ _ _ (pair-parts _ _ _ _ b .0) .0) .1))
 
 add-run-at : tie.Need-add-run-at Inv-loop μ-loop
-add-run-at c = omega (arith, c .before .before .before .before .before .before .before .before .before .before .before .before .before .before .before .before .before .before .before .before .loop .inv .small, c .before .before .before .before .before .before .before .before .before .before .before .before .before .before .before .before .before .before .before .loop-test .taken)
+add-run-at c = omega (arith, c .before .before .before .before .before .before .before .before .before .before .loop .inv .small, c .before .before .before .before .before .before .before .before .before .loop-test .taken)
 
 run-at-requires-3 : tie.Need-run-at-requires-3 Inv-loop μ-loop
 run-at-requires-3 c κs = search needs
 
 add-run-at-2 : tie.Need-add-run-at-2 Inv-loop μ-loop
-add-run-at-2 c = omega (arith, c .before .before .before .before .before .before .before .before .before .before .before .before .before .before .before .before .before .before .before .before .before .before .loop .inv .small′, c .before .before .before .before .before .before .before .before .before .before .before .before .before .before .before .before .before .before .before .before .before .loop-test .taken)
+add-run-at-2 c = omega (arith, c .before .before .before .before .before .before .before .before .before .before .before .before .loop .inv .small′, c .before .before .before .before .before .before .before .before .before .before .before .loop-test .taken)
 
 run-at-requires-4 : tie.Need-run-at-requires-4 Inv-loop μ-loop
 run-at-requires-4 c κs = search needs
@@ -104,7 +98,7 @@ returns-6 : tie.Need-returns-6 Inv-loop μ-loop
 unfolding words wordIn w params paramIn
 returns-6 c =
     let q = rw (c .before .before .before .before .run-at3 .ensures, c .before .before .run-at4 .ensures) at (c .before .agree-params .ensures) in
-    stop fnLists (c .before .before .before .before .before .before .before .before .before .before .before .before .before .before .before .before .before .before .before .before .before .before .before .before .before .before .before .before .before .before .before .if1 .left) (c .before .before .before .before .before .before .before .before .before .before .before .before .before .before .before .before .before .before .before .before .before .before .before .before .before .loop .inv) (c .before .before .before .before .before .before .before .before .before .before .before .before .before .before .before .before .before .before .before .before .before .before .before .before .loop-test .taken) (λ b. decides-not _ (not-true _ (c .if6 .taken)) q (pair-parts _ _ _ _ (pair-parts _ _ _ _ b .0) .1))
+    stop fnLists (c .before .before .before .before .before .before .before .before .before .before .before .before .before .before .before .before .before .before .before .before .before .if1 .left) (c .before .before .before .before .before .before .before .before .before .before .before .before .before .before .before .loop .inv) (c .before .before .before .before .before .before .before .before .before .before .before .before .before .before .loop-test .taken) (λ b. decides-not _ (not-true _ (c .if6 .taken)) q (pair-parts _ _ _ _ (pair-parts _ _ _ _ b .0) .1))
 
 cell-requires : tie.Need-cell-requires Inv-loop μ-loop
 cell-requires c κs = search needs
@@ -119,28 +113,28 @@ returns-7 : tie.Need-returns-7 Inv-loop μ-loop
 unfolding words wordIn w params paramIn
 returns-7 c =
     let z = rw (c .before .before .before .before .cell .ensures, c .before .before .cell2 .ensures) at (c .before .agree-type .ensures) in
-    stop fnLists (c .before .before .before .before .before .before .before .before .before .before .before .before .before .before .before .before .before .before .before .before .before .before .before .before .before .before .before .before .before .before .before .before .before .before .before .before .before .if1 .left) (c .before .before .before .before .before .before .before .before .before .before .before .before .before .before .before .before .before .before .before .before .before .before .before .before .before .before .before .before .before .before .before .loop .inv) (c .before .before .before .before .before .before .before .before .before .before .before .before .before .before .before .before .before .before .before .before .before .before .before .before .before .before .before .before .before .before .loop-test .taken) (λ b. decides-not _ (not-true _ (c .if7 .taken)) z (pair-parts _ _ _ _ b .1))
+    stop fnLists (c .before .before .before .before .before .before .before .before .before .before .before .before .before .before .before .before .before .before .before .before .before .before .before .before .before .before .before .if1 .left) (c .before .before .before .before .before .before .before .before .before .before .before .before .before .before .before .before .before .before .before .before .before .loop .inv) (c .before .before .before .before .before .before .before .before .before .before .before .before .before .before .before .before .before .before .before .before .loop-test .taken) (λ b. decides-not _ (not-true _ (c .if7 .taken)) z (pair-parts _ _ _ _ b .1))
 
 add-at : tie.Need-add-at Inv-loop μ-loop
-add-at c = omega (arith, c .before .before .before .before .before .before .before .before .before .before .before .before .before .before .before .before .before .before .before .before .before .before .before .before .before .before .before .before .before .before .before .loop .inv .small, c .before .before .before .before .before .before .before .before .before .before .before .before .before .before .before .before .before .before .before .before .before .before .before .before .before .before .before .before .before .before .loop-test .taken)
+add-at c = omega (arith, c .before .before .before .before .before .before .before .before .before .before .before .before .before .before .before .before .before .before .before .before .before .loop .inv .small, c .before .before .before .before .before .before .before .before .before .before .before .before .before .before .before .before .before .before .before .before .loop-test .taken)
 
 add-at2 : tie.Need-add-at2 Inv-loop μ-loop
-add-at2 c = omega (arith, c .before .before .before .before .before .before .before .before .before .before .before .before .before .before .before .before .before .before .before .before .before .before .before .before .before .before .before .before .before .before .before .loop .inv .small′, c .before .before .before .before .before .before .before .before .before .before .before .before .before .before .before .before .before .before .before .before .before .before .before .before .before .before .before .before .before .before .loop-test .taken)
+add-at2 c = omega (arith, c .before .before .before .before .before .before .before .before .before .before .before .before .before .before .before .before .before .before .before .before .before .loop .inv .small′, c .before .before .before .before .before .before .before .before .before .before .before .before .before .before .before .before .before .before .before .before .loop-test .taken)
 
 sub-left : tie.Need-sub-left Inv-loop μ-loop
-sub-left c = omega (arith, c .before .before .before .before .before .before .before .before .before .before .before .before .before .before .before .before .before .before .before .before .before .before .before .before .before .before .before .before .before .before .loop-test .taken)
+sub-left c = omega (arith, c .before .before .before .before .before .before .before .before .before .before .before .before .before .before .before .before .before .before .before .before .loop-test .taken)
 
 loop-less : tie.Need-loop-less Inv-loop μ-loop
-loop-less c = omega (arith, c .before .before .before .before .before .before .before .before .before .before .before .before .before .before .before .before .before .before .before .before .before .before .before .before .before .before .before .before .before .before .loop-test .taken)
+loop-less c = omega (arith, c .before .before .before .before .before .before .before .before .before .before .before .before .before .before .before .before .before .before .before .before .loop-test .taken)
 
 loop-again : tie.Need-loop-again Inv-loop μ-loop
 unfolding words wordIn w params paramIn
 loop-again c =
-    let p = rw (c .before .before .before .before .before .before .before .before .before .before .before .before .before .before .before .before .before .before .before .before .before .before .before .before .before .before .run-at .ensures, c .before .before .before .before .before .before .before .before .before .before .before .before .before .before .before .before .before .before .before .before .before .before .run-at2 .ensures) at (c .before .before .before .before .before .before .before .before .before .before .before .before .before .before .before .before .before .before .before .before .before .agree-words .ensures) in
-    let d = rw (c .before .before .before .before .before .before .before .before .before .before .before .before .before .before .before .before .before .token-at .ensures, c .before .before .before .before .before .before .before .before .before .before .before .before .before .before .token-at2 .ensures) at (c .before .before .before .before .before .before .before .before .before .before .before .before .before .agree-token .ensures) in
+    let p = rw (c .before .before .before .before .before .before .before .before .before .before .before .before .before .before .before .before .before .before .run-at .ensures, c .before .before .before .before .before .before .before .before .before .before .before .before .before .before .before .before .run-at2 .ensures) at (c .before .before .before .before .before .before .before .before .before .before .before .before .before .before .before .agree-words .ensures) in
+    let d = c .before .before .before .before .before .before .before .before .before .before .before .before .before .agree-token-at .ensures in
     let q = rw (c .before .before .before .before .before .before .before .before .before .before .run-at3 .ensures, c .before .before .before .before .before .before .before .before .run-at4 .ensures) at (c .before .before .before .before .before .before .before .agree-params .ensures) in
     let z = rw (c .before .before .before .before .cell .ensures, c .before .before .cell2 .ensures) at (c .before .agree-type .ensures) in
-    step fnLists (c .before .before .before .before .before .before .before .before .before .before .before .before .before .before .before .before .before .before .before .before .before .before .before .before .before .before .before .before .before .before .before .before .before .before .before .before .before .if1 .left) (c .before .before .before .before .before .before .before .before .before .before .before .before .before .before .before .before .before .before .before .before .before .before .before .before .before .before .before .before .before .before .before .loop .inv) (c .before .before .before .before .before .before .before .before .before .before .before .before .before .before .before .before .before .before .before .before .before .before .before .before .before .before .before .before .before .before .loop-test .taken) (pair-agree (pair-agree (pair-agree (p .holds (not-false _ (c .before .before .before .before .before .before .before .before .before .before .before .before .before .before .before .before .before .before .before .before .if4 .left))) (d .holds (not-false _ (c .before .before .before .before .before .before .before .before .before .before .before .before .if5 .left)))) (q .holds (not-false _ (c .before .before .before .before .before .before .if6 .left)))) (z .holds (not-false _ (c .if7 .left))))
+    step fnLists (c .before .before .before .before .before .before .before .before .before .before .before .before .before .before .before .before .before .before .before .before .before .before .before .before .before .before .before .if1 .left) (c .before .before .before .before .before .before .before .before .before .before .before .before .before .before .before .before .before .before .before .before .before .loop .inv) (c .before .before .before .before .before .before .before .before .before .before .before .before .before .before .before .before .before .before .before .before .loop-test .taken) (pair-agree (pair-agree (pair-agree (p .holds (not-false _ (c .before .before .before .before .before .before .before .before .before .before .before .before .before .before .if4 .left))) (d .holds (not-false _ (c .before .before .before .before .before .before .before .before .before .before .before .before .if5 .left)))) (q .holds (not-false _ (c .before .before .before .before .before .before .if6 .left)))) (z .holds (not-false _ (c .if7 .left))))
 
 returns-8 : tie.Need-returns-8 Inv-loop μ-loop
 returns-8 c = done fnLists (c .before .before .before .before .before .before .before .if1 .left) (c .before .loop .inv) (omega arith)
@@ -166,11 +160,9 @@ agree-fns-spec =
     run-at-requires-2
     agree-words-requires
     returns-4
-    add-token-at
-    token-at-requires
-    add-token-at-2
-    token-at-requires-2
-    agree-token-requires
+    add-agree-token-at
+    add-agree-token-at-2
+    agree-token-at-requires
     returns-5
     add-run-at
     run-at-requires-3

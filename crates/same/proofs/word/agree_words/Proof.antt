@@ -10,7 +10,7 @@ use Rattle.same.proofs.word.agree_words.Statement.{statement}
 use Rattle.same.proofs.word.agree_words.Tie as tie
 
 abbrev Inv-loop : tie.InvT-loop
-Inv-loop s cells s2 cells2 at₀ at2₀ left₀ at at2 left = Walking wordLists (wordEnv s cells) (wordEnv s2 cells2) at₀ at2₀ left₀ at at2 left
+Inv-loop s cells s2 cells2 at₀ at2₀ left₀ at at2 left = Walking wordLists (wordEnv (s .now) (cells .now)) (wordEnv (s2 .now) (cells2 .now)) at₀ at2₀ left₀ at at2 left
 
 abbrev μ-loop : tie.MeasureT-loop
 μ-loop s cells s2 cells2 at₀ at2₀ left₀ at at2 left = left
@@ -48,26 +48,20 @@ returns-3 c = outside-right wordLists (c .before .before .before .before .before
 loop-holds : tie.Need-loop-holds Inv-loop μ-loop
 loop-holds c = begin wordLists (c .before .if2 .left) (c .if3 .left) (omega arith) (omega arith)
 
-token-at-requires : tie.Need-token-at-requires Inv-loop μ-loop
-token-at-requires c κs = search needs
-
-token-at-requires-2 : tie.Need-token-at-requires-2 Inv-loop μ-loop
-token-at-requires-2 c κs = search needs
-
-agree-token-requires : tie.Need-agree-token-requires Inv-loop μ-loop
-agree-token-requires c κs = search needs
+agree-token-at-requires : tie.Need-agree-token-at-requires Inv-loop μ-loop
+agree-token-at-requires c κs = search needs
 
 returns-4 : tie.Need-returns-4 Inv-loop μ-loop
 unfolding w
 returns-4 c =
-    let d = rw (c .before .before .before .token-at .ensures, c .before .before .token-at2 .ensures) at (c .before .agree-token .ensures) in
-    stop wordLists (c .before .before .before .before .before .before .before .before .before .before .before .if1 .left) (c .before .before .before .before .before .loop .inv) (c .before .before .before .before .loop-test .taken) (decides-not _ (not-true _ (c .if4 .taken)) d)
+    let d = c .before .agree-token-at .ensures in
+    stop wordLists (c .before .before .before .before .before .before .before .before .before .if1 .left) (c .before .before .before .loop .inv) (c .before .before .loop-test .taken) (decides-not _ (not-true _ (c .if4 .taken)) d)
 
 add-at : tie.Need-add-at Inv-loop μ-loop
-add-at c = omega (arith, c .before .before .before .before .before .loop .inv .small)
+add-at c = omega (arith, c .before .before .before .loop .inv .small)
 
 add-at2 : tie.Need-add-at2 Inv-loop μ-loop
-add-at2 c = omega (arith, c .before .before .before .before .before .loop .inv .small′)
+add-at2 c = omega (arith, c .before .before .before .loop .inv .small′)
 
 sub-left : tie.Need-sub-left Inv-loop μ-loop
 sub-left c = omega arith
@@ -78,8 +72,8 @@ loop-less c = omega arith
 loop-again : tie.Need-loop-again Inv-loop μ-loop
 unfolding w
 loop-again c =
-    let d = rw (c .before .before .before .token-at .ensures, c .before .before .token-at2 .ensures) at (c .before .agree-token .ensures) in
-    step wordLists (c .before .before .before .before .before .before .before .before .before .before .before .if1 .left) (c .before .before .before .before .before .loop .inv) (c .before .before .before .before .loop-test .taken) (d .holds (not-false _ (c .if4 .left)))
+    let d = c .before .agree-token-at .ensures in
+    step wordLists (c .before .before .before .before .before .before .before .before .before .if1 .left) (c .before .before .before .loop .inv) (c .before .before .loop-test .taken) (d .holds (not-false _ (c .if4 .left)))
 
 returns-5 : tie.Need-returns-5 Inv-loop μ-loop
 returns-5 c = done wordLists (c .before .before .before .before .before .before .before .if1 .left) (c .before .loop .inv) (omega arith)
@@ -101,9 +95,7 @@ agree-words-spec =
     add-if3
     returns-3
     loop-holds
-    token-at-requires
-    token-at-requires-2
-    agree-token-requires
+    agree-token-at-requires
     returns-4
     add-at
     add-at2

@@ -9,15 +9,14 @@ use borrow.Author.Needs.{needs}
 use native.Mathlib.Omega.{arith}
 use Prim.Native.Nat.{ℕ}
 use Rattle.same.proofs.node.agree_fields.Reads as agree-fields
-use Rattle.same.proofs.node.+agree_cases+agree_fields+agree_node+agree_nodes+agree_part+agree_parts.Lts-agree_fields as lts
-use Rattle.ast.proofs.layout.token_at.Reads as token-at-reads
-use Rattle.same.proofs.word.agree_token.Reads as agree-token-reads
+use Rattle.same.proofs.word.agree_token_at.Reads as agree-token-at-reads
 use Rattle.ast.proofs.layout.cell.Reads as cell-reads
 use Rattle.same.proofs.node.agree_node.Reads as agree-node
+use Rattle.same.proofs.node.+agree_cases+agree_fields+agree_node+agree_nodes+agree_part+agree_parts.Lts-agree_fields as lts
 use Rattle.same.proofs.node.+agree_cases+agree_fields+agree_node+agree_nodes+agree_part+agree_parts.Proof.Measures.{agree-fields-at, agree-node-below}
 
 abbrev claims : ℕ → lts.Claims
-claims t = (token-at-reads.Asked, token-at-reads.Learnt, agree-token-reads.Asked, agree-token-reads.Learnt, cell-reads.Asked, cell-reads.Learnt, agree-node-below t, agree-node.Post)
+claims t = (agree-token-at-reads.Asked, agree-token-at-reads.Learnt, cell-reads.Asked, cell-reads.Learnt, agree-node-below t, agree-node.Post)
 
 abbrev Inv-loop : lts.InvT-loop
 Inv-loop s nodes types cells k i s2 nodes2 types2 cells2 k2 j at₀ at2₀ left₀ at at2 left = Walking fieldLists (envBelow (view (s .now) (nodes .now) (types .now) (cells .now) k) i) (envBelow (view (s2 .now) (nodes2 .now) (types2 .now) (cells2 .now) k2) j) at₀ at2₀ left₀ at at2 left
@@ -40,24 +39,24 @@ loop-holds t c = begin fieldLists (c .before .if2 .left) (c .if3 .left) (omega a
 returns-4 : (t : ℕ) → lts.Need-returns-4 (claims t) (agree-fields-at t) agree-fields.Post Inv-loop μ-loop
 unfolding w
 returns-4 t c =
-    let d = rw (c .before .before .before .before .before .token-at .ensures, c .before .before .token-at2 .ensures) at (c .before .agree-token .ensures) in
-    stop fieldLists (c .before .before .before .before .before .before .before .before .before .before .before .before .before .before .before .if1 .left) (c .before .before .before .before .before .before .before .before .before .loop .inv) (c .before .before .before .before .before .before .before .before .loop-test .taken) (λ b. decides-not _ (not-true _ (c .if4 .taken)) d (pair-parts _ _ _ _ b .0))
+    let d = c .before .agree-token-at .ensures in
+    stop fieldLists (c .before .before .before .before .before .before .before .before .before .if1 .left) (c .before .before .before .loop .inv) (c .before .before .loop-test .taken) (λ b. decides-not _ (not-true _ (c .if4 .taken)) d (pair-parts _ _ _ _ b .0))
 
 returns-5 : (t : ℕ) → lts.Need-returns-5 (claims t) (agree-fields-at t) agree-fields.Post Inv-loop μ-loop
 unfolding w
 returns-5 t c =
     let q = rw (c .before .before .before .before .cell .ensures, c .before .before .cell2 .ensures) at (c .before .agree-node .ensures) in
-    stop fieldLists (c .before .before .before .before .before .before .before .before .before .before .before .before .before .before .before .before .before .before .before .before .before .if1 .left) (c .before .before .before .before .before .before .before .before .before .before .before .before .before .before .before .loop .inv) (c .before .before .before .before .before .before .before .before .before .before .before .before .before .before .loop-test .taken) (λ b. decides-not _ (not-true _ (c .if5 .taken)) q (pair-parts _ _ _ _ b .1))
+    stop fieldLists (c .before .before .before .before .before .before .before .before .before .before .before .before .before .before .before .if1 .left) (c .before .before .before .before .before .before .before .before .before .loop .inv) (c .before .before .before .before .before .before .before .before .loop-test .taken) (λ b. decides-not _ (not-true _ (c .if5 .taken)) q (pair-parts _ _ _ _ b .1))
 
 loop-less : (t : ℕ) → lts.Need-loop-less (claims t) (agree-fields-at t) agree-fields.Post Inv-loop μ-loop
-loop-less t c = omega (arith, c .before .before .before .before .before .before .before .before .before .before .before .before .before .before .loop-test .taken)
+loop-less t c = omega (arith, c .before .before .before .before .before .before .before .before .loop-test .taken)
 
 loop-again : (t : ℕ) → lts.Need-loop-again (claims t) (agree-fields-at t) agree-fields.Post Inv-loop μ-loop
 unfolding w
 loop-again t c =
-    let d = rw (c .before .before .before .before .before .before .before .before .before .before .before .token-at .ensures, c .before .before .before .before .before .before .before .before .token-at2 .ensures) at (c .before .before .before .before .before .before .before .agree-token .ensures) in
+    let d = c .before .before .before .before .before .before .before .agree-token-at .ensures in
     let q = rw (c .before .before .before .before .cell .ensures, c .before .before .cell2 .ensures) at (c .before .agree-node .ensures) in
-    step fieldLists (c .before .before .before .before .before .before .before .before .before .before .before .before .before .before .before .before .before .before .before .before .before .if1 .left) (c .before .before .before .before .before .before .before .before .before .before .before .before .before .before .before .loop .inv) (c .before .before .before .before .before .before .before .before .before .before .before .before .before .before .loop-test .taken) (pair-agree (d .holds (not-false _ (c .before .before .before .before .before .before .if4 .left))) (q .holds (not-false _ (c .if5 .left))))
+    step fieldLists (c .before .before .before .before .before .before .before .before .before .before .before .before .before .before .before .if1 .left) (c .before .before .before .before .before .before .before .before .before .loop .inv) (c .before .before .before .before .before .before .before .before .loop-test .taken) (pair-agree (d .holds (not-false _ (c .before .before .before .before .before .before .if4 .left))) (q .holds (not-false _ (c .if5 .left))))
 
 returns-6 : (t : ℕ) → lts.Need-returns-6 (claims t) (agree-fields-at t) agree-fields.Post Inv-loop μ-loop
 returns-6 t c = done fieldLists (c .before .before .before .before .before .before .before .if1 .left) (c .before .loop .inv) (omega (arith, c .loop-test .left))
@@ -75,17 +74,15 @@ agree-fields-meets t = lts.spec (claims t) (agree-fields-at t) agree-fields.Post
     (λ c. omega arith)  -- add-if3
     (returns-3 t)
     (loop-holds t)
-    (λ c κs. search needs)  -- token-at-requires
-    (λ c κs. search needs)  -- token-at-requires-2
-    (λ c κs. search needs)  -- agree-token-requires
+    (λ c κs. search needs)  -- agree-token-at-requires
     (returns-4 t)
     (λ c κs. search needs)  -- cell-requires
     (λ c κs. search needs)  -- cell-requires-2
-    (λ c κs. (omega (arith, c .before .before .before .before .before .before .before .before .before .before .before .before .before .before .before .before .before .before .before .before .before .before .pre .0), search needs))  -- agree-node-requires
+    (λ c κs. (omega (arith, c .before .before .before .before .before .before .before .before .before .before .before .before .before .before .before .before .pre .0), search needs))  -- agree-node-requires
     (returns-5 t)
-    (λ c. omega (arith, c .before .before .before .before .before .before .before .before .before .before .before .before .before .before .before .loop .inv .small, c .before .before .before .before .before .before .before .before .before .before .before .before .before .before .loop-test .taken))  -- add-at
-    (λ c. omega (arith, c .before .before .before .before .before .before .before .before .before .before .before .before .before .before .before .loop .inv .small′, c .before .before .before .before .before .before .before .before .before .before .before .before .before .before .loop-test .taken))  -- add-at2
-    (λ c. omega (arith, c .before .before .before .before .before .before .before .before .before .before .before .before .before .before .loop-test .taken))  -- sub-left
+    (λ c. omega (arith, c .before .before .before .before .before .before .before .before .before .loop .inv .small, c .before .before .before .before .before .before .before .before .loop-test .taken))  -- add-at
+    (λ c. omega (arith, c .before .before .before .before .before .before .before .before .before .loop .inv .small′, c .before .before .before .before .before .before .before .before .loop-test .taken))  -- add-at2
+    (λ c. omega (arith, c .before .before .before .before .before .before .before .before .loop-test .taken))  -- sub-left
     (loop-less t)
     (loop-again t)
     (returns-6 t)

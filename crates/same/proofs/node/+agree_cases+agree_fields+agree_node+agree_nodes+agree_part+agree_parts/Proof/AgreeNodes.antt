@@ -7,9 +7,9 @@ use borrow.Author.Needs.{needs}
 use native.Mathlib.Omega.{arith}
 use Prim.Native.Nat.{ℕ}
 use Rattle.same.proofs.node.agree_nodes.Reads as agree-nodes
-use Rattle.same.proofs.node.+agree_cases+agree_fields+agree_node+agree_nodes+agree_part+agree_parts.Lts-agree_nodes as lts
 use Rattle.ast.proofs.layout.cell.Reads as cell-reads
 use Rattle.same.proofs.node.agree_node.Reads as agree-node
+use Rattle.same.proofs.node.+agree_cases+agree_fields+agree_node+agree_nodes+agree_part+agree_parts.Lts-agree_nodes as lts
 use Rattle.same.proofs.node.+agree_cases+agree_fields+agree_node+agree_nodes+agree_part+agree_parts.Proof.Measures.{agree-nodes-at, agree-node-below}
 
 abbrev claims : ℕ → lts.Claims

@@ -10,9 +10,7 @@ use borrow.Author.Needs.{needs}
 use native.Mathlib.Omega.{arith}
 use Prim.Native.Nat.{ℕ}
 use Rattle.same.proofs.node.agree_part.Reads as agree-part
-use Rattle.same.proofs.node.+agree_cases+agree_fields+agree_node+agree_nodes+agree_part+agree_parts.Lts-agree_part as lts
-use Rattle.ast.proofs.layout.token_at.Reads as token-at-reads
-use Rattle.same.proofs.word.agree_token.Reads as agree-token-reads
+use Rattle.same.proofs.word.agree_token_at.Reads as agree-token-at-reads
 use Rattle.ast.proofs.layout.run_at.Reads as run-at-reads
 use Rattle.same.proofs.word.agree_words.Reads as agree-words-reads
 use Rattle.same.proofs.type_expr.agree_params.Reads as agree-params-reads
@@ -23,30 +21,31 @@ use Rattle.same.proofs.node.agree_nodes.Reads as agree-nodes
 use Rattle.same.proofs.node.agree_fields.Reads as agree-fields
 use Rattle.same.proofs.node.agree_cases.Reads as agree-cases
 use Rattle.same.proofs.node.agree_node.Reads as agree-node
+use Rattle.same.proofs.node.+agree_cases+agree_fields+agree_node+agree_nodes+agree_part+agree_parts.Lts-agree_part as lts
 use Rattle.same.proofs.node.+agree_cases+agree_fields+agree_node+agree_nodes+agree_part+agree_parts.Proof.Measures.{agree-part-at, agree-cases-below, agree-fields-below, agree-node-below, agree-nodes-below}
 
 abbrev claims : ℕ → lts.Claims
-claims t = (token-at-reads.Asked, token-at-reads.Learnt, agree-token-reads.Asked, agree-token-reads.Learnt, run-at-reads.Asked, run-at-reads.Learnt, agree-words-reads.Asked, agree-words-reads.Learnt, agree-params-reads.Asked, agree-params-reads.Learnt, cell-reads.Asked, cell-reads.Learnt, agree-type-reads.Asked, agree-type-reads.Learnt, agree-fns-reads.Asked, agree-fns-reads.Learnt, agree-nodes-below t, agree-nodes.Post, agree-fields-below t, agree-fields.Post, agree-cases-below t, agree-cases.Post, agree-node-below t, agree-node.Post)
+claims t = (agree-token-at-reads.Asked, agree-token-at-reads.Learnt, run-at-reads.Asked, run-at-reads.Learnt, agree-words-reads.Asked, agree-words-reads.Learnt, agree-params-reads.Asked, agree-params-reads.Learnt, cell-reads.Asked, cell-reads.Learnt, agree-type-reads.Asked, agree-type-reads.Learnt, agree-fns-reads.Asked, agree-fns-reads.Learnt, agree-nodes-below t, agree-nodes.Post, agree-fields-below t, agree-fields.Post, agree-cases-below t, agree-cases.Post, agree-node-below t, agree-node.Post)
 
 returns : (t : ℕ) → lts.Need-returns (claims t) (agree-part-at t) agree-part.Post
 unfolding PartAgrees partOf w
 returns t c =
-    let a = c .before .before .before .before .before .before .before .before .args in
+    let a = c .before .before .args in
     let v = view (a .s .now .now) (a .nodes .now .now) (a .types .now .now) (a .cells .now .now) (a .k) in
     let v2 = view (a .s2 .now .now) (a .nodes2 .now .now) (a .types2 .now .now) (a .cells2 .now .now) (a .k2) in
     let e = envBelow v (a .i) in
     let e2 = envBelow v2 (a .j) in
-    part-as e e2 (a .sort) _ _ _ _ (ap partOf (c .before .before .before .before .before .before .before .if1 .taken)) (rw (c .before .before .before .before .token-at .ensures, c .before .token-at2 .ensures) at (c .agree-token .ensures))
+    part-as e e2 (a .sort) _ _ _ _ (ap partOf (c .before .if1 .taken)) (c .agree-token-at .ensures)
 
 returns-2 : (t : ℕ) → lts.Need-returns-2 (claims t) (agree-part-at t) agree-part.Post
 unfolding PartAgrees partOf words wordIn w
 returns-2 t c =
-    let a = c .before .before .before .before .before .before .before .before .before .before .before .args in
+    let a = c .before .before .before .before .before .before .before .args in
     let v = view (a .s .now .now) (a .nodes .now .now) (a .types .now .now) (a .cells .now .now) (a .k) in
     let v2 = view (a .s2 .now .now) (a .nodes2 .now .now) (a .types2 .now .now) (a .cells2 .now .now) (a .k2) in
     let e = envBelow v (a .i) in
     let e2 = envBelow v2 (a .j) in
-    part-as e e2 (a .sort) _ _ _ _ (ap partOf (c .before .before .before .before .before .before .before .before .before .if2 .taken)) (rw (c .before .before .before .before .before .run-at .ensures, c .before .run-at2 .ensures) at (c .agree-words .ensures))
+    part-as e e2 (a .sort) _ _ _ _ (ap partOf (c .before .before .before .before .before .if2 .taken)) (rw (c .before .before .before .run-at .ensures, c .before .run-at2 .ensures) at (c .agree-words .ensures))
 
 returns-3 : (t : ℕ) → lts.Need-returns-3 (claims t) (agree-part-at t) agree-part.Post
 unfolding PartAgrees partOf params paramIn wordIn w
@@ -129,9 +128,7 @@ returns-10 t c =
 
 pub agree-part-meets : {M : Type 1} (t : ℕ) → lts.Closed (claims t) (agree-part-at t) agree-part.Post M
 agree-part-meets t = lts.spec (claims t) (agree-part-at t) agree-part.Post
-    (λ c κs. search needs)  -- token-at-requires
-    (λ c κs. search needs)  -- token-at-requires-2
-    (λ c κs. search needs)  -- agree-token-requires
+    (λ c κs. search needs)  -- agree-token-at-requires
     (returns t)
     (λ c κs. search needs)  -- run-at-requires
     (λ c κs. search needs)  -- run-at-requires-2

@@ -9,15 +9,14 @@ use borrow.Author.Needs.{needs}
 use native.Mathlib.Omega.{arith}
 use Prim.Native.Nat.{ℕ}
 use Rattle.same.proofs.type_expr.agree_params.Reads as agree-params
-use Rattle.same.proofs.type_expr.+agree_params+agree_type.Lts-agree_params as lts
-use Rattle.ast.proofs.layout.token_at.Reads as token-at-reads
-use Rattle.same.proofs.word.agree_token.Reads as agree-token-reads
+use Rattle.same.proofs.word.agree_token_at.Reads as agree-token-at-reads
 use Rattle.ast.proofs.layout.cell.Reads as cell-reads
 use Rattle.same.proofs.type_expr.agree_type.Reads as agree-type
+use Rattle.same.proofs.type_expr.+agree_params+agree_type.Lts-agree_params as lts
 use Rattle.same.proofs.type_expr.+agree_params+agree_type.Proof.Measures.{agree-params-at, agree-type-below}
 
 abbrev claims : ℕ → lts.Claims
-claims t = (token-at-reads.Asked, token-at-reads.Learnt, agree-token-reads.Asked, agree-token-reads.Learnt, cell-reads.Asked, cell-reads.Learnt, agree-type-below t, agree-type.Post)
+claims t = (agree-token-at-reads.Asked, agree-token-at-reads.Learnt, cell-reads.Asked, cell-reads.Learnt, agree-type-below t, agree-type.Post)
 
 abbrev Inv-loop : lts.InvT-loop
 Inv-loop s types cells n s2 types2 cells2 m at₀ at2₀ left₀ at at2 left = Walking paramLists (typeEnv (s .now) (cells .now) (types .now) n) (typeEnv (s2 .now) (cells2 .now) (types2 .now) m) at₀ at2₀ left₀ at at2 left
@@ -40,14 +39,14 @@ loop-holds t c = begin paramLists (c .before .if2 .left) (c .if3 .left) (omega a
 returns-4 : (t : ℕ) → lts.Need-returns-4 (claims t) (agree-params-at t) agree-params.Post Inv-loop μ-loop
 unfolding w
 returns-4 t c =
-    let d = rw (c .before .before .before .before .before .token-at .ensures, c .before .before .token-at2 .ensures) at (c .before .agree-token .ensures) in
-    stop paramLists (c .before .before .before .before .before .before .before .before .before .before .before .before .before .before .before .if1 .left) (c .before .before .before .before .before .before .before .before .before .loop .inv) (c .before .before .before .before .before .before .before .before .loop-test .taken) (λ b. decides-not _ (not-true _ (c .if4 .taken)) d (pair-parts _ _ _ _ b .0))
+    let d = c .before .agree-token-at .ensures in
+    stop paramLists (c .before .before .before .before .before .before .before .before .before .if1 .left) (c .before .before .before .loop .inv) (c .before .before .loop-test .taken) (λ b. decides-not _ (not-true _ (c .if4 .taken)) d (pair-parts _ _ _ _ b .0))
 
 returns-5 : (t : ℕ) → lts.Need-returns-5 (claims t) (agree-params-at t) agree-params.Post Inv-loop μ-loop
 unfolding w
 returns-5 t c =
     let q = rw (c .before .before .before .before .cell .ensures, c .before .before .cell2 .ensures) at (c .before .agree-type .ensures) in
-    stop paramLists (c .before .before .before .before .before .before .before .before .before .before .before .before .before .before .before .before .before .before .before .before .before .if1 .left) (c .before .before .before .before .before .before .before .before .before .before .before .before .before .before .before .loop .inv) (c .before .before .before .before .before .before .before .before .before .before .before .before .before .before .loop-test .taken) (λ b. decides-not _ (not-true _ (c .if5 .taken)) q (pair-parts _ _ _ _ b .1))
+    stop paramLists (c .before .before .before .before .before .before .before .before .before .before .before .before .before .before .before .if1 .left) (c .before .before .before .before .before .before .before .before .before .loop .inv) (c .before .before .before .before .before .before .before .before .loop-test .taken) (λ b. decides-not _ (not-true _ (c .if5 .taken)) q (pair-parts _ _ _ _ b .1))
 
 loop-less : (t : ℕ) → lts.Need-loop-less (claims t) (agree-params-at t) agree-params.Post Inv-loop μ-loop
 loop-less t c = omega arith
@@ -55,9 +54,9 @@ loop-less t c = omega arith
 loop-again : (t : ℕ) → lts.Need-loop-again (claims t) (agree-params-at t) agree-params.Post Inv-loop μ-loop
 unfolding w
 loop-again t c =
-    let d = rw (c .before .before .before .before .before .before .before .before .before .before .before .token-at .ensures, c .before .before .before .before .before .before .before .before .token-at2 .ensures) at (c .before .before .before .before .before .before .before .agree-token .ensures) in
+    let d = c .before .before .before .before .before .before .before .agree-token-at .ensures in
     let q = rw (c .before .before .before .before .cell .ensures, c .before .before .cell2 .ensures) at (c .before .agree-type .ensures) in
-    step paramLists (c .before .before .before .before .before .before .before .before .before .before .before .before .before .before .before .before .before .before .before .before .before .if1 .left) (c .before .before .before .before .before .before .before .before .before .before .before .before .before .before .before .loop .inv) (c .before .before .before .before .before .before .before .before .before .before .before .before .before .before .loop-test .taken) (pair-agree (d .holds (not-false _ (c .before .before .before .before .before .before .if4 .left))) (q .holds (not-false _ (c .if5 .left))))
+    step paramLists (c .before .before .before .before .before .before .before .before .before .before .before .before .before .before .before .if1 .left) (c .before .before .before .before .before .before .before .before .before .loop .inv) (c .before .before .before .before .before .before .before .before .loop-test .taken) (pair-agree (d .holds (not-false _ (c .before .before .before .before .before .before .if4 .left))) (q .holds (not-false _ (c .if5 .left))))
 
 returns-6 : (t : ℕ) → lts.Need-returns-6 (claims t) (agree-params-at t) agree-params.Post Inv-loop μ-loop
 returns-6 t c = done paramLists (c .before .before .before .before .before .before .before .if1 .left) (c .before .loop .inv) (omega arith)
@@ -75,16 +74,14 @@ agree-params-meets t = lts.spec (claims t) (agree-params-at t) agree-params.Post
     (λ c. omega arith)  -- add-if3
     (returns-3 t)
     (loop-holds t)
-    (λ c κs. search needs)  -- token-at-requires
-    (λ c κs. search needs)  -- token-at-requires-2
-    (λ c κs. search needs)  -- agree-token-requires
+    (λ c κs. search needs)  -- agree-token-at-requires
     (returns-4 t)
     (λ c κs. search needs)  -- cell-requires
     (λ c κs. search needs)  -- cell-requires-2
-    (λ c κs. (omega (arith, c .before .before .before .before .before .before .before .before .before .before .before .before .before .before .before .before .before .before .before .before .before .before .pre .0), search needs))  -- agree-type-requires
+    (λ c κs. (omega (arith, c .before .before .before .before .before .before .before .before .before .before .before .before .before .before .before .before .pre .0), search needs))  -- agree-type-requires
     (returns-5 t)
-    (λ c. omega (arith, c .before .before .before .before .before .before .before .before .before .before .before .before .before .before .before .loop .inv .small))  -- add-at
-    (λ c. omega (arith, c .before .before .before .before .before .before .before .before .before .before .before .before .before .before .before .loop .inv .small′))  -- add-at2
+    (λ c. omega (arith, c .before .before .before .before .before .before .before .before .before .loop .inv .small))  -- add-at
+    (λ c. omega (arith, c .before .before .before .before .before .before .before .before .before .loop .inv .small′))  -- add-at2
     (λ c. omega arith)  -- sub-left
     (loop-less t)
     (loop-again t)

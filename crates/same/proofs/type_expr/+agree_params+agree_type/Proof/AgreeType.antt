@@ -6,17 +6,16 @@ use borrow.Author.Needs.{needs}
 use native.Mathlib.Omega.{arith}
 use Prim.Native.Nat.{ℕ}
 use Rattle.same.proofs.type_expr.agree_type.Reads as agree-type
-use Rattle.same.proofs.type_expr.+agree_params+agree_type.Lts-agree_type as lts
 use Rattle.same.proofs.kind.kind_at.Reads as kind-at-reads
 use Rattle.ast.proofs.layout.cell.Reads as cell-reads
-use Rattle.ast.proofs.layout.token_at.Reads as token-at-reads
-use Rattle.same.proofs.word.agree_token.Reads as agree-token-reads
+use Rattle.same.proofs.word.agree_token_at.Reads as agree-token-at-reads
 use Rattle.ast.proofs.layout.run_at.Reads as run-at-reads
 use Rattle.same.proofs.type_expr.agree_params.Reads as agree-params
+use Rattle.same.proofs.type_expr.+agree_params+agree_type.Lts-agree_type as lts
 use Rattle.same.proofs.type_expr.+agree_params+agree_type.Proof.Measures.{agree-type-at, agree-params-below, agree-type-below}
 
 abbrev claims : ℕ → lts.Claims
-claims t = (kind-at-reads.Asked, kind-at-reads.Learnt, cell-reads.Asked, cell-reads.Learnt, agree-type-below t, agree-type.Post, token-at-reads.Asked, token-at-reads.Learnt, agree-token-reads.Asked, agree-token-reads.Learnt, run-at-reads.Asked, run-at-reads.Learnt, agree-params-below t, agree-params.Post)
+claims t = (kind-at-reads.Asked, kind-at-reads.Learnt, cell-reads.Asked, cell-reads.Learnt, agree-type-below t, agree-type.Post, agree-token-at-reads.Asked, agree-token-at-reads.Learnt, run-at-reads.Asked, run-at-reads.Learnt, agree-params-below t, agree-params.Post)
 
 returns : (t : ℕ) → lts.Need-returns (claims t) (agree-type-at t) agree-type.Post
 returns t c = type-past-left _ _ _ _ _ _ _ _ _ _ (omega arith)
@@ -38,18 +37,18 @@ returns-6 t c = array-agrees _ _ _ _ _ _ _ _ _ _ (c .before .before .before .bef
 
 returns-7 : (t : ℕ) → lts.Need-returns-7 (claims t) (agree-type-at t) agree-type.Post
 returns-7 t c =
-    let d = rw (c .before .before .before .before .before .token-at .ensures, c .before .before .token-at2 .ensures) at (c .before .agree-token .ensures) in
-    token-differs _ _ _ _ _ _ _ _ _ _ (c .before .before .before .before .before .before .before .before .before .before .before .before .before .before .before .before .before .if1 .left) (c .before .before .before .before .before .before .before .before .before .before .before .before .before .before .before .before .if2 .left) (c .before .before .before .before .before .before .before .before .before .before .before .before .before .before .kind-at .ensures) (c .before .before .before .before .before .before .before .before .before .before .before .kind-at2 .ensures) (c .before .before .before .before .before .before .before .before .before .before .if4 .left) (c .before .before .before .before .before .before .before .before .before .before .before .before .before .if3 .left) (c .before .before .before .before .before .before .before .before .before .if5 .left) (c .before .before .before .before .before .before .before .before .if6 .left) (decides-not _ (not-true _ (c .if7 .taken)) d)
+    let d = c .before .agree-token-at .ensures in
+    token-differs _ _ _ _ _ _ _ _ _ _ (c .before .before .before .before .before .before .before .before .before .before .before .if1 .left) (c .before .before .before .before .before .before .before .before .before .before .if2 .left) (c .before .before .before .before .before .before .before .before .kind-at .ensures) (c .before .before .before .before .before .kind-at2 .ensures) (c .before .before .before .before .if4 .left) (c .before .before .before .before .before .before .before .if3 .left) (c .before .before .before .if5 .left) (c .before .before .if6 .left) (decides-not _ (not-true _ (c .if7 .taken)) d)
 
 returns-8 : (t : ℕ) → lts.Need-returns-8 (claims t) (agree-type-at t) agree-type.Post
 returns-8 t c =
-    let d = rw (c .before .before .before .before .before .before .token-at .ensures, c .before .before .before .token-at2 .ensures) at (c .before .before .agree-token .ensures) in
-    token-agrees _ _ _ _ _ _ _ _ _ _ (c .before .before .before .before .before .before .before .before .before .before .before .before .before .before .before .before .before .before .if1 .left) (c .before .before .before .before .before .before .before .before .before .before .before .before .before .before .before .before .before .if2 .left) (c .before .before .before .before .before .before .before .before .before .before .before .before .before .before .before .kind-at .ensures) (c .before .before .before .before .before .before .before .before .before .before .before .before .kind-at2 .ensures) (c .before .before .before .before .before .before .before .before .before .before .before .if4 .left) (c .before .before .before .before .before .before .before .before .before .before .before .before .before .before .if3 .left) (c .before .before .before .before .before .before .before .before .before .before .if5 .left) (c .before .before .before .before .before .before .before .before .before .if6 .left) (c .if8 .taken) (d .holds (not-false _ (c .before .if7 .left)))
+    let d = c .before .before .agree-token-at .ensures in
+    token-agrees _ _ _ _ _ _ _ _ _ _ (c .before .before .before .before .before .before .before .before .before .before .before .before .if1 .left) (c .before .before .before .before .before .before .before .before .before .before .before .if2 .left) (c .before .before .before .before .before .before .before .before .before .kind-at .ensures) (c .before .before .before .before .before .before .kind-at2 .ensures) (c .before .before .before .before .before .if4 .left) (c .before .before .before .before .before .before .before .before .if3 .left) (c .before .before .before .before .if5 .left) (c .before .before .before .if6 .left) (c .if8 .taken) (d .holds (not-false _ (c .before .if7 .left)))
 
 returns-9 : (t : ℕ) → lts.Need-returns-9 (claims t) (agree-type-at t) agree-type.Post
 returns-9 t c =
-    let d = rw (c .before .before .before .before .before .before .before .before .before .before .before .token-at .ensures, c .before .before .before .before .before .before .before .before .token-at2 .ensures) at (c .before .before .before .before .before .before .before .agree-token .ensures) in
-    record-agrees _ _ _ _ _ _ _ _ _ _ (c .before .before .before .before .before .before .before .before .before .before .before .before .before .before .before .before .before .before .before .before .before .before .before .if1 .left) (c .before .before .before .before .before .before .before .before .before .before .before .before .before .before .before .before .before .before .before .before .before .before .if2 .left) (c .before .before .before .before .before .before .before .before .before .before .before .before .before .before .before .before .before .before .before .before .kind-at .ensures) (c .before .before .before .before .before .before .before .before .before .before .before .before .before .before .before .before .before .kind-at2 .ensures) (c .before .before .before .before .before .before .before .before .before .before .before .before .before .before .before .before .if4 .left) (c .before .before .before .before .before .if8 .left) (d .holds (not-false _ (c .before .before .before .before .before .before .if7 .left))) (rw (c .before .before .before .run-at .ensures, c .before .run-at2 .ensures) at (c .agree-params .ensures))
+    let d = c .before .before .before .before .before .before .before .agree-token-at .ensures in
+    record-agrees _ _ _ _ _ _ _ _ _ _ (c .before .before .before .before .before .before .before .before .before .before .before .before .before .before .before .before .before .if1 .left) (c .before .before .before .before .before .before .before .before .before .before .before .before .before .before .before .before .if2 .left) (c .before .before .before .before .before .before .before .before .before .before .before .before .before .before .kind-at .ensures) (c .before .before .before .before .before .before .before .before .before .before .before .kind-at2 .ensures) (c .before .before .before .before .before .before .before .before .before .before .if4 .left) (c .before .before .before .before .before .if8 .left) (d .holds (not-false _ (c .before .before .before .before .before .before .if7 .left))) (rw (c .before .before .before .run-at .ensures, c .before .run-at2 .ensures) at (c .agree-params .ensures))
 
 pub agree-type-meets : {M : Type 1} (t : ℕ) → lts.Closed (claims t) (agree-type-at t) agree-type.Post M
 agree-type-meets t = lts.spec (claims t) (agree-type-at t) agree-type.Post
@@ -69,16 +68,14 @@ agree-type-meets t = lts.spec (claims t) (agree-type-at t) agree-type.Post
     (λ c κs. search needs)  -- cell-requires-4
     (λ c κs. (omega (arith, c .before .before .before .before .before .before .before .before .before .before .before .before .before .before .pre .0, c .before .before .before .before .before .before .before .before .before .before .before .before .before .if1 .left), search needs))  -- agree-type-requires-2
     (returns-6 t)
-    (λ c. omega (arith, c .before .before .before .before .before .before .before .before .before .before .before .before .fits .i))  -- add-token-at
-    (λ c κs. search needs)  -- token-at-requires
-    (λ c. omega (arith, c .before .before .before .before .before .before .before .before .before .before .before .before .before .before .before .fits .j))  -- add-token-at-2
-    (λ c κs. search needs)  -- token-at-requires-2
-    (λ c κs. search needs)  -- agree-token-requires
+    (λ c. search needs)  -- add-agree-token-at
+    (λ c. search needs)  -- add-agree-token-at-2
+    (λ c κs. search needs)  -- agree-token-at-requires
     (returns-7 t)
     (returns-8 t)
-    (λ c. omega (arith, c .before .before .before .before .before .before .before .before .before .before .before .before .before .before .before .before .before .before .before .before .fits .i))  -- add-run-at
+    (λ c. omega (arith, c .before .before .before .before .before .before .before .before .before .before .before .before .before .before .fits .i))  -- add-run-at
     (λ c κs. search needs)  -- run-at-requires
-    (λ c. omega (arith, c .before .before .before .before .before .before .before .before .before .before .before .before .before .before .before .before .before .before .before .before .before .before .fits .j))  -- add-run-at-2
+    (λ c. omega (arith, c .before .before .before .before .before .before .before .before .before .before .before .before .before .before .before .before .fits .j))  -- add-run-at-2
     (λ c κs. search needs)  -- run-at-requires-2
-    (λ c κs. (omega (arith, c .before .before .before .before .before .before .before .before .before .before .before .before .before .before .before .before .before .before .before .before .before .before .before .pre .0, c .before .before .before .before .before .before .before .before .before .before .before .before .before .before .before .before .before .before .before .before .before .before .if1 .left), search needs))  -- agree-params-requires
+    (λ c κs. (omega (arith, c .before .before .before .before .before .before .before .before .before .before .before .before .before .before .before .before .before .pre .0, c .before .before .before .before .before .before .before .before .before .before .before .before .before .before .before .before .if1 .left), search needs))  -- agree-params-requires
     (returns-9 t)
