@@ -1,4 +1,4 @@
--- Worked examples of striking and same shape, computed: pairs of one shape, what is left, what a shape tells that words do not, and why demand 3 has side conditions.
+-- Worked examples of striking and same shape, computed: pairs of one shape, what is left, what a shape tells that words do not, and why the user's demand 3 has its two conditions.
 use mathlib.Core.Path.{_≡_, refl}
 use mathlib.Core.Bool.{Bool, true, false}
 use mathlib.Core.Option.{Option, none, some}
@@ -130,9 +130,9 @@ pub tells :
 unfolding computed fixed spelled
 tells = (refl, refl, refl, refl, refl, refl, refl, refl, refl)
 
--- ---- why demand 3 has side conditions: accepted, of one shape, and striking leaves other words
+-- ---- why the user has two conditions in demand 3: accepted, of one shape, and striking leaves other words. (01's paragraph does not repeat them; unique reading asks for no Doc right before an Import only)
 
--- the first script breaks a side condition, the second keeps both
+-- the first script breaks a condition, the second keeps both
 abbrev pub Apart : String → String → Type 0
 Apart x y = (accepted (form x) ≡ true) × (form x ≡ form y) × (sameWords (words x) (words y) ≡ false)
 
@@ -163,5 +163,7 @@ pub apart :
     × Apart "#! d\nimport \"x\"" "import \"x\""
     × (docsPlain "#! d\nimport \"x\"" ≡ false)
     × (docsPlain "import \"x\"" ≡ true)
+    -- right before Eof a doc is refused (13), so that condition costs no script
+    × (accepted (form "import \"x\"\n#! d") ≡ false)
 unfolding computed accepted sameWord sameWords sameBytes
-apart = ((refl, refl, refl), refl, refl, (refl, refl, refl), refl, refl, refl, (refl, refl, refl), refl, refl, (refl, refl, refl), refl, refl)
+apart = ((refl, refl, refl), refl, refl, (refl, refl, refl), refl, refl, refl, (refl, refl, refl), refl, refl, (refl, refl, refl), refl, refl, refl)

@@ -6,7 +6,7 @@ use mathlib.Core.List.{List, [], _∷_, map}
 use Prim.Native.Nat.{ℕ}
 use lib.Dec.{eqb}
 use Rattle.rules.specs.Rules.{Powers}
-use Rattle.lex.specs.Kind.{kImport, kDoc}
+use Rattle.lex.specs.Kind.{kEof, kImport, kDoc}
 use Rattle.lex.specs.Lex.{cut, tokensOf}
 use Rattle.rules.specs.Tree.{Notes, ok, err, Tree}
 use Rattle.rules.specs.Parse.{read, begin, parse, parseRoots}
@@ -26,6 +26,15 @@ noDocBeforeImport (t ∷ []) = true
 noDocBeforeImport (t ∷ (u ∷ ts)) = elim (eqb (t .kind) kDoc) [
   | true ↦ elim (eqb (u .kind) kImport) [ true ↦ false | false ↦ noDocBeforeImport (u ∷ ts) ]
   | false ↦ noDocBeforeImport (u ∷ ts)
+]
+
+-- the user's condition on docs: no Doc stands right before an Import or Eof. Of an accepted script it says no more (`no-doc-same`)
+unfoldable pub noDocBeforeImportOrEof : List Token → Bool
+noDocBeforeImportOrEof [] = true
+noDocBeforeImportOrEof (t ∷ []) = true
+noDocBeforeImportOrEof (t ∷ (u ∷ ts)) = elim (eqb (t .kind) kDoc) [
+  | true ↦ elim (eqb (u .kind) kImport) [ true ↦ false | false ↦ elim (eqb (u .kind) kEof) [ true ↦ false | false ↦ noDocBeforeImportOrEof (u ∷ ts) ] ]
+  | false ↦ noDocBeforeImportOrEof (u ∷ ts)
 ]
 
 -- `power` has the infix signs: `stageOne`, or more

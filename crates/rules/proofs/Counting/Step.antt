@@ -96,7 +96,7 @@ module _ {b : Budget} {t c : ℕ} {s : State} where
 
 -- ---- tokens
 
-shorter : (l : List Token) → WellEnded l → ¬ (current l .kind ≡ kEof) → (length (rest l) + 1 ≡ length l) × WellEnded (rest l)
+pub shorter : (l : List Token) → WellEnded l → ¬ (current l .kind ≡ kEof) → (length (rest l) + 1 ≡ length l) × WellEnded (rest l)
 unfolding current rest
 shorter [] w n = absurd w
 shorter (t ∷ []) w n = absurd (n w)
@@ -168,7 +168,7 @@ module _ {b : Budget} {t : ℕ} (credit : ℕ → ℕ) (stop : ℕ) (item : Rule
 
 -- ---- docs
 
-snoc≢nil : (ds : List Token) (d : Token) → ¬ (ds ++ (d ∷ []) ≡ [])
+pub snoc≢nil : (ds : List Token) (d : Token) → ¬ (ds ++ (d ∷ []) ≡ [])
 snoc≢nil ds d e = let z = ap length e in omega (arith, length-append ds (d ∷ []))
 
 -- docs collected from `s`: where none wait, or none stood there, nothing is done
