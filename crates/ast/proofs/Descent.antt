@@ -11,6 +11,7 @@ use borrow.Author.Tests.{lt-ltb, le-ltb, ltb-true, ltb-false, ne-eqb}
 use Rattle.rules.specs.Shape.{wellFormed, andThen}
 use Rattle.lex.specs.declared.tok.Token.{Token}
 use Rattle.rules.specs.declared.Run.{Run}
+use Rattle.rules.specs.declared.NodeId.{NodeId}
 use Rattle.rules.specs.declared.Node.{Node}
 use Rattle.rules.specs.declared.Node.the-variants as N
 use Rattle.rules.specs.declared.TypeExpr.{TypeExpr}
@@ -77,23 +78,23 @@ module _ (script cells nodes : List ℕ) where
   -- what comes of a step of record `i`
   unfoldable pub finish : ℕ → Step → Start
   finish i (St.Done s) = s
-  finish i (St.Descend j o) = if (ltb j i) (startOr o (asStart (startAt script cells nodes j))) (S.Refused 4)
+  finish i (St.Descend j o) = if (ltb (j .0) i) (startOr o (asStart (startAt script cells nodes (j .0)))) (S.Refused 4)
 
-  pub finish-below : (i j : ℕ) (o : Start) → j < i → finish i (St.Descend j o) ≡ startOr o (asStart (startAt script cells nodes j))
+  pub finish-below : (i : ℕ) (j : NodeId) (o : Start) → j .0 < i → finish i (St.Descend j o) ≡ startOr o (asStart (startAt script cells nodes (j .0)))
   unfolding finish
-  finish-below i j o h = rw (lt-ltb j i h)
+  finish-below i j o h = rw (lt-ltb (j .0) i h)
 
-  pub finish-past : (i j : ℕ) (o : Start) → i ≤ j → finish i (St.Descend j o) ≡ S.Refused 4
+  pub finish-past : (i : ℕ) (j : NodeId) (o : Start) → i ≤ j .0 → finish i (St.Descend j o) ≡ S.Refused 4
   unfolding finish
-  finish-past i j o h = rw (le-ltb j i h)
+  finish-past i j o h = rw (le-ltb (j .0) i h)
 
-  finish-descend : (i j : ℕ) (o : Start) → finish i (St.Descend j o) ≡ startOr o (asStart (before i j))
+  finish-descend : (i : ℕ) (j : NodeId) (o : Start) → finish i (St.Descend j o) ≡ startOr o (asStart (before i (j .0)))
   unfolding startOr asStart before entriesBelow
-  finish-descend i j o = go (ltb j i) refl
+  finish-descend i j o = go (ltb (j .0) i) refl
     where
-      go : (b : Bool) → ltb j i ≡ b → finish i (St.Descend j o) ≡ startOr o (asStart (before i j))
-      go true e = finish-below i j o (ltb-true j i e) ∙ ap (λ x. startOr o (asStart x)) (sym (entries-below (startRow script cells) (nodeAt nodes) i j (ltb-true j i e)))
-      go false e = finish-past i j o (ltb-false j i e) ∙ ap (λ x. startOr o (asStart x)) (sym (entries-past (startRow script cells) (nodeAt nodes) i j (ltb-false j i e)))
+      go : (b : Bool) → ltb (j .0) i ≡ b → finish i (St.Descend j o) ≡ startOr o (asStart (before i (j .0)))
+      go true e = finish-below i j o (ltb-true (j .0) i e) ∙ ap (λ x. startOr o (asStart x)) (sym (entries-below (startRow script cells) (nodeAt nodes) i (j .0) (ltb-true (j .0) i e)))
+      go false e = finish-past i j o (ltb-false (j .0) i e) ∙ ap (λ x. startOr o (asStart x)) (sym (entries-past (startRow script cells) (nodeAt nodes) i (j .0) (ltb-false (j .0) i e)))
 
   -- the other of a record that has an operator stands in for the operator's own
   operator : (other : Start) (b x : Option (Option ℕ)) → Settled b → startOr (asStart b) (asStart x) ≡ startOr other (asStart (orElse b x))
@@ -103,10 +104,10 @@ module _ (script cells nodes : List ℕ) where
   operator other b (some (some p)) h = refl
 
   members : (other : Start) (i j : ℕ) (a e : Bool)
-      → finish i (if a (if e (St.Done other) (St.Descend j other)) (St.Done (S.Refused 4))) ≡ startOr other (asStart (if a (if e (some none) (before i j)) none))
+      → finish i (if a (if e (St.Done other) (St.Descend (record { 0 = j }) other)) (St.Done (S.Refused 4))) ≡ startOr other (asStart (if a (if e (some none) (before i j)) none))
   unfolding finish asStart startOr
   members other i j true true = refl
-  members other i j true false = finish-descend i j other
+  members other i j true false = finish-descend i (record { 0 = j }) other
   members other i j false e = refl
 
   step : (other : Start) (i : ℕ) (o : Option Node) → finish i (stepOf script cells other o) ≡ startOr other (asStart (startRow script cells (before i) o))
@@ -114,13 +115,13 @@ module _ (script cells nodes : List ℕ) where
   step other i none = refl
   step other i (some (N.Atom id raw)) = sym (settled-token script raw other)
   step other i (some (N.Ident id name)) = sym (settled-token script name other)
-  step other i (some (N.Bin id op lhs rhs)) = finish-descend i (lhs .0) (asStart (tokenStart script op)) ∙ operator other (tokenStart script op) (before i (lhs .0)) (settled-token script op)
+  step other i (some (N.Bin id op lhs rhs)) = finish-descend i lhs (asStart (tokenStart script op)) ∙ operator other (tokenStart script op) (before i (lhs .0)) (settled-token script op)
   step other i (some (N.Unary id op rhs)) = sym (settled-token script op other)
   step other i (some (N.Let id docs name rhs)) = sym (settled-token script name other)
   step other i (some (N.Fn id docs name args ret body)) = sym (settled-token script name other)
   step other i (some (N.Match id cases t body)) = sym (settled-match script cells cases t other)
-  step other i (some (N.Call id target args)) = finish-descend i (target .0) other
-  step other i (some (N.Field id target name)) = finish-descend i (target .0) other
+  step other i (some (N.Call id target args)) = finish-descend i target other
+  step other i (some (N.Field id target name)) = finish-descend i target other
   step other i (some (N.Cast id src lhs rhs)) = sym (settled-token script src other)
   step other i (some (N.Import id src pkgs)) = sym (settled-token script src other)
   step other i (some (N.Extern id src docs name fns)) = sym (settled-token script src other)

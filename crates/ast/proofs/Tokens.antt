@@ -8,7 +8,7 @@ use lib.Dec.{ltb, leb}
 use lib.ListN.{length, List·getD-eq-default}
 use borrow.Author.Tests.{le-leb, lt-leb, ne-eqb, lt-ltb, le-ltb, ltb-true, ltb-false, leb-true}
 use Rattle.ast.specs.Answer.{refused, answer}
-use Rattle.ast.specs.Span.{spanOf, tokenSpan}
+use Rattle.ast.specs.Span.{asStrLength, spanOf, tokenSpan}
 use Rattle.rules.specs.Promise.{maxBytes}
 use Rattle.lex.specs.Bytes.{between}
 use Rattle.lex.specs.Kind.{kS, kDoc, keywords, fixedSpellings, fixedSpelling}
@@ -84,18 +84,30 @@ module _ (s : List ℕ) (t : Token) where
   span-given h e = rw (le-ltb maxBytes (length s) h, e)
 
 module _ (t : Token) where
+  pub length-sign : t .kind < kS → length (fixedSpelling (t .kind)) ≡ asStrLength t
+  unfolding asStrLength
+  length-sign h = rw (no-spelling-below (t .kind) h)
+
+  pub length-word : kDoc < t .kind → length (fixedSpelling (t .kind)) ≡ asStrLength t
+  unfolding asStrLength
+  length-word h = rw (no-spelling-above (t .kind) h)
+
+  pub length-own : kS ≤ t .kind → t .kind ≤ kDoc → t .len ≡ asStrLength t
+  unfolding asStrLength
+  length-own l h = rw (has-spelling (t .kind) l h)
+
   pub span-string : t .kind ≡ kS → record { start = t .start + 1; len = t .len } ≡ spanOf t
-  unfolding spanOf
+  unfolding spanOf asStrLength
   span-string h = rw h
 
   pub span-sign : t .kind < kS → record { start = t .start; len = length (fixedSpelling (t .kind)) } ≡ spanOf t
   unfolding spanOf
-  span-sign h = rw (ne-eqb (t .kind) kS (λ (e : t .kind ≡ kS). omega arith), no-spelling-below (t .kind) h)
+  span-sign h = rw (ne-eqb (t .kind) kS (λ (e : t .kind ≡ kS). omega arith), length-sign h)
 
   pub span-word : kDoc < t .kind → record { start = t .start; len = length (fixedSpelling (t .kind)) } ≡ spanOf t
   unfolding spanOf
-  span-word h = rw (ne-eqb (t .kind) kS (λ (e : t .kind ≡ kS). omega arith), no-spelling-above (t .kind) h)
+  span-word h = rw (ne-eqb (t .kind) kS (λ (e : t .kind ≡ kS). omega arith), length-word h)
 
   pub span-plain : (t .kind ≡ kS → ⊥) → kS ≤ t .kind → t .kind ≤ kDoc → record { start = t .start; len = t .len } ≡ spanOf t
   unfolding spanOf
-  span-plain n l h = rw (ne-eqb (t .kind) kS n, has-spelling (t .kind) l h)
+  span-plain n l h = rw (ne-eqb (t .kind) kS n, ← length-own l h)

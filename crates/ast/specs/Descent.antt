@@ -32,7 +32,7 @@ startOr other S.Nothing = other
 startOr other (S.Refused n) = S.Refused n
 
 unfoldable pub arrayStep : List ℕ → Run → Start → Step
-arrayStep cells members other = if (inside 1 cells members) (if (eqb (members .len) 0) (St.Done other) (St.Descend (getD cells (members .start) 0) other)) (St.Done (S.Refused 4))
+arrayStep cells members other = if (inside 1 cells members) (if (eqb (members .len) 0) (St.Done other) (St.Descend (record { 0 = getD cells (members .start) 0 }) other)) (St.Done (S.Refused 4))
 
 -- one record of it: an answer, or the child to go on with and what is answered where that has no start
 module _ (script cells : List ℕ) (other : Start) where
@@ -40,13 +40,13 @@ module _ (script cells : List ℕ) (other : Start) where
   stepOf none = St.Done (S.Refused 4)
   stepOf (some (N.Atom id raw)) = St.Done (asStart (tokenStart script raw))
   stepOf (some (N.Ident id name)) = St.Done (asStart (tokenStart script name))
-  stepOf (some (N.Bin id op lhs rhs)) = St.Descend (lhs .0) (asStart (tokenStart script op))
+  stepOf (some (N.Bin id op lhs rhs)) = St.Descend lhs (asStart (tokenStart script op))
   stepOf (some (N.Unary id op rhs)) = St.Done (asStart (tokenStart script op))
   stepOf (some (N.Let id docs name rhs)) = St.Done (asStart (tokenStart script name))
   stepOf (some (N.Fn id docs name args ret body)) = St.Done (asStart (tokenStart script name))
   stepOf (some (N.Match id cases t body)) = St.Done (asStart (matchStart script cells cases t))
-  stepOf (some (N.Call id target args)) = St.Descend (target .0) other
-  stepOf (some (N.Field id target name)) = St.Descend (target .0) other
+  stepOf (some (N.Call id target args)) = St.Descend target other
+  stepOf (some (N.Field id target name)) = St.Descend target other
   stepOf (some (N.Cast id src lhs rhs)) = St.Done (asStart (tokenStart script src))
   stepOf (some (N.Import id src pkgs)) = St.Done (asStart (tokenStart script src))
   stepOf (some (N.Extern id src docs name fns)) = St.Done (asStart (tokenStart script src))

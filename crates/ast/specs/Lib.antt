@@ -2,7 +2,7 @@
 pub mod Decode
 pub mod Tabulate
 pub mod Answer
+pub mod Span
 pub mod Lookup
 pub mod Descent
-pub mod Span
 pub mod Position

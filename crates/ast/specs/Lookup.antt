@@ -16,6 +16,7 @@ use Rattle.rules.specs.declared.TypeExpr.the-variants as T
 use Rattle.ast.specs.Decode.{if, low, tokenAt, nodeAt, typeAt}
 use Rattle.ast.specs.Tabulate.{entryAt}
 use Rattle.ast.specs.Answer.{Answer, refused, answer, unlessMalformed, Lent, cellsOf, recordAsked}
+use Rattle.ast.specs.Span.{asStrLength}
 use Rattle.ast.specs.declared.lookup.Start.{Start}
 use Rattle.ast.specs.declared.lookup.Start.the-variants as S
 use Rattle.ast.specs.declared.lookup.TypeToken.{TypeToken}
@@ -72,9 +73,13 @@ nodeStart l i = recordAsked l (l .counts .nodes) nodeWidth (l .nodes) i (unlessM
 
 -- ---- the token of a type
 
+-- a token with the length of `as_str`
+unfoldable pub spelled : Token → Token
+spelled t = record { kind = t .kind; start = t .start; len = asStrLength t }
+
 module _ (script : List ℕ) where
   unfoldable pub wellFormedToken : Token → Option Token
-  wellFormedToken t = if (wellFormed script t) (some t) none
+  wellFormedToken t = if (wellFormed script t) (some (spelled t)) none
 
   -- by those of the records before it, as `type_token`
   unfoldable pub typeTokenOf : (ℕ → Option Token) → TypeExpr → Option Token

@@ -19,6 +19,7 @@ ghost use lib.ListN.{take};
 ghost use Rattle.rules.specs.Shape.{wellFormed};
 ghost use Rattle.ast.specs.Decode.{nodeAt, typeAt};
 ghost use Rattle.ast.specs.Answer.{lent, refusal as refusalOf};
+ghost use Rattle.ast.specs.Span.{asStrLength};
 ghost use Rattle.ast.specs.Lookup.{tokenStart, matchStart, wellFormedToken, startAt, typeTokenAt, nodeStart, typeToken, startAnswer, typeTokenAnswer};
 ghost use Rattle.ast.specs.Descent.{startOr, asStart, decodeStart, asTypeToken, Innermost, arrayStep, stepOf, innerOf};
 
@@ -36,7 +37,7 @@ pub enum TypeToken {
 // A record of the start lookup: its answer, or the child to go on with, and what is answered where that has none.
 enum Step {
     Done(Start),
-    Descend(u32, Start),
+    Descend(NodeId, Start),
 }
 
 // One more than any start.
@@ -125,13 +126,13 @@ fn array_step(cells: &[u32], members: Run, other: Start) -> Step
     if len == 0 {
         return Step::Done(other);
     }
-    Step::Descend(cells[at], other)
+    Step::Descend(NodeId(cells[at]), other)
 }
 
-fn start_step(script: &[u8], nodes: &[u32], cells: &[u32], i: u32, other: Start) -> Step
-    ensures { λ r. ⌜ r ≡ stepOf (now (script .entry)) (now (cells .entry)) other (nodeAt (now (nodes .entry)) i) ⌝ }
+fn start_step(script: &[u8], nodes: &[u32], cells: &[u32], id: NodeId, other: Start) -> Step
+    ensures { λ r. ⌜ r ≡ stepOf (now (script .entry)) (now (cells .entry)) other (nodeAt (now (nodes .entry)) (id .0)) ⌝ }
 {
-    let read = crate::layout::node(nodes, NodeId(i));
+    let read = crate::layout::node(nodes, id);
     match read {
         NodeRead::Unknown => Step::Done(Start::Refused(4)),
         NodeRead::Known(n) => match n {
@@ -142,7 +143,7 @@ fn start_step(script: &[u8], nodes: &[u32], cells: &[u32], i: u32, other: Start)
                 op,
                 lhs,
                 rhs: _,
-            } => Step::Descend(lhs.0, token_start(script, op)),
+            } => Step::Descend(lhs, token_start(script, op)),
             Node::Unary { id: _, op, rhs: _ } => Step::Done(token_start(script, op)),
             Node::Let {
                 id: _,
@@ -168,12 +169,12 @@ fn start_step(script: &[u8], nodes: &[u32], cells: &[u32], i: u32, other: Start)
                 id: _,
                 target,
                 args: _,
-            } => Step::Descend(target.0, other),
+            } => Step::Descend(target, other),
             Node::Field {
                 id: _,
                 target,
                 name: _,
-            } => Step::Descend(target.0, other),
+            } => Step::Descend(target, other),
             Node::Cast {
                 id: _,
                 src,
@@ -229,16 +230,16 @@ fn decode_start(code: u64) -> Start
     Start::Refused(((code - NOTHING - 1) % NOTHING) as u32)
 }
 
-// Where node `i` starts, and `other` where it has no start. The call is the last thing done, and passes nothing that lies in
+// Where node `id` starts, and `other` where it has no start. The call is the last thing done, and passes nothing that lies in
 // this function's frame, so that a long chain takes no stack.
-fn start_from(script: &&[u8], nodes: &&[u32], cells: &&[u32], i: u32, other: Start) -> u64
-    ensures { λ r. ⌜ decodeStart r ≡ startOr other (asStart (startAt (now (now (script .entry))) (now (now (cells .entry))) (now (now (nodes .entry))) i)) ⌝ }
+fn start_from(script: &&[u8], nodes: &&[u32], cells: &&[u32], id: NodeId, other: Start) -> u64
+    ensures { λ r. ⌜ decodeStart r ≡ startOr other (asStart (startAt (now (now (script .entry))) (now (now (cells .entry))) (now (now (nodes .entry))) (id .0))) ⌝ }
 {
-    let step = start_step(*script, *nodes, *cells, i, other);
+    let step = start_step(*script, *nodes, *cells, id, other);
     match step {
         Step::Done(s) => encode_start(s),
         Step::Descend(j, o) => {
-            if j < i {
+            if j.0 < id.0 {
                 start_from(script, nodes, cells, j, o)
             } else {
                 NOTHING + 5
@@ -271,51 +272,69 @@ pub fn node_start(
         return Start::Refused(3);
     }
     let cells = used(lists, counts.cells);
-    decode_start(start_from(&script, &nodes, &cells, i, Start::Nothing))
+    decode_start(start_from(&script, &nodes, &cells, id, Start::Nothing))
+}
+
+// The length of `as_str`: only S, D, I, Ident and Doc have one of their own.
+fn as_str_len(t: Token) -> usize
+    ensures { λ r. ⌜ r ≡ asStrLength t ⌝ }
+{
+    let kind = t.kind;
+    if kind < Type::S {
+        return Type::spelling_len(kind);
+    }
+    if Type::DOC < kind {
+        return Type::spelling_len(kind);
+    }
+    t.len
 }
 
 fn check_token(script: &[u8], t: Token) -> TypeToken
     ensures { λ r. ⌜ r ≡ asTypeToken (wellFormedToken (now (script .entry)) t) ⌝ }
 {
     if well_formed(script, t) {
-        TypeToken::Found(t)
+        TypeToken::Found(Token {
+            kind: t.kind,
+            start: t.start,
+            len: as_str_len(t),
+        })
     } else {
         TypeToken::Refused(4)
     }
 }
 
-// What an Option or an Array holds; `i` itself of any other type.
-fn inner_of(types: &[u32], i: u32) -> u32
-    ensures { λ r. ⌜ r ≡ innerOf (typeAt (now (types .entry)) i) i ⌝ }
+// What an Option or an Array holds; `id` itself of any other type.
+fn inner_of(types: &[u32], id: TypeExprId) -> TypeExprId
+    ensures { λ r. ⌜ r .0 ≡ innerOf (typeAt (now (types .entry)) (id .0)) (id .0) ⌝ }
 {
-    let read = crate::layout::type_expr(types, TypeExprId(i));
+    let read = crate::layout::type_expr(types, id);
     match read {
-        TypeRead::Unknown => i,
+        TypeRead::Unknown => id,
         TypeRead::Known(t) => match t {
-            TypeExpr::Atom(_) => i,
-            TypeExpr::Foreign(_) => i,
-            TypeExpr::Option(inner) => inner.0,
-            TypeExpr::Array(inner) => inner.0,
-            TypeExpr::Record { src: _, fields: _ } => i,
+            TypeExpr::Atom(_) => id,
+            TypeExpr::Foreign(_) => id,
+            TypeExpr::Option(inner) => inner,
+            TypeExpr::Array(inner) => inner,
+            TypeExpr::Record { src: _, fields: _ } => id,
         },
     }
 }
 
-// The type whose token type `i` has: the first on the way down that holds none below its own number. The call is the last thing
+// The type whose token type `id` has: the first on the way down that holds none below its own number. The call is the last thing
 // done, and passes nothing that lies in this function's frame, so that a long chain takes no stack.
-fn innermost(types: &&[u32], i: u32) -> u32
-    ensures { λ r. ⌜ Innermost (now (now (types .entry))) i r ⌝ }
+fn innermost(types: &&[u32], id: TypeExprId) -> TypeExprId
+    ensures { λ r. ⌜ Innermost (now (now (types .entry))) (id .0) (r .0) ⌝ }
 {
-    let j = inner_of(*types, i);
-    if j < i { innermost(types, j) } else { i }
+    let j = inner_of(*types, id);
+    if j.0 < id.0 { innermost(types, j) } else { id }
 }
 
 // The token of a type that holds none below its own number.
-fn token_here(script: &[u8], types: &[u32], i: u32) -> TypeToken
-    requires { ⌜ i ≤ innerOf (typeAt (now types) i) i ⌝ }
-    ensures { λ r. ⌜ r ≡ asTypeToken (typeTokenAt (now (script .entry)) (now (types .entry)) i) ⌝ }
+fn token_here(script: &[u8], types: &[u32], id: TypeExprId) -> TypeToken
+    requires { ⌜ id .0 ≤ innerOf (typeAt (now types) (id .0)) (id .0) ⌝ }
+    ensures { λ r. ⌜ r ≡ asTypeToken (typeTokenAt (now (script .entry)) (now (types .entry)) (id .0)) ⌝ }
 {
-    let read = crate::layout::type_expr(types, TypeExprId(i));
+    let read = crate::layout::type_expr(types, id);
     match read {
         TypeRead::Unknown => TypeToken::Refused(4),
         TypeRead::Known(t) => match t {
@@ -351,5 +370,5 @@ pub fn type_token(
     if types.len() < TypeExpr::WIDTH * i as usize + TypeExpr::WIDTH {
         return TypeToken::Refused(3);
     }
-    token_here(script, types, innermost(&types, i))
+    token_here(script, types, innermost(&types, id))
 }

@@ -16,8 +16,8 @@ use Rattle.rules.specs.declared.Counts.{Counts}
 use Rattle.ast.specs.Decode.{nodeOf, nodesByKind, nodeAt, typeOf, typesByKind, typeAt}
 use Rattle.ast.specs.Tabulate.{rows, entriesBelow, entryAt}
 use Rattle.ast.specs.Answer.{refused, answer, unless, unlessMalformed, lent, refusal, recordAsked}
-use Rattle.ast.specs.Lookup.{tokenStart, orElse, matchStart, startOf, nodeStart, wellFormedToken, typeTokenOf, typeToken}
-use Rattle.ast.specs.Span.{spanOf, tokenSpan}
+use Rattle.ast.specs.Lookup.{tokenStart, orElse, matchStart, startOf, nodeStart, spelled, wellFormedToken, typeTokenOf, typeToken}
+use Rattle.ast.specs.Span.{asStrLength, spanOf, tokenSpan}
 use Rattle.ast.specs.Position.{feeds, since, placeOf, placeAt}
 use Rattle.same.specs.Shapes.{typesBelow, nodesBelow, rootShapes}
 use Rattle.same.specs.Same.{computed}
@@ -40,11 +40,11 @@ unfolding records nodeStart startOf tokenStart orElse matchStart
 start = tt
 
 unfoldable type : Unit {0}
-unfolding records typeToken typeTokenOf wellFormedToken
+unfolding records typeToken typeTokenOf wellFormedToken spelled asStrLength
 type = tt
 
 unfoldable span : Unit {0}
-unfolding tokens tokenSpan spanOf
+unfolding tokens tokenSpan spanOf asStrLength
 span = tt
 
 unfoldable place : Unit {0}
@@ -220,387 +220,407 @@ case-32 : typeToken (lent (97 ∷ []) (padded 16 ([])) (padded 8 (1 ∷ 39 ∷ 9
 unfolding type
 case-32 = refl
 
--- inner type that is itself
-case-33 : typeToken (lent (97 ∷ []) (padded 16 ([])) (padded 8 (3 ∷ [])) (padded 8 ([])) (padded 1 ([])) (counts 0 1 0 0)) 0 ≡ refused 4
+-- Int whose cell says 99
+case-33 : typeToken (lent (73 ∷ 110 ∷ 116 ∷ []) (padded 48 ([])) (padded 24 (1 ∷ 36 ∷ 0 ∷ 99 ∷ [])) (padded 24 ([])) (padded 3 ([])) (counts 0 1 0 0)) 0 ≡ answer (record { kind = 36; start = 0; len = 3 })
 unfolding type
 case-33 = refl
 
--- inner type above
-case-34 : typeToken (lent (97 ∷ 97 ∷ []) (padded 32 ([])) (padded 16 (4 ∷ 1 ∷ 0 ∷ 0 ∷ 0 ∷ 0 ∷ 0 ∷ 0 ∷ 1 ∷ 25 ∷ 0 ∷ 1 ∷ [])) (padded 16 ([])) (padded 2 ([])) (counts 0 2 0 0)) 0 ≡ refused 4
+-- record whose cell says 0, in an array
+case-34 : typeToken (lent (82 ∷ 101 ∷ 99 ∷ 111 ∷ 114 ∷ 100 ∷ 60 ∷ 62 ∷ []) (padded 128 ([])) (padded 64 (5 ∷ 43 ∷ 0 ∷ 0 ∷ 0 ∷ 0 ∷ 0 ∷ 0 ∷ 4 ∷ [])) (padded 64 ([])) (padded 8 ([])) (counts 0 2 0 0)) 1 ≡ answer (record { kind = 43; start = 0; len = 6 })
 unfolding type
 case-34 = refl
 
--- type of kind 6
-case-35 : typeToken (lent (97 ∷ []) (padded 16 ([])) (padded 8 (6 ∷ 25 ∷ 0 ∷ 1 ∷ [])) (padded 8 ([])) (padded 1 ([])) (counts 0 1 0 0)) 0 ≡ refused 4
+-- foreign name, by its own length
+case-35 : typeToken (lent (70 ∷ 111 ∷ 114 ∷ 101 ∷ 105 ∷ 103 ∷ 110 ∷ 60 ∷ 97 ∷ 62 ∷ []) (padded 160 ([])) (padded 80 (2 ∷ 25 ∷ 8 ∷ 1 ∷ [])) (padded 80 ([])) (padded 10 ([])) (counts 0 1 0 0)) 0 ≡ answer (record { kind = 25; start = 8; len = 1 })
 unfolding type
 case-35 = refl
 
--- foreign name past the end
-case-36 : typeToken (lent (97 ∷ []) (padded 16 ([])) (padded 8 (2 ∷ 25 ∷ 0 ∷ 2 ∷ [])) (padded 8 ([])) (padded 1 ([])) (counts 0 1 0 0)) 0 ≡ refused 4
+-- foreign, of the kind of a sign
+case-36 : typeToken (lent (97 ∷ []) (padded 16 ([])) (padded 8 (2 ∷ 4 ∷ 7 ∷ 5 ∷ [])) (padded 8 ([])) (padded 1 ([])) (counts 0 1 0 0)) 0 ≡ answer (record { kind = 4; start = 7; len = 1 })
 unfolding type
 case-36 = refl
 
--- type at the count
-case-37 : typeToken (lent (97 ∷ []) (padded 16 ([])) (padded 8 (1 ∷ 36 ∷ 0 ∷ 3 ∷ [])) (padded 8 ([])) (padded 1 ([])) (counts 0 1 0 0)) 1 ≡ refused 3
+-- inner type that is itself
+case-37 : typeToken (lent (97 ∷ []) (padded 16 ([])) (padded 8 (3 ∷ [])) (padded 8 ([])) (padded 1 ([])) (counts 0 1 0 0)) 0 ≡ refused 4
 unfolding type
 case-37 = refl
 
--- type past the array's whole records
-case-38 : typeToken (lent (97 ∷ []) (padded 16 ([])) (padded 15 (1 ∷ 36 ∷ 0 ∷ 3 ∷ 0 ∷ 0 ∷ 0 ∷ 0 ∷ 1 ∷ 36 ∷ [])) (padded 8 ([])) (padded 1 ([])) (counts 0 9 0 0)) 1 ≡ refused 3
+-- inner type above
+case-38 : typeToken (lent (97 ∷ 97 ∷ []) (padded 32 ([])) (padded 16 (4 ∷ 1 ∷ 0 ∷ 0 ∷ 0 ∷ 0 ∷ 0 ∷ 0 ∷ 1 ∷ 25 ∷ 0 ∷ 1 ∷ [])) (padded 16 ([])) (padded 2 ([])) (counts 0 2 0 0)) 0 ≡ refused 4
 unfolding type
 case-38 = refl
 
--- type, nodes one cell short
-case-39 : typeToken (lent (97 ∷ 97 ∷ []) (padded 31 ([])) (padded 16 (1 ∷ 36 ∷ 0 ∷ 3 ∷ [])) (padded 16 ([])) (padded 2 ([])) (counts 0 1 0 0)) 9 ≡ refused 2
+-- type of kind 6
+case-39 : typeToken (lent (97 ∷ []) (padded 16 ([])) (padded 8 (6 ∷ 25 ∷ 0 ∷ 1 ∷ [])) (padded 8 ([])) (padded 1 ([])) (counts 0 1 0 0)) 0 ≡ refused 4
 unfolding type
 case-39 = refl
 
--- type, types one cell short
-case-40 : typeToken (lent (97 ∷ 97 ∷ []) (padded 32 ([])) (padded 15 (1 ∷ 36 ∷ 0 ∷ 3 ∷ [])) (padded 16 ([])) (padded 2 ([])) (counts 0 1 0 0)) 9 ≡ refused 2
+-- foreign name past the end
+case-40 : typeToken (lent (97 ∷ []) (padded 16 ([])) (padded 8 (2 ∷ 25 ∷ 0 ∷ 2 ∷ [])) (padded 8 ([])) (padded 1 ([])) (counts 0 1 0 0)) 0 ≡ refused 4
 unfolding type
 case-40 = refl
 
--- type, lists one cell short
-case-41 : typeToken (lent (97 ∷ 97 ∷ []) (padded 32 ([])) (padded 16 (1 ∷ 36 ∷ 0 ∷ 3 ∷ [])) (padded 15 ([])) (padded 2 ([])) (counts 0 1 0 0)) 9 ≡ refused 2
+-- type at the count
+case-41 : typeToken (lent (97 ∷ []) (padded 16 ([])) (padded 8 (1 ∷ 36 ∷ 0 ∷ 3 ∷ [])) (padded 8 ([])) (padded 1 ([])) (counts 0 1 0 0)) 1 ≡ refused 3
 unfolding type
 case-41 = refl
 
--- type, roots one cell short
-case-42 : typeToken (lent (97 ∷ 97 ∷ []) (padded 32 ([])) (padded 16 (1 ∷ 36 ∷ 0 ∷ 3 ∷ [])) (padded 16 ([])) (padded 1 ([])) (counts 0 1 0 0)) 9 ≡ refused 2
+-- type past the array's whole records
+case-42 : typeToken (lent (97 ∷ []) (padded 16 ([])) (padded 15 (1 ∷ 36 ∷ 0 ∷ 3 ∷ 0 ∷ 0 ∷ 0 ∷ 0 ∷ 1 ∷ 36 ∷ [])) (padded 8 ([])) (padded 1 ([])) (counts 0 9 0 0)) 1 ≡ refused 3
 unfolding type
 case-42 = refl
 
--- type, 65,537 bytes
-case-43 : typeToken (lent (replicate 65537 32) (padded 1 ([])) (padded 1 ([])) (padded 1 ([])) (padded 1 ([])) (counts 0 0 0 0)) 0 ≡ refused 1
+-- type, nodes one cell short
+case-43 : typeToken (lent (97 ∷ 97 ∷ []) (padded 31 ([])) (padded 16 (1 ∷ 36 ∷ 0 ∷ 3 ∷ [])) (padded 16 ([])) (padded 2 ([])) (counts 0 1 0 0)) 9 ≡ refused 2
 unfolding type
 case-43 = refl
 
--- span of a name
-case-44 : tokenSpan (32 ∷ 97 ∷ 98 ∷ []) (record { kind = 25; start = 1; len = 2 }) ≡ answer (record { start = 1; len = 2 })
-unfolding span
+-- type, types one cell short
+case-44 : typeToken (lent (97 ∷ 97 ∷ []) (padded 32 ([])) (padded 15 (1 ∷ 36 ∷ 0 ∷ 3 ∷ [])) (padded 16 ([])) (padded 2 ([])) (counts 0 1 0 0)) 9 ≡ refused 2
+unfolding type
 case-44 = refl
 
--- span of a string
-case-45 : tokenSpan (34 ∷ 97 ∷ 98 ∷ 34 ∷ []) (record { kind = 22; start = 0; len = 2 }) ≡ answer (record { start = 1; len = 2 })
-unfolding span
+-- type, lists one cell short
+case-45 : typeToken (lent (97 ∷ 97 ∷ []) (padded 32 ([])) (padded 16 (1 ∷ 36 ∷ 0 ∷ 3 ∷ [])) (padded 15 ([])) (padded 2 ([])) (counts 0 1 0 0)) 9 ≡ refused 2
+unfolding type
 case-45 = refl
 
--- span of a doc
-case-46 : tokenSpan (35 ∷ 33 ∷ 32 ∷ 100 ∷ []) (record { kind = 26; start = 0; len = 1 }) ≡ answer (record { start = 0; len = 1 })
-unfolding span
+-- type, roots one cell short
+case-46 : typeToken (lent (97 ∷ 97 ∷ []) (padded 32 ([])) (padded 16 (1 ∷ 36 ∷ 0 ∷ 3 ∷ [])) (padded 16 ([])) (padded 1 ([])) (counts 0 1 0 0)) 9 ≡ refused 2
+unfolding type
 case-46 = refl
 
--- span of the end
-case-47 : tokenSpan (97 ∷ 98 ∷ []) (record { kind = 1; start = 2; len = 3 }) ≡ answer (record { start = 2; len = 3 })
-unfolding span
+-- type, 65,537 bytes
+case-47 : typeToken (lent (replicate 65537 32) (padded 1 ([])) (padded 1 ([])) (padded 1 ([])) (padded 1 ([])) (counts 0 0 0 0)) 0 ≡ refused 1
+unfolding type
 case-47 = refl
 
--- span of a fixed spelling, whatever its length
-case-48 : tokenSpan (43 ∷ []) (record { kind = 4; start = 0; len = 7 }) ≡ answer (record { start = 0; len = 1 })
+-- span of a name
+case-48 : tokenSpan (32 ∷ 97 ∷ 98 ∷ []) (record { kind = 25; start = 1; len = 2 }) ≡ answer (record { start = 1; len = 2 })
 unfolding span
 case-48 = refl
 
--- span of a Void past the script
-case-49 : tokenSpan (97 ∷ []) (record { kind = 39; start = 9; len = 4 }) ≡ answer (record { start = 9; len = 4 })
+-- span of a string
+case-49 : tokenSpan (34 ∷ 97 ∷ 98 ∷ 34 ∷ []) (record { kind = 22; start = 0; len = 2 }) ≡ answer (record { start = 1; len = 2 })
 unfolding span
 case-49 = refl
 
--- span of a doc past the end
-case-50 : tokenSpan (35 ∷ 33 ∷ 32 ∷ 100 ∷ []) (record { kind = 26; start = 0; len = 2 }) ≡ refused 4
+-- span of a doc
+case-50 : tokenSpan (35 ∷ 33 ∷ 32 ∷ 100 ∷ []) (record { kind = 26; start = 0; len = 1 }) ≡ answer (record { start = 0; len = 1 })
 unfolding span
 case-50 = refl
 
--- span of kind 0
-case-51 : tokenSpan (97 ∷ []) (record { kind = 0; start = 0; len = 1 }) ≡ refused 4
+-- span of the end
+case-51 : tokenSpan (97 ∷ 98 ∷ []) (record { kind = 1; start = 2; len = 3 }) ≡ answer (record { start = 2; len = 3 })
 unfolding span
 case-51 = refl
 
--- span of kind 44
-case-52 : tokenSpan (97 ∷ []) (record { kind = 44; start = 0; len = 1 }) ≡ refused 4
+-- span of a fixed spelling, whatever its length
+case-52 : tokenSpan (43 ∷ []) (record { kind = 4; start = 0; len = 7 }) ≡ answer (record { start = 0; len = 1 })
 unfolding span
 case-52 = refl
 
--- span at the end of 65,536 bytes
-case-53 : tokenSpan (replicate 65536 32) (record { kind = 1; start = 65536; len = 3 }) ≡ answer (record { start = 65536; len = 3 })
+-- span of a Void past the script
+case-53 : tokenSpan (97 ∷ []) (record { kind = 39; start = 9; len = 4 }) ≡ answer (record { start = 9; len = 4 })
 unfolding span
 case-53 = refl
 
--- span of kind 44 in 65,537 bytes
-case-54 : tokenSpan (replicate 65537 32) (record { kind = 44; start = 0; len = 1 }) ≡ refused 1
+-- span of a doc past the end
+case-54 : tokenSpan (35 ∷ 33 ∷ 32 ∷ 100 ∷ []) (record { kind = 26; start = 0; len = 2 }) ≡ refused 4
 unfolding span
 case-54 = refl
 
--- place in an empty script
-case-55 : placeAt ([]) 0 ≡ answer (record { line = 1; column = 1 })
-unfolding place
+-- span of kind 0
+case-55 : tokenSpan (97 ∷ []) (record { kind = 0; start = 0; len = 1 }) ≡ refused 4
+unfolding span
 case-55 = refl
 
--- place of a line feed
-case-56 : placeAt (97 ∷ 10 ∷ 98 ∷ []) 1 ≡ answer (record { line = 1; column = 2 })
-unfolding place
+-- span of kind 44
+case-56 : tokenSpan (97 ∷ []) (record { kind = 44; start = 0; len = 1 }) ≡ refused 4
+unfolding span
 case-56 = refl
 
--- place behind a line feed
-case-57 : placeAt (97 ∷ 10 ∷ 98 ∷ []) 2 ≡ answer (record { line = 2; column = 1 })
-unfolding place
+-- span at the end of 65,536 bytes
+case-57 : tokenSpan (replicate 65536 32) (record { kind = 1; start = 65536; len = 3 }) ≡ answer (record { start = 65536; len = 3 })
+unfolding span
 case-57 = refl
 
--- place at the end
-case-58 : placeAt (97 ∷ 10 ∷ 10 ∷ 98 ∷ 99 ∷ []) 5 ≡ answer (record { line = 3; column = 3 })
-unfolding place
+-- span of kind 44 in 65,537 bytes
+case-58 : tokenSpan (replicate 65537 32) (record { kind = 44; start = 0; len = 1 }) ≡ refused 1
+unfolding span
 case-58 = refl
 
--- place past the end
-case-59 : placeAt (97 ∷ 10 ∷ 10 ∷ 98 ∷ 99 ∷ []) 6 ≡ refused 3
+-- place in an empty script
+case-59 : placeAt ([]) 0 ≡ answer (record { line = 1; column = 1 })
 unfolding place
 case-59 = refl
 
--- place in 65,536 bytes
-case-60 : placeAt (replicate 65536 32) 3 ≡ answer (record { line = 1; column = 4 })
+-- place of a line feed
+case-60 : placeAt (97 ∷ 10 ∷ 98 ∷ []) 1 ≡ answer (record { line = 1; column = 2 })
 unfolding place
 case-60 = refl
 
--- place past the end of 65,536 bytes
-case-61 : placeAt (replicate 65536 32) 65537 ≡ refused 3
+-- place behind a line feed
+case-61 : placeAt (97 ∷ 10 ∷ 98 ∷ []) 2 ≡ answer (record { line = 2; column = 1 })
 unfolding place
 case-61 = refl
 
--- place past the end of 65,537 bytes
-case-62 : placeAt (replicate 65537 32) 65538 ≡ refused 1
+-- place at the end
+case-62 : placeAt (97 ∷ 10 ∷ 10 ∷ 98 ∷ 99 ∷ []) 5 ≡ answer (record { line = 3; column = 3 })
 unfolding place
 case-62 = refl
 
--- a + b and a+b, its nodes in another order
-case-63 : compare (lent (97 ∷ 32 ∷ 43 ∷ 32 ∷ 98 ∷ []) (padded 80 (2 ∷ 0 ∷ 25 ∷ 0 ∷ 1 ∷ 0 ∷ 0 ∷ 0 ∷ 0 ∷ 0 ∷ 0 ∷ 0 ∷ 0 ∷ 0 ∷ 0 ∷ 0 ∷ 2 ∷ 0 ∷ 25 ∷ 4 ∷ 1 ∷ 0 ∷ 0 ∷ 0 ∷ 0 ∷ 0 ∷ 0 ∷ 0 ∷ 0 ∷ 0 ∷ 0 ∷ 0 ∷ 3 ∷ 2 ∷ 4 ∷ 2 ∷ 1 ∷ 0 ∷ 1 ∷ [])) (padded 40 ([])) (padded 40 ([])) (padded 5 (2 ∷ [])) (counts 3 0 0 1)) (lent (97 ∷ 43 ∷ 98 ∷ []) (padded 48 (2 ∷ 0 ∷ 25 ∷ 2 ∷ 1 ∷ 0 ∷ 0 ∷ 0 ∷ 0 ∷ 0 ∷ 0 ∷ 0 ∷ 0 ∷ 0 ∷ 0 ∷ 0 ∷ 2 ∷ 0 ∷ 25 ∷ 0 ∷ 1 ∷ 0 ∷ 0 ∷ 0 ∷ 0 ∷ 0 ∷ 0 ∷ 0 ∷ 0 ∷ 0 ∷ 0 ∷ 0 ∷ 3 ∷ 9 ∷ 4 ∷ 1 ∷ 1 ∷ 1 ∷ [])) (padded 24 ([])) (padded 24 ([])) (padded 3 (2 ∷ [])) (counts 3 0 0 1)) ≡ answer true
-unfolding comparison
+-- place past the end
+case-63 : placeAt (97 ∷ 10 ∷ 10 ∷ 98 ∷ 99 ∷ []) 6 ≡ refused 3
+unfolding place
 case-63 = refl
 
--- a + b and a+c
-case-64 : compare (lent (97 ∷ 32 ∷ 43 ∷ 32 ∷ 98 ∷ []) (padded 80 (2 ∷ 0 ∷ 25 ∷ 0 ∷ 1 ∷ 0 ∷ 0 ∷ 0 ∷ 0 ∷ 0 ∷ 0 ∷ 0 ∷ 0 ∷ 0 ∷ 0 ∷ 0 ∷ 2 ∷ 0 ∷ 25 ∷ 4 ∷ 1 ∷ 0 ∷ 0 ∷ 0 ∷ 0 ∷ 0 ∷ 0 ∷ 0 ∷ 0 ∷ 0 ∷ 0 ∷ 0 ∷ 3 ∷ 2 ∷ 4 ∷ 2 ∷ 1 ∷ 0 ∷ 1 ∷ [])) (padded 40 ([])) (padded 40 ([])) (padded 5 (2 ∷ [])) (counts 3 0 0 1)) (lent (97 ∷ 43 ∷ 99 ∷ []) (padded 48 (2 ∷ 0 ∷ 25 ∷ 0 ∷ 1 ∷ 0 ∷ 0 ∷ 0 ∷ 0 ∷ 0 ∷ 0 ∷ 0 ∷ 0 ∷ 0 ∷ 0 ∷ 0 ∷ 2 ∷ 0 ∷ 25 ∷ 2 ∷ 1 ∷ 0 ∷ 0 ∷ 0 ∷ 0 ∷ 0 ∷ 0 ∷ 0 ∷ 0 ∷ 0 ∷ 0 ∷ 0 ∷ 3 ∷ 2 ∷ 4 ∷ 1 ∷ 1 ∷ 0 ∷ 1 ∷ [])) (padded 24 ([])) (padded 24 ([])) (padded 3 (2 ∷ [])) (counts 3 0 0 1)) ≡ answer false
-unfolding comparison
+-- place in 65,536 bytes
+case-64 : placeAt (replicate 65536 32) 3 ≡ answer (record { line = 1; column = 4 })
+unfolding place
 case-64 = refl
 
--- a + b and a*b
-case-65 : compare (lent (97 ∷ 32 ∷ 43 ∷ 32 ∷ 98 ∷ []) (padded 80 (2 ∷ 0 ∷ 25 ∷ 0 ∷ 1 ∷ 0 ∷ 0 ∷ 0 ∷ 0 ∷ 0 ∷ 0 ∷ 0 ∷ 0 ∷ 0 ∷ 0 ∷ 0 ∷ 2 ∷ 0 ∷ 25 ∷ 4 ∷ 1 ∷ 0 ∷ 0 ∷ 0 ∷ 0 ∷ 0 ∷ 0 ∷ 0 ∷ 0 ∷ 0 ∷ 0 ∷ 0 ∷ 3 ∷ 2 ∷ 4 ∷ 2 ∷ 1 ∷ 0 ∷ 1 ∷ [])) (padded 40 ([])) (padded 40 ([])) (padded 5 (2 ∷ [])) (counts 3 0 0 1)) (lent (97 ∷ 42 ∷ 98 ∷ []) (padded 48 (2 ∷ 0 ∷ 25 ∷ 0 ∷ 1 ∷ 0 ∷ 0 ∷ 0 ∷ 0 ∷ 0 ∷ 0 ∷ 0 ∷ 0 ∷ 0 ∷ 0 ∷ 0 ∷ 2 ∷ 0 ∷ 25 ∷ 2 ∷ 1 ∷ 0 ∷ 0 ∷ 0 ∷ 0 ∷ 0 ∷ 0 ∷ 0 ∷ 0 ∷ 0 ∷ 0 ∷ 0 ∷ 3 ∷ 2 ∷ 6 ∷ 1 ∷ 1 ∷ 0 ∷ 1 ∷ [])) (padded 24 ([])) (padded 24 ([])) (padded 3 (2 ∷ [])) (counts 3 0 0 1)) ≡ answer false
-unfolding comparison
+-- place past the end of 65,536 bytes
+case-65 : placeAt (replicate 65536 32) 65537 ≡ refused 3
+unfolding place
 case-65 = refl
 
--- one root more
-case-66 : compare (lent (97 ∷ 32 ∷ 43 ∷ 32 ∷ 98 ∷ []) (padded 80 (2 ∷ 0 ∷ 25 ∷ 0 ∷ 1 ∷ 0 ∷ 0 ∷ 0 ∷ 0 ∷ 0 ∷ 0 ∷ 0 ∷ 0 ∷ 0 ∷ 0 ∷ 0 ∷ 2 ∷ 0 ∷ 25 ∷ 4 ∷ 1 ∷ 0 ∷ 0 ∷ 0 ∷ 0 ∷ 0 ∷ 0 ∷ 0 ∷ 0 ∷ 0 ∷ 0 ∷ 0 ∷ 3 ∷ 2 ∷ 4 ∷ 2 ∷ 1 ∷ 0 ∷ 1 ∷ [])) (padded 40 ([])) (padded 40 ([])) (padded 5 (2 ∷ [])) (counts 3 0 0 1)) (lent (97 ∷ 43 ∷ 98 ∷ []) (padded 48 (2 ∷ 0 ∷ 25 ∷ 0 ∷ 1 ∷ 0 ∷ 0 ∷ 0 ∷ 0 ∷ 0 ∷ 0 ∷ 0 ∷ 0 ∷ 0 ∷ 0 ∷ 0 ∷ 2 ∷ 0 ∷ 25 ∷ 2 ∷ 1 ∷ 0 ∷ 0 ∷ 0 ∷ 0 ∷ 0 ∷ 0 ∷ 0 ∷ 0 ∷ 0 ∷ 0 ∷ 0 ∷ 3 ∷ 2 ∷ 4 ∷ 1 ∷ 1 ∷ 0 ∷ 1 ∷ [])) (padded 24 ([])) (padded 24 ([])) (padded 3 (2 ∷ [])) (counts 3 0 0 2)) ≡ answer false
-unfolding comparison
+-- place past the end of 65,537 bytes
+case-66 : placeAt (replicate 65537 32) 65538 ≡ refused 1
+unfolding place
 case-66 = refl
 
--- no roots
-case-67 : compare (lent ([]) (padded 0 ([])) (padded 0 ([])) (padded 0 ([])) (padded 0 ([])) (counts 0 0 0 0)) (lent (97 ∷ []) (padded 16 ([])) (padded 8 ([])) (padded 8 ([])) (padded 1 ([])) (counts 0 0 0 0)) ≡ answer true
+-- a + b and a+b, its nodes in another order
+case-67 : compare (lent (97 ∷ 32 ∷ 43 ∷ 32 ∷ 98 ∷ []) (padded 80 (2 ∷ 0 ∷ 25 ∷ 0 ∷ 1 ∷ 0 ∷ 0 ∷ 0 ∷ 0 ∷ 0 ∷ 0 ∷ 0 ∷ 0 ∷ 0 ∷ 0 ∷ 0 ∷ 2 ∷ 0 ∷ 25 ∷ 4 ∷ 1 ∷ 0 ∷ 0 ∷ 0 ∷ 0 ∷ 0 ∷ 0 ∷ 0 ∷ 0 ∷ 0 ∷ 0 ∷ 0 ∷ 3 ∷ 2 ∷ 4 ∷ 2 ∷ 1 ∷ 0 ∷ 1 ∷ [])) (padded 40 ([])) (padded 40 ([])) (padded 5 (2 ∷ [])) (counts 3 0 0 1)) (lent (97 ∷ 43 ∷ 98 ∷ []) (padded 48 (2 ∷ 0 ∷ 25 ∷ 2 ∷ 1 ∷ 0 ∷ 0 ∷ 0 ∷ 0 ∷ 0 ∷ 0 ∷ 0 ∷ 0 ∷ 0 ∷ 0 ∷ 0 ∷ 2 ∷ 0 ∷ 25 ∷ 0 ∷ 1 ∷ 0 ∷ 0 ∷ 0 ∷ 0 ∷ 0 ∷ 0 ∷ 0 ∷ 0 ∷ 0 ∷ 0 ∷ 0 ∷ 3 ∷ 9 ∷ 4 ∷ 1 ∷ 1 ∷ 1 ∷ [])) (padded 24 ([])) (padded 24 ([])) (padded 3 (2 ∷ [])) (counts 3 0 0 1)) ≡ answer true
 unfolding comparison
 case-67 = refl
 
--- a name and a number
-case-68 : compare (lent (97 ∷ []) (padded 16 (2 ∷ 0 ∷ 25 ∷ 0 ∷ 1 ∷ [])) (padded 8 ([])) (padded 8 ([])) (padded 1 ([])) (counts 1 0 0 1)) (lent (49 ∷ []) (padded 16 (1 ∷ 0 ∷ 24 ∷ 0 ∷ 1 ∷ [])) (padded 8 ([])) (padded 8 ([])) (padded 1 ([])) (counts 1 0 0 1)) ≡ answer false
+-- a + b and a+c
+case-68 : compare (lent (97 ∷ 32 ∷ 43 ∷ 32 ∷ 98 ∷ []) (padded 80 (2 ∷ 0 ∷ 25 ∷ 0 ∷ 1 ∷ 0 ∷ 0 ∷ 0 ∷ 0 ∷ 0 ∷ 0 ∷ 0 ∷ 0 ∷ 0 ∷ 0 ∷ 0 ∷ 2 ∷ 0 ∷ 25 ∷ 4 ∷ 1 ∷ 0 ∷ 0 ∷ 0 ∷ 0 ∷ 0 ∷ 0 ∷ 0 ∷ 0 ∷ 0 ∷ 0 ∷ 0 ∷ 3 ∷ 2 ∷ 4 ∷ 2 ∷ 1 ∷ 0 ∷ 1 ∷ [])) (padded 40 ([])) (padded 40 ([])) (padded 5 (2 ∷ [])) (counts 3 0 0 1)) (lent (97 ∷ 43 ∷ 99 ∷ []) (padded 48 (2 ∷ 0 ∷ 25 ∷ 0 ∷ 1 ∷ 0 ∷ 0 ∷ 0 ∷ 0 ∷ 0 ∷ 0 ∷ 0 ∷ 0 ∷ 0 ∷ 0 ∷ 0 ∷ 2 ∷ 0 ∷ 25 ∷ 2 ∷ 1 ∷ 0 ∷ 0 ∷ 0 ∷ 0 ∷ 0 ∷ 0 ∷ 0 ∷ 0 ∷ 0 ∷ 0 ∷ 0 ∷ 3 ∷ 2 ∷ 4 ∷ 1 ∷ 1 ∷ 0 ∷ 1 ∷ [])) (padded 24 ([])) (padded 24 ([])) (padded 3 (2 ∷ [])) (counts 3 0 0 1)) ≡ answer false
 unfolding comparison
 case-68 = refl
 
--- a call with one argument more
-case-69 : compare (lent (102 ∷ 32 ∷ 97 ∷ 32 ∷ []) (padded 64 (2 ∷ 0 ∷ 25 ∷ 0 ∷ 1 ∷ 0 ∷ 0 ∷ 0 ∷ 0 ∷ 0 ∷ 0 ∷ 0 ∷ 0 ∷ 0 ∷ 0 ∷ 0 ∷ 2 ∷ 0 ∷ 25 ∷ 2 ∷ 1 ∷ 0 ∷ 0 ∷ 0 ∷ 0 ∷ 0 ∷ 0 ∷ 0 ∷ 0 ∷ 0 ∷ 0 ∷ 0 ∷ 8 ∷ 2 ∷ [])) (padded 32 ([])) (padded 32 (1 ∷ [])) (padded 4 (2 ∷ [])) (counts 3 0 1 1)) (lent (102 ∷ 32 ∷ 97 ∷ 32 ∷ []) (padded 64 (2 ∷ 0 ∷ 25 ∷ 0 ∷ 1 ∷ 0 ∷ 0 ∷ 0 ∷ 0 ∷ 0 ∷ 0 ∷ 0 ∷ 0 ∷ 0 ∷ 0 ∷ 0 ∷ 2 ∷ 0 ∷ 25 ∷ 2 ∷ 1 ∷ 0 ∷ 0 ∷ 0 ∷ 0 ∷ 0 ∷ 0 ∷ 0 ∷ 0 ∷ 0 ∷ 0 ∷ 0 ∷ 8 ∷ 2 ∷ 0 ∷ 0 ∷ 1 ∷ [])) (padded 32 ([])) (padded 32 (1 ∷ [])) (padded 4 (2 ∷ [])) (counts 3 0 1 1)) ≡ answer false
+-- a + b and a*b
+case-69 : compare (lent (97 ∷ 32 ∷ 43 ∷ 32 ∷ 98 ∷ []) (padded 80 (2 ∷ 0 ∷ 25 ∷ 0 ∷ 1 ∷ 0 ∷ 0 ∷ 0 ∷ 0 ∷ 0 ∷ 0 ∷ 0 ∷ 0 ∷ 0 ∷ 0 ∷ 0 ∷ 2 ∷ 0 ∷ 25 ∷ 4 ∷ 1 ∷ 0 ∷ 0 ∷ 0 ∷ 0 ∷ 0 ∷ 0 ∷ 0 ∷ 0 ∷ 0 ∷ 0 ∷ 0 ∷ 3 ∷ 2 ∷ 4 ∷ 2 ∷ 1 ∷ 0 ∷ 1 ∷ [])) (padded 40 ([])) (padded 40 ([])) (padded 5 (2 ∷ [])) (counts 3 0 0 1)) (lent (97 ∷ 42 ∷ 98 ∷ []) (padded 48 (2 ∷ 0 ∷ 25 ∷ 0 ∷ 1 ∷ 0 ∷ 0 ∷ 0 ∷ 0 ∷ 0 ∷ 0 ∷ 0 ∷ 0 ∷ 0 ∷ 0 ∷ 0 ∷ 2 ∷ 0 ∷ 25 ∷ 2 ∷ 1 ∷ 0 ∷ 0 ∷ 0 ∷ 0 ∷ 0 ∷ 0 ∷ 0 ∷ 0 ∷ 0 ∷ 0 ∷ 0 ∷ 3 ∷ 2 ∷ 6 ∷ 1 ∷ 1 ∷ 0 ∷ 1 ∷ [])) (padded 24 ([])) (padded 24 ([])) (padded 3 (2 ∷ [])) (counts 3 0 0 1)) ≡ answer false
 unfolding comparison
 case-69 = refl
 
--- a let with a doc
-case-70 : compare (lent (35 ∷ 33 ∷ 100 ∷ 32 ∷ 97 ∷ []) (padded 80 (2 ∷ 0 ∷ 25 ∷ 4 ∷ 1 ∷ 0 ∷ 0 ∷ 0 ∷ 0 ∷ 0 ∷ 0 ∷ 0 ∷ 0 ∷ 0 ∷ 0 ∷ 0 ∷ 5 ∷ 1 ∷ 0 ∷ 0 ∷ 25 ∷ 4 ∷ 1 ∷ [])) (padded 40 ([])) (padded 40 (26 ∷ 0 ∷ 1 ∷ [])) (padded 5 (1 ∷ [])) (counts 2 0 3 1)) (lent (35 ∷ 33 ∷ 100 ∷ 32 ∷ 97 ∷ []) (padded 80 (2 ∷ 0 ∷ 25 ∷ 4 ∷ 1 ∷ 0 ∷ 0 ∷ 0 ∷ 0 ∷ 0 ∷ 0 ∷ 0 ∷ 0 ∷ 0 ∷ 0 ∷ 0 ∷ 5 ∷ 1 ∷ 0 ∷ 1 ∷ 25 ∷ 4 ∷ 1 ∷ [])) (padded 40 ([])) (padded 40 (26 ∷ 0 ∷ 1 ∷ [])) (padded 5 (1 ∷ [])) (counts 2 0 3 1)) ≡ answer false
+-- one root more
+case-70 : compare (lent (97 ∷ 32 ∷ 43 ∷ 32 ∷ 98 ∷ []) (padded 80 (2 ∷ 0 ∷ 25 ∷ 0 ∷ 1 ∷ 0 ∷ 0 ∷ 0 ∷ 0 ∷ 0 ∷ 0 ∷ 0 ∷ 0 ∷ 0 ∷ 0 ∷ 0 ∷ 2 ∷ 0 ∷ 25 ∷ 4 ∷ 1 ∷ 0 ∷ 0 ∷ 0 ∷ 0 ∷ 0 ∷ 0 ∷ 0 ∷ 0 ∷ 0 ∷ 0 ∷ 0 ∷ 3 ∷ 2 ∷ 4 ∷ 2 ∷ 1 ∷ 0 ∷ 1 ∷ [])) (padded 40 ([])) (padded 40 ([])) (padded 5 (2 ∷ [])) (counts 3 0 0 1)) (lent (97 ∷ 43 ∷ 98 ∷ []) (padded 48 (2 ∷ 0 ∷ 25 ∷ 0 ∷ 1 ∷ 0 ∷ 0 ∷ 0 ∷ 0 ∷ 0 ∷ 0 ∷ 0 ∷ 0 ∷ 0 ∷ 0 ∷ 0 ∷ 2 ∷ 0 ∷ 25 ∷ 2 ∷ 1 ∷ 0 ∷ 0 ∷ 0 ∷ 0 ∷ 0 ∷ 0 ∷ 0 ∷ 0 ∷ 0 ∷ 0 ∷ 0 ∷ 3 ∷ 2 ∷ 4 ∷ 1 ∷ 1 ∷ 0 ∷ 1 ∷ [])) (padded 24 ([])) (padded 24 ([])) (padded 3 (2 ∷ [])) (counts 3 0 0 2)) ≡ answer false
 unfolding comparison
 case-70 = refl
 
--- a case's own token, well formed, is left out
-case-71 : compare (lent (97 ∷ 98 ∷ 99 ∷ []) (padded 48 (2 ∷ 0 ∷ 25 ∷ 0 ∷ 1 ∷ 0 ∷ 0 ∷ 0 ∷ 0 ∷ 0 ∷ 0 ∷ 0 ∷ 0 ∷ 0 ∷ 0 ∷ 0 ∷ 2 ∷ 0 ∷ 25 ∷ 1 ∷ 1 ∷ 0 ∷ 0 ∷ 0 ∷ 0 ∷ 0 ∷ 0 ∷ 0 ∷ 0 ∷ 0 ∷ 0 ∷ 0 ∷ 7 ∷ 2 ∷ 0 ∷ 1 ∷ 20 ∷ 0 ∷ 1 ∷ 7 ∷ 1 ∷ [])) (padded 24 ([])) (padded 24 (20 ∷ 0 ∷ 1 ∷ 0 ∷ 6 ∷ 1 ∷ 1 ∷ 1 ∷ [])) (padded 3 (2 ∷ [])) (counts 3 0 8 1)) (lent (97 ∷ 98 ∷ 99 ∷ []) (padded 48 (2 ∷ 0 ∷ 25 ∷ 0 ∷ 1 ∷ 0 ∷ 0 ∷ 0 ∷ 0 ∷ 0 ∷ 0 ∷ 0 ∷ 0 ∷ 0 ∷ 0 ∷ 0 ∷ 2 ∷ 0 ∷ 25 ∷ 1 ∷ 1 ∷ 0 ∷ 0 ∷ 0 ∷ 0 ∷ 0 ∷ 0 ∷ 0 ∷ 0 ∷ 0 ∷ 0 ∷ 0 ∷ 7 ∷ 2 ∷ 0 ∷ 1 ∷ 20 ∷ 0 ∷ 1 ∷ 7 ∷ 1 ∷ [])) (padded 24 ([])) (padded 24 (21 ∷ 0 ∷ 1 ∷ 0 ∷ 6 ∷ 1 ∷ 1 ∷ 1 ∷ [])) (padded 3 (2 ∷ [])) (counts 3 0 8 1)) ≡ answer true
+-- no roots
+case-71 : compare (lent ([]) (padded 0 ([])) (padded 0 ([])) (padded 0 ([])) (padded 0 ([])) (counts 0 0 0 0)) (lent (97 ∷ []) (padded 16 ([])) (padded 8 ([])) (padded 8 ([])) (padded 1 ([])) (counts 0 0 0 0)) ≡ answer true
 unfolding comparison
 case-71 = refl
 
--- a default's own token is not
-case-72 : compare (lent (97 ∷ 98 ∷ 99 ∷ []) (padded 48 (2 ∷ 0 ∷ 25 ∷ 0 ∷ 1 ∷ 0 ∷ 0 ∷ 0 ∷ 0 ∷ 0 ∷ 0 ∷ 0 ∷ 0 ∷ 0 ∷ 0 ∷ 0 ∷ 2 ∷ 0 ∷ 25 ∷ 1 ∷ 1 ∷ 0 ∷ 0 ∷ 0 ∷ 0 ∷ 0 ∷ 0 ∷ 0 ∷ 0 ∷ 0 ∷ 0 ∷ 0 ∷ 7 ∷ 2 ∷ 0 ∷ 1 ∷ 20 ∷ 0 ∷ 1 ∷ 7 ∷ 1 ∷ [])) (padded 24 ([])) (padded 24 (20 ∷ 0 ∷ 1 ∷ 0 ∷ 6 ∷ 1 ∷ 1 ∷ 1 ∷ [])) (padded 3 (2 ∷ [])) (counts 3 0 8 1)) (lent (97 ∷ 98 ∷ 99 ∷ []) (padded 48 (2 ∷ 0 ∷ 25 ∷ 0 ∷ 1 ∷ 0 ∷ 0 ∷ 0 ∷ 0 ∷ 0 ∷ 0 ∷ 0 ∷ 0 ∷ 0 ∷ 0 ∷ 0 ∷ 2 ∷ 0 ∷ 25 ∷ 1 ∷ 1 ∷ 0 ∷ 0 ∷ 0 ∷ 0 ∷ 0 ∷ 0 ∷ 0 ∷ 0 ∷ 0 ∷ 0 ∷ 0 ∷ 7 ∷ 2 ∷ 0 ∷ 1 ∷ 21 ∷ 0 ∷ 1 ∷ 7 ∷ 1 ∷ [])) (padded 24 ([])) (padded 24 (20 ∷ 0 ∷ 1 ∷ 0 ∷ 6 ∷ 1 ∷ 1 ∷ 1 ∷ [])) (padded 3 (2 ∷ [])) (counts 3 0 8 1)) ≡ answer false
+-- a name and a number
+case-72 : compare (lent (97 ∷ []) (padded 16 (2 ∷ 0 ∷ 25 ∷ 0 ∷ 1 ∷ [])) (padded 8 ([])) (padded 8 ([])) (padded 1 ([])) (counts 1 0 0 1)) (lent (49 ∷ []) (padded 16 (1 ∷ 0 ∷ 24 ∷ 0 ∷ 1 ∷ [])) (padded 8 ([])) (padded 8 ([])) (padded 1 ([])) (counts 1 0 0 1)) ≡ answer false
 unfolding comparison
 case-72 = refl
 
--- an orphan is not reached
-case-73 : compare (lent (97 ∷ []) (padded 32 (99 ∷ 0 ∷ 0 ∷ 0 ∷ 0 ∷ 0 ∷ 0 ∷ 0 ∷ 0 ∷ 0 ∷ 0 ∷ 0 ∷ 0 ∷ 0 ∷ 0 ∷ 0 ∷ 2 ∷ 0 ∷ 25 ∷ 0 ∷ 1 ∷ [])) (padded 8 ([])) (padded 8 ([])) (padded 1 (1 ∷ [])) (counts 2 0 0 1)) (lent (97 ∷ []) (padded 16 (2 ∷ 0 ∷ 25 ∷ 0 ∷ 1 ∷ [])) (padded 8 ([])) (padded 8 ([])) (padded 1 ([])) (counts 1 0 0 1)) ≡ answer true
+-- a call with one argument more
+case-73 : compare (lent (102 ∷ 32 ∷ 97 ∷ 32 ∷ []) (padded 64 (2 ∷ 0 ∷ 25 ∷ 0 ∷ 1 ∷ 0 ∷ 0 ∷ 0 ∷ 0 ∷ 0 ∷ 0 ∷ 0 ∷ 0 ∷ 0 ∷ 0 ∷ 0 ∷ 2 ∷ 0 ∷ 25 ∷ 2 ∷ 1 ∷ 0 ∷ 0 ∷ 0 ∷ 0 ∷ 0 ∷ 0 ∷ 0 ∷ 0 ∷ 0 ∷ 0 ∷ 0 ∷ 8 ∷ 2 ∷ [])) (padded 32 ([])) (padded 32 (1 ∷ [])) (padded 4 (2 ∷ [])) (counts 3 0 1 1)) (lent (102 ∷ 32 ∷ 97 ∷ 32 ∷ []) (padded 64 (2 ∷ 0 ∷ 25 ∷ 0 ∷ 1 ∷ 0 ∷ 0 ∷ 0 ∷ 0 ∷ 0 ∷ 0 ∷ 0 ∷ 0 ∷ 0 ∷ 0 ∷ 0 ∷ 2 ∷ 0 ∷ 25 ∷ 2 ∷ 1 ∷ 0 ∷ 0 ∷ 0 ∷ 0 ∷ 0 ∷ 0 ∷ 0 ∷ 0 ∷ 0 ∷ 0 ∷ 0 ∷ 8 ∷ 2 ∷ 0 ∷ 0 ∷ 1 ∷ [])) (padded 32 ([])) (padded 32 (1 ∷ [])) (padded 4 (2 ∷ [])) (counts 3 0 1 1)) ≡ answer false
 unfolding comparison
 case-73 = refl
 
--- fn with docs, arguments, type and body
-case-74 : compare (lent (35 ∷ 33 ∷ 32 ∷ 100 ∷ 32 ∷ 102 ∷ 58 ∷ 73 ∷ 97 ∷ []) (padded 144 (2 ∷ 0 ∷ 25 ∷ 7 ∷ 1 ∷ 0 ∷ 0 ∷ 0 ∷ 0 ∷ 0 ∷ 0 ∷ 0 ∷ 0 ∷ 0 ∷ 0 ∷ 0 ∷ 6 ∷ 1 ∷ 0 ∷ 1 ∷ 25 ∷ 5 ∷ 1 ∷ 3 ∷ 1 ∷ 0 ∷ 7 ∷ 1 ∷ [])) (padded 72 (1 ∷ 36 ∷ 7 ∷ 3 ∷ [])) (padded 72 (26 ∷ 0 ∷ 1 ∷ 25 ∷ 8 ∷ 1 ∷ [])) (padded 9 (1 ∷ [])) (counts 2 1 8 1)) (lent (35 ∷ 33 ∷ 100 ∷ 32 ∷ 102 ∷ 58 ∷ 73 ∷ 97 ∷ 97 ∷ []) (padded 144 (2 ∷ 0 ∷ 25 ∷ 6 ∷ 1 ∷ 0 ∷ 0 ∷ 0 ∷ 0 ∷ 0 ∷ 0 ∷ 0 ∷ 0 ∷ 0 ∷ 0 ∷ 0 ∷ 6 ∷ 1 ∷ 0 ∷ 1 ∷ 25 ∷ 4 ∷ 1 ∷ 3 ∷ 1 ∷ 0 ∷ 7 ∷ 1 ∷ [])) (padded 72 (1 ∷ 36 ∷ 6 ∷ 3 ∷ [])) (padded 72 (26 ∷ 0 ∷ 1 ∷ 25 ∷ 7 ∷ 1 ∷ [])) (padded 9 (1 ∷ [])) (counts 2 1 8 1)) ≡ answer true
+-- a let with a doc
+case-74 : compare (lent (35 ∷ 33 ∷ 100 ∷ 32 ∷ 97 ∷ []) (padded 80 (2 ∷ 0 ∷ 25 ∷ 4 ∷ 1 ∷ 0 ∷ 0 ∷ 0 ∷ 0 ∷ 0 ∷ 0 ∷ 0 ∷ 0 ∷ 0 ∷ 0 ∷ 0 ∷ 5 ∷ 1 ∷ 0 ∷ 0 ∷ 25 ∷ 4 ∷ 1 ∷ [])) (padded 40 ([])) (padded 40 (26 ∷ 0 ∷ 1 ∷ [])) (padded 5 (1 ∷ [])) (counts 2 0 3 1)) (lent (35 ∷ 33 ∷ 100 ∷ 32 ∷ 97 ∷ []) (padded 80 (2 ∷ 0 ∷ 25 ∷ 4 ∷ 1 ∷ 0 ∷ 0 ∷ 0 ∷ 0 ∷ 0 ∷ 0 ∷ 0 ∷ 0 ∷ 0 ∷ 0 ∷ 0 ∷ 5 ∷ 1 ∷ 0 ∷ 1 ∷ 25 ∷ 4 ∷ 1 ∷ [])) (padded 40 ([])) (padded 40 (26 ∷ 0 ∷ 1 ∷ [])) (padded 5 (1 ∷ [])) (counts 2 0 3 1)) ≡ answer false
 unfolding comparison
 case-74 = refl
 
--- root past the nodes, left
-case-75 : compare (lent (97 ∷ []) (padded 16 (2 ∷ 0 ∷ 25 ∷ 0 ∷ 1 ∷ [])) (padded 8 ([])) (padded 8 ([])) (padded 1 (1 ∷ [])) (counts 1 0 0 1)) (lent (97 ∷ 32 ∷ 43 ∷ 32 ∷ 98 ∷ []) (padded 80 (2 ∷ 0 ∷ 25 ∷ 0 ∷ 1 ∷ 0 ∷ 0 ∷ 0 ∷ 0 ∷ 0 ∷ 0 ∷ 0 ∷ 0 ∷ 0 ∷ 0 ∷ 0 ∷ 2 ∷ 0 ∷ 25 ∷ 4 ∷ 1 ∷ 0 ∷ 0 ∷ 0 ∷ 0 ∷ 0 ∷ 0 ∷ 0 ∷ 0 ∷ 0 ∷ 0 ∷ 0 ∷ 3 ∷ 2 ∷ 4 ∷ 2 ∷ 1 ∷ 0 ∷ 1 ∷ [])) (padded 40 ([])) (padded 40 ([])) (padded 5 (2 ∷ [])) (counts 3 0 0 1)) ≡ refused 4
+-- a case's own token, well formed, is left out
+case-75 : compare (lent (97 ∷ 98 ∷ 99 ∷ []) (padded 48 (2 ∷ 0 ∷ 25 ∷ 0 ∷ 1 ∷ 0 ∷ 0 ∷ 0 ∷ 0 ∷ 0 ∷ 0 ∷ 0 ∷ 0 ∷ 0 ∷ 0 ∷ 0 ∷ 2 ∷ 0 ∷ 25 ∷ 1 ∷ 1 ∷ 0 ∷ 0 ∷ 0 ∷ 0 ∷ 0 ∷ 0 ∷ 0 ∷ 0 ∷ 0 ∷ 0 ∷ 0 ∷ 7 ∷ 2 ∷ 0 ∷ 1 ∷ 20 ∷ 0 ∷ 1 ∷ 7 ∷ 1 ∷ [])) (padded 24 ([])) (padded 24 (20 ∷ 0 ∷ 1 ∷ 0 ∷ 6 ∷ 1 ∷ 1 ∷ 1 ∷ [])) (padded 3 (2 ∷ [])) (counts 3 0 8 1)) (lent (97 ∷ 98 ∷ 99 ∷ []) (padded 48 (2 ∷ 0 ∷ 25 ∷ 0 ∷ 1 ∷ 0 ∷ 0 ∷ 0 ∷ 0 ∷ 0 ∷ 0 ∷ 0 ∷ 0 ∷ 0 ∷ 0 ∷ 0 ∷ 2 ∷ 0 ∷ 25 ∷ 1 ∷ 1 ∷ 0 ∷ 0 ∷ 0 ∷ 0 ∷ 0 ∷ 0 ∷ 0 ∷ 0 ∷ 0 ∷ 0 ∷ 0 ∷ 7 ∷ 2 ∷ 0 ∷ 1 ∷ 20 ∷ 0 ∷ 1 ∷ 7 ∷ 1 ∷ [])) (padded 24 ([])) (padded 24 (21 ∷ 0 ∷ 1 ∷ 0 ∷ 6 ∷ 1 ∷ 1 ∷ 1 ∷ [])) (padded 3 (2 ∷ [])) (counts 3 0 8 1)) ≡ answer true
 unfolding comparison
 case-75 = refl
 
--- root past the nodes, right
-case-76 : compare (lent (97 ∷ 32 ∷ 43 ∷ 32 ∷ 98 ∷ []) (padded 80 (2 ∷ 0 ∷ 25 ∷ 0 ∷ 1 ∷ 0 ∷ 0 ∷ 0 ∷ 0 ∷ 0 ∷ 0 ∷ 0 ∷ 0 ∷ 0 ∷ 0 ∷ 0 ∷ 2 ∷ 0 ∷ 25 ∷ 4 ∷ 1 ∷ 0 ∷ 0 ∷ 0 ∷ 0 ∷ 0 ∷ 0 ∷ 0 ∷ 0 ∷ 0 ∷ 0 ∷ 0 ∷ 3 ∷ 2 ∷ 4 ∷ 2 ∷ 1 ∷ 0 ∷ 1 ∷ [])) (padded 40 ([])) (padded 40 ([])) (padded 5 (2 ∷ [])) (counts 3 0 0 1)) (lent (97 ∷ []) (padded 16 (2 ∷ 0 ∷ 25 ∷ 0 ∷ 1 ∷ [])) (padded 8 ([])) (padded 8 ([])) (padded 1 (1 ∷ [])) (counts 1 0 0 1)) ≡ refused 4
+-- a default's own token is not
+case-76 : compare (lent (97 ∷ 98 ∷ 99 ∷ []) (padded 48 (2 ∷ 0 ∷ 25 ∷ 0 ∷ 1 ∷ 0 ∷ 0 ∷ 0 ∷ 0 ∷ 0 ∷ 0 ∷ 0 ∷ 0 ∷ 0 ∷ 0 ∷ 0 ∷ 2 ∷ 0 ∷ 25 ∷ 1 ∷ 1 ∷ 0 ∷ 0 ∷ 0 ∷ 0 ∷ 0 ∷ 0 ∷ 0 ∷ 0 ∷ 0 ∷ 0 ∷ 0 ∷ 7 ∷ 2 ∷ 0 ∷ 1 ∷ 20 ∷ 0 ∷ 1 ∷ 7 ∷ 1 ∷ [])) (padded 24 ([])) (padded 24 (20 ∷ 0 ∷ 1 ∷ 0 ∷ 6 ∷ 1 ∷ 1 ∷ 1 ∷ [])) (padded 3 (2 ∷ [])) (counts 3 0 8 1)) (lent (97 ∷ 98 ∷ 99 ∷ []) (padded 48 (2 ∷ 0 ∷ 25 ∷ 0 ∷ 1 ∷ 0 ∷ 0 ∷ 0 ∷ 0 ∷ 0 ∷ 0 ∷ 0 ∷ 0 ∷ 0 ∷ 0 ∷ 0 ∷ 2 ∷ 0 ∷ 25 ∷ 1 ∷ 1 ∷ 0 ∷ 0 ∷ 0 ∷ 0 ∷ 0 ∷ 0 ∷ 0 ∷ 0 ∷ 0 ∷ 0 ∷ 0 ∷ 7 ∷ 2 ∷ 0 ∷ 1 ∷ 21 ∷ 0 ∷ 1 ∷ 7 ∷ 1 ∷ [])) (padded 24 ([])) (padded 24 (20 ∷ 0 ∷ 1 ∷ 0 ∷ 6 ∷ 1 ∷ 1 ∷ 1 ∷ [])) (padded 3 (2 ∷ [])) (counts 3 0 8 1)) ≡ answer false
 unfolding comparison
 case-76 = refl
 
--- root past the array's whole records, left
-case-77 : compare (lent (97 ∷ []) (padded 31 (2 ∷ 0 ∷ 25 ∷ 0 ∷ 1 ∷ 0 ∷ 0 ∷ 0 ∷ 0 ∷ 0 ∷ 0 ∷ 0 ∷ 0 ∷ 0 ∷ 0 ∷ 0 ∷ 2 ∷ 0 ∷ 25 ∷ [])) (padded 8 ([])) (padded 8 ([])) (padded 1 (1 ∷ [])) (counts 9 0 0 1)) (lent (97 ∷ 32 ∷ 43 ∷ 32 ∷ 98 ∷ []) (padded 80 (2 ∷ 0 ∷ 25 ∷ 0 ∷ 1 ∷ 0 ∷ 0 ∷ 0 ∷ 0 ∷ 0 ∷ 0 ∷ 0 ∷ 0 ∷ 0 ∷ 0 ∷ 0 ∷ 2 ∷ 0 ∷ 25 ∷ 4 ∷ 1 ∷ 0 ∷ 0 ∷ 0 ∷ 0 ∷ 0 ∷ 0 ∷ 0 ∷ 0 ∷ 0 ∷ 0 ∷ 0 ∷ 3 ∷ 2 ∷ 4 ∷ 2 ∷ 1 ∷ 0 ∷ 1 ∷ [])) (padded 40 ([])) (padded 40 ([])) (padded 5 (2 ∷ [])) (counts 3 0 0 1)) ≡ refused 4
+-- an orphan is not reached
+case-77 : compare (lent (97 ∷ []) (padded 32 (99 ∷ 0 ∷ 0 ∷ 0 ∷ 0 ∷ 0 ∷ 0 ∷ 0 ∷ 0 ∷ 0 ∷ 0 ∷ 0 ∷ 0 ∷ 0 ∷ 0 ∷ 0 ∷ 2 ∷ 0 ∷ 25 ∷ 0 ∷ 1 ∷ [])) (padded 8 ([])) (padded 8 ([])) (padded 1 (1 ∷ [])) (counts 2 0 0 1)) (lent (97 ∷ []) (padded 16 (2 ∷ 0 ∷ 25 ∷ 0 ∷ 1 ∷ [])) (padded 8 ([])) (padded 8 ([])) (padded 1 ([])) (counts 1 0 0 1)) ≡ answer true
 unfolding comparison
 case-77 = refl
 
--- root past the array's whole records, right
-case-78 : compare (lent (97 ∷ 32 ∷ 43 ∷ 32 ∷ 98 ∷ []) (padded 80 (2 ∷ 0 ∷ 25 ∷ 0 ∷ 1 ∷ 0 ∷ 0 ∷ 0 ∷ 0 ∷ 0 ∷ 0 ∷ 0 ∷ 0 ∷ 0 ∷ 0 ∷ 0 ∷ 2 ∷ 0 ∷ 25 ∷ 4 ∷ 1 ∷ 0 ∷ 0 ∷ 0 ∷ 0 ∷ 0 ∷ 0 ∷ 0 ∷ 0 ∷ 0 ∷ 0 ∷ 0 ∷ 3 ∷ 2 ∷ 4 ∷ 2 ∷ 1 ∷ 0 ∷ 1 ∷ [])) (padded 40 ([])) (padded 40 ([])) (padded 5 (2 ∷ [])) (counts 3 0 0 1)) (lent (97 ∷ []) (padded 31 (2 ∷ 0 ∷ 25 ∷ 0 ∷ 1 ∷ 0 ∷ 0 ∷ 0 ∷ 0 ∷ 0 ∷ 0 ∷ 0 ∷ 0 ∷ 0 ∷ 0 ∷ 0 ∷ 2 ∷ 0 ∷ 25 ∷ [])) (padded 8 ([])) (padded 8 ([])) (padded 1 (1 ∷ [])) (counts 9 0 0 1)) ≡ refused 4
+-- fn with docs, arguments, type and body
+case-78 : compare (lent (35 ∷ 33 ∷ 32 ∷ 100 ∷ 32 ∷ 102 ∷ 58 ∷ 73 ∷ 97 ∷ []) (padded 144 (2 ∷ 0 ∷ 25 ∷ 7 ∷ 1 ∷ 0 ∷ 0 ∷ 0 ∷ 0 ∷ 0 ∷ 0 ∷ 0 ∷ 0 ∷ 0 ∷ 0 ∷ 0 ∷ 6 ∷ 1 ∷ 0 ∷ 1 ∷ 25 ∷ 5 ∷ 1 ∷ 3 ∷ 1 ∷ 0 ∷ 7 ∷ 1 ∷ [])) (padded 72 (1 ∷ 36 ∷ 7 ∷ 3 ∷ [])) (padded 72 (26 ∷ 0 ∷ 1 ∷ 25 ∷ 8 ∷ 1 ∷ [])) (padded 9 (1 ∷ [])) (counts 2 1 8 1)) (lent (35 ∷ 33 ∷ 100 ∷ 32 ∷ 102 ∷ 58 ∷ 73 ∷ 97 ∷ 97 ∷ []) (padded 144 (2 ∷ 0 ∷ 25 ∷ 6 ∷ 1 ∷ 0 ∷ 0 ∷ 0 ∷ 0 ∷ 0 ∷ 0 ∷ 0 ∷ 0 ∷ 0 ∷ 0 ∷ 0 ∷ 6 ∷ 1 ∷ 0 ∷ 1 ∷ 25 ∷ 4 ∷ 1 ∷ 3 ∷ 1 ∷ 0 ∷ 7 ∷ 1 ∷ [])) (padded 72 (1 ∷ 36 ∷ 6 ∷ 3 ∷ [])) (padded 72 (26 ∷ 0 ∷ 1 ∷ 25 ∷ 7 ∷ 1 ∷ [])) (padded 9 (1 ∷ [])) (counts 2 1 8 1)) ≡ answer true
 unfolding comparison
 case-78 = refl
 
--- count of roots past the array, left
-case-79 : compare (lent (97 ∷ []) (padded 16 (2 ∷ 0 ∷ 25 ∷ 0 ∷ 1 ∷ [])) (padded 8 ([])) (padded 8 ([])) (padded 1 ([])) (counts 1 0 0 2)) (lent (97 ∷ 32 ∷ 43 ∷ 32 ∷ 98 ∷ []) (padded 80 (2 ∷ 0 ∷ 25 ∷ 0 ∷ 1 ∷ 0 ∷ 0 ∷ 0 ∷ 0 ∷ 0 ∷ 0 ∷ 0 ∷ 0 ∷ 0 ∷ 0 ∷ 0 ∷ 2 ∷ 0 ∷ 25 ∷ 4 ∷ 1 ∷ 0 ∷ 0 ∷ 0 ∷ 0 ∷ 0 ∷ 0 ∷ 0 ∷ 0 ∷ 0 ∷ 0 ∷ 0 ∷ 3 ∷ 2 ∷ 4 ∷ 2 ∷ 1 ∷ 0 ∷ 1 ∷ [])) (padded 40 ([])) (padded 40 ([])) (padded 5 (2 ∷ [])) (counts 3 0 0 1)) ≡ refused 4
+-- root past the nodes, left
+case-79 : compare (lent (97 ∷ []) (padded 16 (2 ∷ 0 ∷ 25 ∷ 0 ∷ 1 ∷ [])) (padded 8 ([])) (padded 8 ([])) (padded 1 (1 ∷ [])) (counts 1 0 0 1)) (lent (97 ∷ 32 ∷ 43 ∷ 32 ∷ 98 ∷ []) (padded 80 (2 ∷ 0 ∷ 25 ∷ 0 ∷ 1 ∷ 0 ∷ 0 ∷ 0 ∷ 0 ∷ 0 ∷ 0 ∷ 0 ∷ 0 ∷ 0 ∷ 0 ∷ 0 ∷ 2 ∷ 0 ∷ 25 ∷ 4 ∷ 1 ∷ 0 ∷ 0 ∷ 0 ∷ 0 ∷ 0 ∷ 0 ∷ 0 ∷ 0 ∷ 0 ∷ 0 ∷ 0 ∷ 3 ∷ 2 ∷ 4 ∷ 2 ∷ 1 ∷ 0 ∷ 1 ∷ [])) (padded 40 ([])) (padded 40 ([])) (padded 5 (2 ∷ [])) (counts 3 0 0 1)) ≡ refused 4
 unfolding comparison
 case-79 = refl
 
--- count of roots past the array, right
-case-80 : compare (lent (97 ∷ 32 ∷ 43 ∷ 32 ∷ 98 ∷ []) (padded 80 (2 ∷ 0 ∷ 25 ∷ 0 ∷ 1 ∷ 0 ∷ 0 ∷ 0 ∷ 0 ∷ 0 ∷ 0 ∷ 0 ∷ 0 ∷ 0 ∷ 0 ∷ 0 ∷ 2 ∷ 0 ∷ 25 ∷ 4 ∷ 1 ∷ 0 ∷ 0 ∷ 0 ∷ 0 ∷ 0 ∷ 0 ∷ 0 ∷ 0 ∷ 0 ∷ 0 ∷ 0 ∷ 3 ∷ 2 ∷ 4 ∷ 2 ∷ 1 ∷ 0 ∷ 1 ∷ [])) (padded 40 ([])) (padded 40 ([])) (padded 5 (2 ∷ [])) (counts 3 0 0 1)) (lent (97 ∷ []) (padded 16 (2 ∷ 0 ∷ 25 ∷ 0 ∷ 1 ∷ [])) (padded 8 ([])) (padded 8 ([])) (padded 1 ([])) (counts 1 0 0 2)) ≡ refused 4
+-- root past the nodes, right
+case-80 : compare (lent (97 ∷ 32 ∷ 43 ∷ 32 ∷ 98 ∷ []) (padded 80 (2 ∷ 0 ∷ 25 ∷ 0 ∷ 1 ∷ 0 ∷ 0 ∷ 0 ∷ 0 ∷ 0 ∷ 0 ∷ 0 ∷ 0 ∷ 0 ∷ 0 ∷ 0 ∷ 2 ∷ 0 ∷ 25 ∷ 4 ∷ 1 ∷ 0 ∷ 0 ∷ 0 ∷ 0 ∷ 0 ∷ 0 ∷ 0 ∷ 0 ∷ 0 ∷ 0 ∷ 0 ∷ 3 ∷ 2 ∷ 4 ∷ 2 ∷ 1 ∷ 0 ∷ 1 ∷ [])) (padded 40 ([])) (padded 40 ([])) (padded 5 (2 ∷ [])) (counts 3 0 0 1)) (lent (97 ∷ []) (padded 16 (2 ∷ 0 ∷ 25 ∷ 0 ∷ 1 ∷ [])) (padded 8 ([])) (padded 8 ([])) (padded 1 (1 ∷ [])) (counts 1 0 0 1)) ≡ refused 4
 unfolding comparison
 case-80 = refl
 
--- root of an unknown kind, left
-case-81 : compare (lent (97 ∷ []) (padded 16 (15 ∷ [])) (padded 8 ([])) (padded 8 ([])) (padded 1 ([])) (counts 1 0 0 1)) (lent (97 ∷ 32 ∷ 43 ∷ 32 ∷ 98 ∷ []) (padded 80 (2 ∷ 0 ∷ 25 ∷ 0 ∷ 1 ∷ 0 ∷ 0 ∷ 0 ∷ 0 ∷ 0 ∷ 0 ∷ 0 ∷ 0 ∷ 0 ∷ 0 ∷ 0 ∷ 2 ∷ 0 ∷ 25 ∷ 4 ∷ 1 ∷ 0 ∷ 0 ∷ 0 ∷ 0 ∷ 0 ∷ 0 ∷ 0 ∷ 0 ∷ 0 ∷ 0 ∷ 0 ∷ 3 ∷ 2 ∷ 4 ∷ 2 ∷ 1 ∷ 0 ∷ 1 ∷ [])) (padded 40 ([])) (padded 40 ([])) (padded 5 (2 ∷ [])) (counts 3 0 0 1)) ≡ refused 4
+-- root past the array's whole records, left
+case-81 : compare (lent (97 ∷ []) (padded 31 (2 ∷ 0 ∷ 25 ∷ 0 ∷ 1 ∷ 0 ∷ 0 ∷ 0 ∷ 0 ∷ 0 ∷ 0 ∷ 0 ∷ 0 ∷ 0 ∷ 0 ∷ 0 ∷ 2 ∷ 0 ∷ 25 ∷ [])) (padded 8 ([])) (padded 8 ([])) (padded 1 (1 ∷ [])) (counts 9 0 0 1)) (lent (97 ∷ 32 ∷ 43 ∷ 32 ∷ 98 ∷ []) (padded 80 (2 ∷ 0 ∷ 25 ∷ 0 ∷ 1 ∷ 0 ∷ 0 ∷ 0 ∷ 0 ∷ 0 ∷ 0 ∷ 0 ∷ 0 ∷ 0 ∷ 0 ∷ 0 ∷ 2 ∷ 0 ∷ 25 ∷ 4 ∷ 1 ∷ 0 ∷ 0 ∷ 0 ∷ 0 ∷ 0 ∷ 0 ∷ 0 ∷ 0 ∷ 0 ∷ 0 ∷ 0 ∷ 3 ∷ 2 ∷ 4 ∷ 2 ∷ 1 ∷ 0 ∷ 1 ∷ [])) (padded 40 ([])) (padded 40 ([])) (padded 5 (2 ∷ [])) (counts 3 0 0 1)) ≡ refused 4
 unfolding comparison
 case-81 = refl
 
--- root of an unknown kind, right
-case-82 : compare (lent (97 ∷ 32 ∷ 43 ∷ 32 ∷ 98 ∷ []) (padded 80 (2 ∷ 0 ∷ 25 ∷ 0 ∷ 1 ∷ 0 ∷ 0 ∷ 0 ∷ 0 ∷ 0 ∷ 0 ∷ 0 ∷ 0 ∷ 0 ∷ 0 ∷ 0 ∷ 2 ∷ 0 ∷ 25 ∷ 4 ∷ 1 ∷ 0 ∷ 0 ∷ 0 ∷ 0 ∷ 0 ∷ 0 ∷ 0 ∷ 0 ∷ 0 ∷ 0 ∷ 0 ∷ 3 ∷ 2 ∷ 4 ∷ 2 ∷ 1 ∷ 0 ∷ 1 ∷ [])) (padded 40 ([])) (padded 40 ([])) (padded 5 (2 ∷ [])) (counts 3 0 0 1)) (lent (97 ∷ []) (padded 16 (15 ∷ [])) (padded 8 ([])) (padded 8 ([])) (padded 1 ([])) (counts 1 0 0 1)) ≡ refused 4
+-- root past the array's whole records, right
+case-82 : compare (lent (97 ∷ 32 ∷ 43 ∷ 32 ∷ 98 ∷ []) (padded 80 (2 ∷ 0 ∷ 25 ∷ 0 ∷ 1 ∷ 0 ∷ 0 ∷ 0 ∷ 0 ∷ 0 ∷ 0 ∷ 0 ∷ 0 ∷ 0 ∷ 0 ∷ 0 ∷ 2 ∷ 0 ∷ 25 ∷ 4 ∷ 1 ∷ 0 ∷ 0 ∷ 0 ∷ 0 ∷ 0 ∷ 0 ∷ 0 ∷ 0 ∷ 0 ∷ 0 ∷ 0 ∷ 3 ∷ 2 ∷ 4 ∷ 2 ∷ 1 ∷ 0 ∷ 1 ∷ [])) (padded 40 ([])) (padded 40 ([])) (padded 5 (2 ∷ [])) (counts 3 0 0 1)) (lent (97 ∷ []) (padded 31 (2 ∷ 0 ∷ 25 ∷ 0 ∷ 1 ∷ 0 ∷ 0 ∷ 0 ∷ 0 ∷ 0 ∷ 0 ∷ 0 ∷ 0 ∷ 0 ∷ 0 ∷ 0 ∷ 2 ∷ 0 ∷ 25 ∷ [])) (padded 8 ([])) (padded 8 ([])) (padded 1 (1 ∷ [])) (counts 9 0 0 1)) ≡ refused 4
 unfolding comparison
 case-82 = refl
 
--- right child not below, left
-case-83 : compare (lent (97 ∷ 97 ∷ []) (padded 32 (2 ∷ 0 ∷ 25 ∷ 0 ∷ 1 ∷ 0 ∷ 0 ∷ 0 ∷ 0 ∷ 0 ∷ 0 ∷ 0 ∷ 0 ∷ 0 ∷ 0 ∷ 0 ∷ 3 ∷ 2 ∷ 4 ∷ 0 ∷ 1 ∷ 0 ∷ 1 ∷ [])) (padded 16 ([])) (padded 16 ([])) (padded 2 (1 ∷ [])) (counts 2 0 0 1)) (lent (97 ∷ 32 ∷ 43 ∷ 32 ∷ 98 ∷ []) (padded 80 (2 ∷ 0 ∷ 25 ∷ 0 ∷ 1 ∷ 0 ∷ 0 ∷ 0 ∷ 0 ∷ 0 ∷ 0 ∷ 0 ∷ 0 ∷ 0 ∷ 0 ∷ 0 ∷ 2 ∷ 0 ∷ 25 ∷ 4 ∷ 1 ∷ 0 ∷ 0 ∷ 0 ∷ 0 ∷ 0 ∷ 0 ∷ 0 ∷ 0 ∷ 0 ∷ 0 ∷ 0 ∷ 3 ∷ 2 ∷ 4 ∷ 2 ∷ 1 ∷ 0 ∷ 1 ∷ [])) (padded 40 ([])) (padded 40 ([])) (padded 5 (2 ∷ [])) (counts 3 0 0 1)) ≡ refused 4
+-- count of roots past the array, left
+case-83 : compare (lent (97 ∷ []) (padded 16 (2 ∷ 0 ∷ 25 ∷ 0 ∷ 1 ∷ [])) (padded 8 ([])) (padded 8 ([])) (padded 1 ([])) (counts 1 0 0 2)) (lent (97 ∷ 32 ∷ 43 ∷ 32 ∷ 98 ∷ []) (padded 80 (2 ∷ 0 ∷ 25 ∷ 0 ∷ 1 ∷ 0 ∷ 0 ∷ 0 ∷ 0 ∷ 0 ∷ 0 ∷ 0 ∷ 0 ∷ 0 ∷ 0 ∷ 0 ∷ 2 ∷ 0 ∷ 25 ∷ 4 ∷ 1 ∷ 0 ∷ 0 ∷ 0 ∷ 0 ∷ 0 ∷ 0 ∷ 0 ∷ 0 ∷ 0 ∷ 0 ∷ 0 ∷ 3 ∷ 2 ∷ 4 ∷ 2 ∷ 1 ∷ 0 ∷ 1 ∷ [])) (padded 40 ([])) (padded 40 ([])) (padded 5 (2 ∷ [])) (counts 3 0 0 1)) ≡ refused 4
 unfolding comparison
 case-83 = refl
 
--- right child not below, right
-case-84 : compare (lent (97 ∷ 32 ∷ 43 ∷ 32 ∷ 98 ∷ []) (padded 80 (2 ∷ 0 ∷ 25 ∷ 0 ∷ 1 ∷ 0 ∷ 0 ∷ 0 ∷ 0 ∷ 0 ∷ 0 ∷ 0 ∷ 0 ∷ 0 ∷ 0 ∷ 0 ∷ 2 ∷ 0 ∷ 25 ∷ 4 ∷ 1 ∷ 0 ∷ 0 ∷ 0 ∷ 0 ∷ 0 ∷ 0 ∷ 0 ∷ 0 ∷ 0 ∷ 0 ∷ 0 ∷ 3 ∷ 2 ∷ 4 ∷ 2 ∷ 1 ∷ 0 ∷ 1 ∷ [])) (padded 40 ([])) (padded 40 ([])) (padded 5 (2 ∷ [])) (counts 3 0 0 1)) (lent (97 ∷ 97 ∷ []) (padded 32 (2 ∷ 0 ∷ 25 ∷ 0 ∷ 1 ∷ 0 ∷ 0 ∷ 0 ∷ 0 ∷ 0 ∷ 0 ∷ 0 ∷ 0 ∷ 0 ∷ 0 ∷ 0 ∷ 3 ∷ 2 ∷ 4 ∷ 0 ∷ 1 ∷ 0 ∷ 1 ∷ [])) (padded 16 ([])) (padded 16 ([])) (padded 2 (1 ∷ [])) (counts 2 0 0 1)) ≡ refused 4
+-- count of roots past the array, right
+case-84 : compare (lent (97 ∷ 32 ∷ 43 ∷ 32 ∷ 98 ∷ []) (padded 80 (2 ∷ 0 ∷ 25 ∷ 0 ∷ 1 ∷ 0 ∷ 0 ∷ 0 ∷ 0 ∷ 0 ∷ 0 ∷ 0 ∷ 0 ∷ 0 ∷ 0 ∷ 0 ∷ 2 ∷ 0 ∷ 25 ∷ 4 ∷ 1 ∷ 0 ∷ 0 ∷ 0 ∷ 0 ∷ 0 ∷ 0 ∷ 0 ∷ 0 ∷ 0 ∷ 0 ∷ 0 ∷ 3 ∷ 2 ∷ 4 ∷ 2 ∷ 1 ∷ 0 ∷ 1 ∷ [])) (padded 40 ([])) (padded 40 ([])) (padded 5 (2 ∷ [])) (counts 3 0 0 1)) (lent (97 ∷ []) (padded 16 (2 ∷ 0 ∷ 25 ∷ 0 ∷ 1 ∷ [])) (padded 8 ([])) (padded 8 ([])) (padded 1 ([])) (counts 1 0 0 2)) ≡ refused 4
 unfolding comparison
 case-84 = refl
 
--- type past the types, left
-case-85 : compare (lent (97 ∷ 97 ∷ []) (padded 32 (2 ∷ 0 ∷ 25 ∷ 0 ∷ 1 ∷ 0 ∷ 0 ∷ 0 ∷ 0 ∷ 0 ∷ 0 ∷ 0 ∷ 0 ∷ 0 ∷ 0 ∷ 0 ∷ 10 ∷ 1 ∷ 32 ∷ 0 ∷ 2 ∷ [])) (padded 16 ([])) (padded 16 ([])) (padded 2 (1 ∷ [])) (counts 2 0 0 1)) (lent (97 ∷ 32 ∷ 43 ∷ 32 ∷ 98 ∷ []) (padded 80 (2 ∷ 0 ∷ 25 ∷ 0 ∷ 1 ∷ 0 ∷ 0 ∷ 0 ∷ 0 ∷ 0 ∷ 0 ∷ 0 ∷ 0 ∷ 0 ∷ 0 ∷ 0 ∷ 2 ∷ 0 ∷ 25 ∷ 4 ∷ 1 ∷ 0 ∷ 0 ∷ 0 ∷ 0 ∷ 0 ∷ 0 ∷ 0 ∷ 0 ∷ 0 ∷ 0 ∷ 0 ∷ 3 ∷ 2 ∷ 4 ∷ 2 ∷ 1 ∷ 0 ∷ 1 ∷ [])) (padded 40 ([])) (padded 40 ([])) (padded 5 (2 ∷ [])) (counts 3 0 0 1)) ≡ refused 4
+-- root of an unknown kind, left
+case-85 : compare (lent (97 ∷ []) (padded 16 (15 ∷ [])) (padded 8 ([])) (padded 8 ([])) (padded 1 ([])) (counts 1 0 0 1)) (lent (97 ∷ 32 ∷ 43 ∷ 32 ∷ 98 ∷ []) (padded 80 (2 ∷ 0 ∷ 25 ∷ 0 ∷ 1 ∷ 0 ∷ 0 ∷ 0 ∷ 0 ∷ 0 ∷ 0 ∷ 0 ∷ 0 ∷ 0 ∷ 0 ∷ 0 ∷ 2 ∷ 0 ∷ 25 ∷ 4 ∷ 1 ∷ 0 ∷ 0 ∷ 0 ∷ 0 ∷ 0 ∷ 0 ∷ 0 ∷ 0 ∷ 0 ∷ 0 ∷ 0 ∷ 3 ∷ 2 ∷ 4 ∷ 2 ∷ 1 ∷ 0 ∷ 1 ∷ [])) (padded 40 ([])) (padded 40 ([])) (padded 5 (2 ∷ [])) (counts 3 0 0 1)) ≡ refused 4
 unfolding comparison
 case-85 = refl
 
--- type past the types, right
-case-86 : compare (lent (97 ∷ 32 ∷ 43 ∷ 32 ∷ 98 ∷ []) (padded 80 (2 ∷ 0 ∷ 25 ∷ 0 ∷ 1 ∷ 0 ∷ 0 ∷ 0 ∷ 0 ∷ 0 ∷ 0 ∷ 0 ∷ 0 ∷ 0 ∷ 0 ∷ 0 ∷ 2 ∷ 0 ∷ 25 ∷ 4 ∷ 1 ∷ 0 ∷ 0 ∷ 0 ∷ 0 ∷ 0 ∷ 0 ∷ 0 ∷ 0 ∷ 0 ∷ 0 ∷ 0 ∷ 3 ∷ 2 ∷ 4 ∷ 2 ∷ 1 ∷ 0 ∷ 1 ∷ [])) (padded 40 ([])) (padded 40 ([])) (padded 5 (2 ∷ [])) (counts 3 0 0 1)) (lent (97 ∷ 97 ∷ []) (padded 32 (2 ∷ 0 ∷ 25 ∷ 0 ∷ 1 ∷ 0 ∷ 0 ∷ 0 ∷ 0 ∷ 0 ∷ 0 ∷ 0 ∷ 0 ∷ 0 ∷ 0 ∷ 0 ∷ 10 ∷ 1 ∷ 32 ∷ 0 ∷ 2 ∷ [])) (padded 16 ([])) (padded 16 ([])) (padded 2 (1 ∷ [])) (counts 2 0 0 1)) ≡ refused 4
+-- root of an unknown kind, right
+case-86 : compare (lent (97 ∷ 32 ∷ 43 ∷ 32 ∷ 98 ∷ []) (padded 80 (2 ∷ 0 ∷ 25 ∷ 0 ∷ 1 ∷ 0 ∷ 0 ∷ 0 ∷ 0 ∷ 0 ∷ 0 ∷ 0 ∷ 0 ∷ 0 ∷ 0 ∷ 0 ∷ 2 ∷ 0 ∷ 25 ∷ 4 ∷ 1 ∷ 0 ∷ 0 ∷ 0 ∷ 0 ∷ 0 ∷ 0 ∷ 0 ∷ 0 ∷ 0 ∷ 0 ∷ 0 ∷ 3 ∷ 2 ∷ 4 ∷ 2 ∷ 1 ∷ 0 ∷ 1 ∷ [])) (padded 40 ([])) (padded 40 ([])) (padded 5 (2 ∷ [])) (counts 3 0 0 1)) (lent (97 ∷ []) (padded 16 (15 ∷ [])) (padded 8 ([])) (padded 8 ([])) (padded 1 ([])) (counts 1 0 0 1)) ≡ refused 4
 unfolding comparison
 case-86 = refl
 
--- type of an unknown kind, left
-case-87 : compare (lent (97 ∷ 97 ∷ []) (padded 32 (2 ∷ 0 ∷ 25 ∷ 0 ∷ 1 ∷ 0 ∷ 0 ∷ 0 ∷ 0 ∷ 0 ∷ 0 ∷ 0 ∷ 0 ∷ 0 ∷ 0 ∷ 0 ∷ 10 ∷ 1 ∷ 32 ∷ 0 ∷ 2 ∷ [])) (padded 16 (6 ∷ 36 ∷ 0 ∷ 3 ∷ [])) (padded 16 ([])) (padded 2 (1 ∷ [])) (counts 2 1 0 1)) (lent (97 ∷ 32 ∷ 43 ∷ 32 ∷ 98 ∷ []) (padded 80 (2 ∷ 0 ∷ 25 ∷ 0 ∷ 1 ∷ 0 ∷ 0 ∷ 0 ∷ 0 ∷ 0 ∷ 0 ∷ 0 ∷ 0 ∷ 0 ∷ 0 ∷ 0 ∷ 2 ∷ 0 ∷ 25 ∷ 4 ∷ 1 ∷ 0 ∷ 0 ∷ 0 ∷ 0 ∷ 0 ∷ 0 ∷ 0 ∷ 0 ∷ 0 ∷ 0 ∷ 0 ∷ 3 ∷ 2 ∷ 4 ∷ 2 ∷ 1 ∷ 0 ∷ 1 ∷ [])) (padded 40 ([])) (padded 40 ([])) (padded 5 (2 ∷ [])) (counts 3 0 0 1)) ≡ refused 4
+-- right child not below, left
+case-87 : compare (lent (97 ∷ 97 ∷ []) (padded 32 (2 ∷ 0 ∷ 25 ∷ 0 ∷ 1 ∷ 0 ∷ 0 ∷ 0 ∷ 0 ∷ 0 ∷ 0 ∷ 0 ∷ 0 ∷ 0 ∷ 0 ∷ 0 ∷ 3 ∷ 2 ∷ 4 ∷ 0 ∷ 1 ∷ 0 ∷ 1 ∷ [])) (padded 16 ([])) (padded 16 ([])) (padded 2 (1 ∷ [])) (counts 2 0 0 1)) (lent (97 ∷ 32 ∷ 43 ∷ 32 ∷ 98 ∷ []) (padded 80 (2 ∷ 0 ∷ 25 ∷ 0 ∷ 1 ∷ 0 ∷ 0 ∷ 0 ∷ 0 ∷ 0 ∷ 0 ∷ 0 ∷ 0 ∷ 0 ∷ 0 ∷ 0 ∷ 2 ∷ 0 ∷ 25 ∷ 4 ∷ 1 ∷ 0 ∷ 0 ∷ 0 ∷ 0 ∷ 0 ∷ 0 ∷ 0 ∷ 0 ∷ 0 ∷ 0 ∷ 0 ∷ 3 ∷ 2 ∷ 4 ∷ 2 ∷ 1 ∷ 0 ∷ 1 ∷ [])) (padded 40 ([])) (padded 40 ([])) (padded 5 (2 ∷ [])) (counts 3 0 0 1)) ≡ refused 4
 unfolding comparison
 case-87 = refl
 
--- type of an unknown kind, right
-case-88 : compare (lent (97 ∷ 32 ∷ 43 ∷ 32 ∷ 98 ∷ []) (padded 80 (2 ∷ 0 ∷ 25 ∷ 0 ∷ 1 ∷ 0 ∷ 0 ∷ 0 ∷ 0 ∷ 0 ∷ 0 ∷ 0 ∷ 0 ∷ 0 ∷ 0 ∷ 0 ∷ 2 ∷ 0 ∷ 25 ∷ 4 ∷ 1 ∷ 0 ∷ 0 ∷ 0 ∷ 0 ∷ 0 ∷ 0 ∷ 0 ∷ 0 ∷ 0 ∷ 0 ∷ 0 ∷ 3 ∷ 2 ∷ 4 ∷ 2 ∷ 1 ∷ 0 ∷ 1 ∷ [])) (padded 40 ([])) (padded 40 ([])) (padded 5 (2 ∷ [])) (counts 3 0 0 1)) (lent (97 ∷ 97 ∷ []) (padded 32 (2 ∷ 0 ∷ 25 ∷ 0 ∷ 1 ∷ 0 ∷ 0 ∷ 0 ∷ 0 ∷ 0 ∷ 0 ∷ 0 ∷ 0 ∷ 0 ∷ 0 ∷ 0 ∷ 10 ∷ 1 ∷ 32 ∷ 0 ∷ 2 ∷ [])) (padded 16 (6 ∷ 36 ∷ 0 ∷ 3 ∷ [])) (padded 16 ([])) (padded 2 (1 ∷ [])) (counts 2 1 0 1)) ≡ refused 4
+-- right child not below, right
+case-88 : compare (lent (97 ∷ 32 ∷ 43 ∷ 32 ∷ 98 ∷ []) (padded 80 (2 ∷ 0 ∷ 25 ∷ 0 ∷ 1 ∷ 0 ∷ 0 ∷ 0 ∷ 0 ∷ 0 ∷ 0 ∷ 0 ∷ 0 ∷ 0 ∷ 0 ∷ 0 ∷ 2 ∷ 0 ∷ 25 ∷ 4 ∷ 1 ∷ 0 ∷ 0 ∷ 0 ∷ 0 ∷ 0 ∷ 0 ∷ 0 ∷ 0 ∷ 0 ∷ 0 ∷ 0 ∷ 3 ∷ 2 ∷ 4 ∷ 2 ∷ 1 ∷ 0 ∷ 1 ∷ [])) (padded 40 ([])) (padded 40 ([])) (padded 5 (2 ∷ [])) (counts 3 0 0 1)) (lent (97 ∷ 97 ∷ []) (padded 32 (2 ∷ 0 ∷ 25 ∷ 0 ∷ 1 ∷ 0 ∷ 0 ∷ 0 ∷ 0 ∷ 0 ∷ 0 ∷ 0 ∷ 0 ∷ 0 ∷ 0 ∷ 0 ∷ 3 ∷ 2 ∷ 4 ∷ 0 ∷ 1 ∷ 0 ∷ 1 ∷ [])) (padded 16 ([])) (padded 16 ([])) (padded 2 (1 ∷ [])) (counts 2 0 0 1)) ≡ refused 4
 unfolding comparison
 case-88 = refl
 
--- docs past the list cells, left
-case-89 : compare (lent (97 ∷ 97 ∷ []) (padded 32 (2 ∷ 0 ∷ 25 ∷ 0 ∷ 1 ∷ 0 ∷ 0 ∷ 0 ∷ 0 ∷ 0 ∷ 0 ∷ 0 ∷ 0 ∷ 0 ∷ 0 ∷ 0 ∷ 5 ∷ 1 ∷ 0 ∷ 1 ∷ 25 ∷ 0 ∷ 1 ∷ [])) (padded 16 ([])) (padded 16 (26 ∷ [])) (padded 2 (1 ∷ [])) (counts 2 0 2 1)) (lent (97 ∷ 32 ∷ 43 ∷ 32 ∷ 98 ∷ []) (padded 80 (2 ∷ 0 ∷ 25 ∷ 0 ∷ 1 ∷ 0 ∷ 0 ∷ 0 ∷ 0 ∷ 0 ∷ 0 ∷ 0 ∷ 0 ∷ 0 ∷ 0 ∷ 0 ∷ 2 ∷ 0 ∷ 25 ∷ 4 ∷ 1 ∷ 0 ∷ 0 ∷ 0 ∷ 0 ∷ 0 ∷ 0 ∷ 0 ∷ 0 ∷ 0 ∷ 0 ∷ 0 ∷ 3 ∷ 2 ∷ 4 ∷ 2 ∷ 1 ∷ 0 ∷ 1 ∷ [])) (padded 40 ([])) (padded 40 ([])) (padded 5 (2 ∷ [])) (counts 3 0 0 1)) ≡ refused 4
+-- type past the types, left
+case-89 : compare (lent (97 ∷ 97 ∷ []) (padded 32 (2 ∷ 0 ∷ 25 ∷ 0 ∷ 1 ∷ 0 ∷ 0 ∷ 0 ∷ 0 ∷ 0 ∷ 0 ∷ 0 ∷ 0 ∷ 0 ∷ 0 ∷ 0 ∷ 10 ∷ 1 ∷ 32 ∷ 0 ∷ 2 ∷ [])) (padded 16 ([])) (padded 16 ([])) (padded 2 (1 ∷ [])) (counts 2 0 0 1)) (lent (97 ∷ 32 ∷ 43 ∷ 32 ∷ 98 ∷ []) (padded 80 (2 ∷ 0 ∷ 25 ∷ 0 ∷ 1 ∷ 0 ∷ 0 ∷ 0 ∷ 0 ∷ 0 ∷ 0 ∷ 0 ∷ 0 ∷ 0 ∷ 0 ∷ 0 ∷ 2 ∷ 0 ∷ 25 ∷ 4 ∷ 1 ∷ 0 ∷ 0 ∷ 0 ∷ 0 ∷ 0 ∷ 0 ∷ 0 ∷ 0 ∷ 0 ∷ 0 ∷ 0 ∷ 3 ∷ 2 ∷ 4 ∷ 2 ∷ 1 ∷ 0 ∷ 1 ∷ [])) (padded 40 ([])) (padded 40 ([])) (padded 5 (2 ∷ [])) (counts 3 0 0 1)) ≡ refused 4
 unfolding comparison
 case-89 = refl
 
--- docs past the list cells, right
-case-90 : compare (lent (97 ∷ 32 ∷ 43 ∷ 32 ∷ 98 ∷ []) (padded 80 (2 ∷ 0 ∷ 25 ∷ 0 ∷ 1 ∷ 0 ∷ 0 ∷ 0 ∷ 0 ∷ 0 ∷ 0 ∷ 0 ∷ 0 ∷ 0 ∷ 0 ∷ 0 ∷ 2 ∷ 0 ∷ 25 ∷ 4 ∷ 1 ∷ 0 ∷ 0 ∷ 0 ∷ 0 ∷ 0 ∷ 0 ∷ 0 ∷ 0 ∷ 0 ∷ 0 ∷ 0 ∷ 3 ∷ 2 ∷ 4 ∷ 2 ∷ 1 ∷ 0 ∷ 1 ∷ [])) (padded 40 ([])) (padded 40 ([])) (padded 5 (2 ∷ [])) (counts 3 0 0 1)) (lent (97 ∷ 97 ∷ []) (padded 32 (2 ∷ 0 ∷ 25 ∷ 0 ∷ 1 ∷ 0 ∷ 0 ∷ 0 ∷ 0 ∷ 0 ∷ 0 ∷ 0 ∷ 0 ∷ 0 ∷ 0 ∷ 0 ∷ 5 ∷ 1 ∷ 0 ∷ 1 ∷ 25 ∷ 0 ∷ 1 ∷ [])) (padded 16 ([])) (padded 16 (26 ∷ [])) (padded 2 (1 ∷ [])) (counts 2 0 2 1)) ≡ refused 4
+-- type past the types, right
+case-90 : compare (lent (97 ∷ 32 ∷ 43 ∷ 32 ∷ 98 ∷ []) (padded 80 (2 ∷ 0 ∷ 25 ∷ 0 ∷ 1 ∷ 0 ∷ 0 ∷ 0 ∷ 0 ∷ 0 ∷ 0 ∷ 0 ∷ 0 ∷ 0 ∷ 0 ∷ 0 ∷ 2 ∷ 0 ∷ 25 ∷ 4 ∷ 1 ∷ 0 ∷ 0 ∷ 0 ∷ 0 ∷ 0 ∷ 0 ∷ 0 ∷ 0 ∷ 0 ∷ 0 ∷ 0 ∷ 3 ∷ 2 ∷ 4 ∷ 2 ∷ 1 ∷ 0 ∷ 1 ∷ [])) (padded 40 ([])) (padded 40 ([])) (padded 5 (2 ∷ [])) (counts 3 0 0 1)) (lent (97 ∷ 97 ∷ []) (padded 32 (2 ∷ 0 ∷ 25 ∷ 0 ∷ 1 ∷ 0 ∷ 0 ∷ 0 ∷ 0 ∷ 0 ∷ 0 ∷ 0 ∷ 0 ∷ 0 ∷ 0 ∷ 0 ∷ 10 ∷ 1 ∷ 32 ∷ 0 ∷ 2 ∷ [])) (padded 16 ([])) (padded 16 ([])) (padded 2 (1 ∷ [])) (counts 2 0 0 1)) ≡ refused 4
 unfolding comparison
 case-90 = refl
 
--- spelling past the script, left
-case-91 : compare (lent (97 ∷ 97 ∷ []) (padded 32 (2 ∷ 0 ∷ 25 ∷ 1 ∷ 2 ∷ [])) (padded 16 ([])) (padded 16 ([])) (padded 2 ([])) (counts 1 0 0 1)) (lent (97 ∷ 32 ∷ 43 ∷ 32 ∷ 98 ∷ []) (padded 80 (2 ∷ 0 ∷ 25 ∷ 0 ∷ 1 ∷ 0 ∷ 0 ∷ 0 ∷ 0 ∷ 0 ∷ 0 ∷ 0 ∷ 0 ∷ 0 ∷ 0 ∷ 0 ∷ 2 ∷ 0 ∷ 25 ∷ 4 ∷ 1 ∷ 0 ∷ 0 ∷ 0 ∷ 0 ∷ 0 ∷ 0 ∷ 0 ∷ 0 ∷ 0 ∷ 0 ∷ 0 ∷ 3 ∷ 2 ∷ 4 ∷ 2 ∷ 1 ∷ 0 ∷ 1 ∷ [])) (padded 40 ([])) (padded 40 ([])) (padded 5 (2 ∷ [])) (counts 3 0 0 1)) ≡ refused 4
+-- type of an unknown kind, left
+case-91 : compare (lent (97 ∷ 97 ∷ []) (padded 32 (2 ∷ 0 ∷ 25 ∷ 0 ∷ 1 ∷ 0 ∷ 0 ∷ 0 ∷ 0 ∷ 0 ∷ 0 ∷ 0 ∷ 0 ∷ 0 ∷ 0 ∷ 0 ∷ 10 ∷ 1 ∷ 32 ∷ 0 ∷ 2 ∷ [])) (padded 16 (6 ∷ 36 ∷ 0 ∷ 3 ∷ [])) (padded 16 ([])) (padded 2 (1 ∷ [])) (counts 2 1 0 1)) (lent (97 ∷ 32 ∷ 43 ∷ 32 ∷ 98 ∷ []) (padded 80 (2 ∷ 0 ∷ 25 ∷ 0 ∷ 1 ∷ 0 ∷ 0 ∷ 0 ∷ 0 ∷ 0 ∷ 0 ∷ 0 ∷ 0 ∷ 0 ∷ 0 ∷ 0 ∷ 2 ∷ 0 ∷ 25 ∷ 4 ∷ 1 ∷ 0 ∷ 0 ∷ 0 ∷ 0 ∷ 0 ∷ 0 ∷ 0 ∷ 0 ∷ 0 ∷ 0 ∷ 0 ∷ 3 ∷ 2 ∷ 4 ∷ 2 ∷ 1 ∷ 0 ∷ 1 ∷ [])) (padded 40 ([])) (padded 40 ([])) (padded 5 (2 ∷ [])) (counts 3 0 0 1)) ≡ refused 4
 unfolding comparison
 case-91 = refl
 
--- spelling past the script, right
-case-92 : compare (lent (97 ∷ 32 ∷ 43 ∷ 32 ∷ 98 ∷ []) (padded 80 (2 ∷ 0 ∷ 25 ∷ 0 ∷ 1 ∷ 0 ∷ 0 ∷ 0 ∷ 0 ∷ 0 ∷ 0 ∷ 0 ∷ 0 ∷ 0 ∷ 0 ∷ 0 ∷ 2 ∷ 0 ∷ 25 ∷ 4 ∷ 1 ∷ 0 ∷ 0 ∷ 0 ∷ 0 ∷ 0 ∷ 0 ∷ 0 ∷ 0 ∷ 0 ∷ 0 ∷ 0 ∷ 3 ∷ 2 ∷ 4 ∷ 2 ∷ 1 ∷ 0 ∷ 1 ∷ [])) (padded 40 ([])) (padded 40 ([])) (padded 5 (2 ∷ [])) (counts 3 0 0 1)) (lent (97 ∷ 97 ∷ []) (padded 32 (2 ∷ 0 ∷ 25 ∷ 1 ∷ 2 ∷ [])) (padded 16 ([])) (padded 16 ([])) (padded 2 ([])) (counts 1 0 0 1)) ≡ refused 4
+-- type of an unknown kind, right
+case-92 : compare (lent (97 ∷ 32 ∷ 43 ∷ 32 ∷ 98 ∷ []) (padded 80 (2 ∷ 0 ∷ 25 ∷ 0 ∷ 1 ∷ 0 ∷ 0 ∷ 0 ∷ 0 ∷ 0 ∷ 0 ∷ 0 ∷ 0 ∷ 0 ∷ 0 ∷ 0 ∷ 2 ∷ 0 ∷ 25 ∷ 4 ∷ 1 ∷ 0 ∷ 0 ∷ 0 ∷ 0 ∷ 0 ∷ 0 ∷ 0 ∷ 0 ∷ 0 ∷ 0 ∷ 0 ∷ 3 ∷ 2 ∷ 4 ∷ 2 ∷ 1 ∷ 0 ∷ 1 ∷ [])) (padded 40 ([])) (padded 40 ([])) (padded 5 (2 ∷ [])) (counts 3 0 0 1)) (lent (97 ∷ 97 ∷ []) (padded 32 (2 ∷ 0 ∷ 25 ∷ 0 ∷ 1 ∷ 0 ∷ 0 ∷ 0 ∷ 0 ∷ 0 ∷ 0 ∷ 0 ∷ 0 ∷ 0 ∷ 0 ∷ 0 ∷ 10 ∷ 1 ∷ 32 ∷ 0 ∷ 2 ∷ [])) (padded 16 (6 ∷ 36 ∷ 0 ∷ 3 ∷ [])) (padded 16 ([])) (padded 2 (1 ∷ [])) (counts 2 1 0 1)) ≡ refused 4
 unfolding comparison
 case-92 = refl
 
--- case's own token of an unknown kind, left
-case-93 : compare (lent (97 ∷ 98 ∷ 99 ∷ []) (padded 48 (2 ∷ 0 ∷ 25 ∷ 0 ∷ 1 ∷ 0 ∷ 0 ∷ 0 ∷ 0 ∷ 0 ∷ 0 ∷ 0 ∷ 0 ∷ 0 ∷ 0 ∷ 0 ∷ 2 ∷ 0 ∷ 25 ∷ 1 ∷ 1 ∷ 0 ∷ 0 ∷ 0 ∷ 0 ∷ 0 ∷ 0 ∷ 0 ∷ 0 ∷ 0 ∷ 0 ∷ 0 ∷ 7 ∷ 2 ∷ 0 ∷ 1 ∷ 20 ∷ 0 ∷ 1 ∷ 7 ∷ 1 ∷ [])) (padded 24 ([])) (padded 24 (99 ∷ 0 ∷ 1 ∷ 0 ∷ 6 ∷ 1 ∷ 1 ∷ 1 ∷ [])) (padded 3 (2 ∷ [])) (counts 3 0 8 1)) (lent (97 ∷ 32 ∷ 43 ∷ 32 ∷ 98 ∷ []) (padded 80 (2 ∷ 0 ∷ 25 ∷ 0 ∷ 1 ∷ 0 ∷ 0 ∷ 0 ∷ 0 ∷ 0 ∷ 0 ∷ 0 ∷ 0 ∷ 0 ∷ 0 ∷ 0 ∷ 2 ∷ 0 ∷ 25 ∷ 4 ∷ 1 ∷ 0 ∷ 0 ∷ 0 ∷ 0 ∷ 0 ∷ 0 ∷ 0 ∷ 0 ∷ 0 ∷ 0 ∷ 0 ∷ 3 ∷ 2 ∷ 4 ∷ 2 ∷ 1 ∷ 0 ∷ 1 ∷ [])) (padded 40 ([])) (padded 40 ([])) (padded 5 (2 ∷ [])) (counts 3 0 0 1)) ≡ refused 4
+-- docs past the list cells, left
+case-93 : compare (lent (97 ∷ 97 ∷ []) (padded 32 (2 ∷ 0 ∷ 25 ∷ 0 ∷ 1 ∷ 0 ∷ 0 ∷ 0 ∷ 0 ∷ 0 ∷ 0 ∷ 0 ∷ 0 ∷ 0 ∷ 0 ∷ 0 ∷ 5 ∷ 1 ∷ 0 ∷ 1 ∷ 25 ∷ 0 ∷ 1 ∷ [])) (padded 16 ([])) (padded 16 (26 ∷ [])) (padded 2 (1 ∷ [])) (counts 2 0 2 1)) (lent (97 ∷ 32 ∷ 43 ∷ 32 ∷ 98 ∷ []) (padded 80 (2 ∷ 0 ∷ 25 ∷ 0 ∷ 1 ∷ 0 ∷ 0 ∷ 0 ∷ 0 ∷ 0 ∷ 0 ∷ 0 ∷ 0 ∷ 0 ∷ 0 ∷ 0 ∷ 2 ∷ 0 ∷ 25 ∷ 4 ∷ 1 ∷ 0 ∷ 0 ∷ 0 ∷ 0 ∷ 0 ∷ 0 ∷ 0 ∷ 0 ∷ 0 ∷ 0 ∷ 0 ∷ 3 ∷ 2 ∷ 4 ∷ 2 ∷ 1 ∷ 0 ∷ 1 ∷ [])) (padded 40 ([])) (padded 40 ([])) (padded 5 (2 ∷ [])) (counts 3 0 0 1)) ≡ refused 4
 unfolding comparison
 case-93 = refl
 
--- case's own token of an unknown kind, right
-case-94 : compare (lent (97 ∷ 32 ∷ 43 ∷ 32 ∷ 98 ∷ []) (padded 80 (2 ∷ 0 ∷ 25 ∷ 0 ∷ 1 ∷ 0 ∷ 0 ∷ 0 ∷ 0 ∷ 0 ∷ 0 ∷ 0 ∷ 0 ∷ 0 ∷ 0 ∷ 0 ∷ 2 ∷ 0 ∷ 25 ∷ 4 ∷ 1 ∷ 0 ∷ 0 ∷ 0 ∷ 0 ∷ 0 ∷ 0 ∷ 0 ∷ 0 ∷ 0 ∷ 0 ∷ 0 ∷ 3 ∷ 2 ∷ 4 ∷ 2 ∷ 1 ∷ 0 ∷ 1 ∷ [])) (padded 40 ([])) (padded 40 ([])) (padded 5 (2 ∷ [])) (counts 3 0 0 1)) (lent (97 ∷ 98 ∷ 99 ∷ []) (padded 48 (2 ∷ 0 ∷ 25 ∷ 0 ∷ 1 ∷ 0 ∷ 0 ∷ 0 ∷ 0 ∷ 0 ∷ 0 ∷ 0 ∷ 0 ∷ 0 ∷ 0 ∷ 0 ∷ 2 ∷ 0 ∷ 25 ∷ 1 ∷ 1 ∷ 0 ∷ 0 ∷ 0 ∷ 0 ∷ 0 ∷ 0 ∷ 0 ∷ 0 ∷ 0 ∷ 0 ∷ 0 ∷ 7 ∷ 2 ∷ 0 ∷ 1 ∷ 20 ∷ 0 ∷ 1 ∷ 7 ∷ 1 ∷ [])) (padded 24 ([])) (padded 24 (99 ∷ 0 ∷ 1 ∷ 0 ∷ 6 ∷ 1 ∷ 1 ∷ 1 ∷ [])) (padded 3 (2 ∷ [])) (counts 3 0 8 1)) ≡ refused 4
+-- docs past the list cells, right
+case-94 : compare (lent (97 ∷ 32 ∷ 43 ∷ 32 ∷ 98 ∷ []) (padded 80 (2 ∷ 0 ∷ 25 ∷ 0 ∷ 1 ∷ 0 ∷ 0 ∷ 0 ∷ 0 ∷ 0 ∷ 0 ∷ 0 ∷ 0 ∷ 0 ∷ 0 ∷ 0 ∷ 2 ∷ 0 ∷ 25 ∷ 4 ∷ 1 ∷ 0 ∷ 0 ∷ 0 ∷ 0 ∷ 0 ∷ 0 ∷ 0 ∷ 0 ∷ 0 ∷ 0 ∷ 0 ∷ 3 ∷ 2 ∷ 4 ∷ 2 ∷ 1 ∷ 0 ∷ 1 ∷ [])) (padded 40 ([])) (padded 40 ([])) (padded 5 (2 ∷ [])) (counts 3 0 0 1)) (lent (97 ∷ 97 ∷ []) (padded 32 (2 ∷ 0 ∷ 25 ∷ 0 ∷ 1 ∷ 0 ∷ 0 ∷ 0 ∷ 0 ∷ 0 ∷ 0 ∷ 0 ∷ 0 ∷ 0 ∷ 0 ∷ 0 ∷ 5 ∷ 1 ∷ 0 ∷ 1 ∷ 25 ∷ 0 ∷ 1 ∷ [])) (padded 16 ([])) (padded 16 (26 ∷ [])) (padded 2 (1 ∷ [])) (counts 2 0 2 1)) ≡ refused 4
 unfolding comparison
 case-94 = refl
 
--- case's own token past the script, left
-case-95 : compare (lent (97 ∷ 98 ∷ 99 ∷ []) (padded 48 (2 ∷ 0 ∷ 25 ∷ 0 ∷ 1 ∷ 0 ∷ 0 ∷ 0 ∷ 0 ∷ 0 ∷ 0 ∷ 0 ∷ 0 ∷ 0 ∷ 0 ∷ 0 ∷ 2 ∷ 0 ∷ 25 ∷ 1 ∷ 1 ∷ 0 ∷ 0 ∷ 0 ∷ 0 ∷ 0 ∷ 0 ∷ 0 ∷ 0 ∷ 0 ∷ 0 ∷ 0 ∷ 7 ∷ 2 ∷ 0 ∷ 1 ∷ 20 ∷ 0 ∷ 1 ∷ 7 ∷ 1 ∷ [])) (padded 24 ([])) (padded 24 (25 ∷ 3 ∷ 1 ∷ 0 ∷ 6 ∷ 1 ∷ 1 ∷ 1 ∷ [])) (padded 3 (2 ∷ [])) (counts 3 0 8 1)) (lent (97 ∷ 32 ∷ 43 ∷ 32 ∷ 98 ∷ []) (padded 80 (2 ∷ 0 ∷ 25 ∷ 0 ∷ 1 ∷ 0 ∷ 0 ∷ 0 ∷ 0 ∷ 0 ∷ 0 ∷ 0 ∷ 0 ∷ 0 ∷ 0 ∷ 0 ∷ 2 ∷ 0 ∷ 25 ∷ 4 ∷ 1 ∷ 0 ∷ 0 ∷ 0 ∷ 0 ∷ 0 ∷ 0 ∷ 0 ∷ 0 ∷ 0 ∷ 0 ∷ 0 ∷ 3 ∷ 2 ∷ 4 ∷ 2 ∷ 1 ∷ 0 ∷ 1 ∷ [])) (padded 40 ([])) (padded 40 ([])) (padded 5 (2 ∷ [])) (counts 3 0 0 1)) ≡ refused 4
+-- spelling past the script, left
+case-95 : compare (lent (97 ∷ 97 ∷ []) (padded 32 (2 ∷ 0 ∷ 25 ∷ 1 ∷ 2 ∷ [])) (padded 16 ([])) (padded 16 ([])) (padded 2 ([])) (counts 1 0 0 1)) (lent (97 ∷ 32 ∷ 43 ∷ 32 ∷ 98 ∷ []) (padded 80 (2 ∷ 0 ∷ 25 ∷ 0 ∷ 1 ∷ 0 ∷ 0 ∷ 0 ∷ 0 ∷ 0 ∷ 0 ∷ 0 ∷ 0 ∷ 0 ∷ 0 ∷ 0 ∷ 2 ∷ 0 ∷ 25 ∷ 4 ∷ 1 ∷ 0 ∷ 0 ∷ 0 ∷ 0 ∷ 0 ∷ 0 ∷ 0 ∷ 0 ∷ 0 ∷ 0 ∷ 0 ∷ 3 ∷ 2 ∷ 4 ∷ 2 ∷ 1 ∷ 0 ∷ 1 ∷ [])) (padded 40 ([])) (padded 40 ([])) (padded 5 (2 ∷ [])) (counts 3 0 0 1)) ≡ refused 4
 unfolding comparison
 case-95 = refl
 
--- case's own token past the script, right
-case-96 : compare (lent (97 ∷ 32 ∷ 43 ∷ 32 ∷ 98 ∷ []) (padded 80 (2 ∷ 0 ∷ 25 ∷ 0 ∷ 1 ∷ 0 ∷ 0 ∷ 0 ∷ 0 ∷ 0 ∷ 0 ∷ 0 ∷ 0 ∷ 0 ∷ 0 ∷ 0 ∷ 2 ∷ 0 ∷ 25 ∷ 4 ∷ 1 ∷ 0 ∷ 0 ∷ 0 ∷ 0 ∷ 0 ∷ 0 ∷ 0 ∷ 0 ∷ 0 ∷ 0 ∷ 0 ∷ 3 ∷ 2 ∷ 4 ∷ 2 ∷ 1 ∷ 0 ∷ 1 ∷ [])) (padded 40 ([])) (padded 40 ([])) (padded 5 (2 ∷ [])) (counts 3 0 0 1)) (lent (97 ∷ 98 ∷ 99 ∷ []) (padded 48 (2 ∷ 0 ∷ 25 ∷ 0 ∷ 1 ∷ 0 ∷ 0 ∷ 0 ∷ 0 ∷ 0 ∷ 0 ∷ 0 ∷ 0 ∷ 0 ∷ 0 ∷ 0 ∷ 2 ∷ 0 ∷ 25 ∷ 1 ∷ 1 ∷ 0 ∷ 0 ∷ 0 ∷ 0 ∷ 0 ∷ 0 ∷ 0 ∷ 0 ∷ 0 ∷ 0 ∷ 0 ∷ 7 ∷ 2 ∷ 0 ∷ 1 ∷ 20 ∷ 0 ∷ 1 ∷ 7 ∷ 1 ∷ [])) (padded 24 ([])) (padded 24 (25 ∷ 3 ∷ 1 ∷ 0 ∷ 6 ∷ 1 ∷ 1 ∷ 1 ∷ [])) (padded 3 (2 ∷ [])) (counts 3 0 8 1)) ≡ refused 4
+-- spelling past the script, right
+case-96 : compare (lent (97 ∷ 32 ∷ 43 ∷ 32 ∷ 98 ∷ []) (padded 80 (2 ∷ 0 ∷ 25 ∷ 0 ∷ 1 ∷ 0 ∷ 0 ∷ 0 ∷ 0 ∷ 0 ∷ 0 ∷ 0 ∷ 0 ∷ 0 ∷ 0 ∷ 0 ∷ 2 ∷ 0 ∷ 25 ∷ 4 ∷ 1 ∷ 0 ∷ 0 ∷ 0 ∷ 0 ∷ 0 ∷ 0 ∷ 0 ∷ 0 ∷ 0 ∷ 0 ∷ 0 ∷ 3 ∷ 2 ∷ 4 ∷ 2 ∷ 1 ∷ 0 ∷ 1 ∷ [])) (padded 40 ([])) (padded 40 ([])) (padded 5 (2 ∷ [])) (counts 3 0 0 1)) (lent (97 ∷ 97 ∷ []) (padded 32 (2 ∷ 0 ∷ 25 ∷ 1 ∷ 2 ∷ [])) (padded 16 ([])) (padded 16 ([])) (padded 2 ([])) (counts 1 0 0 1)) ≡ refused 4
 unfolding comparison
 case-96 = refl
 
--- default's token of an unknown kind, left
-case-97 : compare (lent (97 ∷ 97 ∷ []) (padded 32 (7 ∷ 0 ∷ 0 ∷ 0 ∷ 44 ∷ 0 ∷ 1 ∷ [])) (padded 16 ([])) (padded 16 ([])) (padded 2 ([])) (counts 1 0 0 1)) (lent (97 ∷ 32 ∷ 43 ∷ 32 ∷ 98 ∷ []) (padded 80 (2 ∷ 0 ∷ 25 ∷ 0 ∷ 1 ∷ 0 ∷ 0 ∷ 0 ∷ 0 ∷ 0 ∷ 0 ∷ 0 ∷ 0 ∷ 0 ∷ 0 ∷ 0 ∷ 2 ∷ 0 ∷ 25 ∷ 4 ∷ 1 ∷ 0 ∷ 0 ∷ 0 ∷ 0 ∷ 0 ∷ 0 ∷ 0 ∷ 0 ∷ 0 ∷ 0 ∷ 0 ∷ 3 ∷ 2 ∷ 4 ∷ 2 ∷ 1 ∷ 0 ∷ 1 ∷ [])) (padded 40 ([])) (padded 40 ([])) (padded 5 (2 ∷ [])) (counts 3 0 0 1)) ≡ refused 4
+-- case's own token of an unknown kind, left
+case-97 : compare (lent (97 ∷ 98 ∷ 99 ∷ []) (padded 48 (2 ∷ 0 ∷ 25 ∷ 0 ∷ 1 ∷ 0 ∷ 0 ∷ 0 ∷ 0 ∷ 0 ∷ 0 ∷ 0 ∷ 0 ∷ 0 ∷ 0 ∷ 0 ∷ 2 ∷ 0 ∷ 25 ∷ 1 ∷ 1 ∷ 0 ∷ 0 ∷ 0 ∷ 0 ∷ 0 ∷ 0 ∷ 0 ∷ 0 ∷ 0 ∷ 0 ∷ 0 ∷ 7 ∷ 2 ∷ 0 ∷ 1 ∷ 20 ∷ 0 ∷ 1 ∷ 7 ∷ 1 ∷ [])) (padded 24 ([])) (padded 24 (99 ∷ 0 ∷ 1 ∷ 0 ∷ 6 ∷ 1 ∷ 1 ∷ 1 ∷ [])) (padded 3 (2 ∷ [])) (counts 3 0 8 1)) (lent (97 ∷ 32 ∷ 43 ∷ 32 ∷ 98 ∷ []) (padded 80 (2 ∷ 0 ∷ 25 ∷ 0 ∷ 1 ∷ 0 ∷ 0 ∷ 0 ∷ 0 ∷ 0 ∷ 0 ∷ 0 ∷ 0 ∷ 0 ∷ 0 ∷ 0 ∷ 2 ∷ 0 ∷ 25 ∷ 4 ∷ 1 ∷ 0 ∷ 0 ∷ 0 ∷ 0 ∷ 0 ∷ 0 ∷ 0 ∷ 0 ∷ 0 ∷ 0 ∷ 0 ∷ 3 ∷ 2 ∷ 4 ∷ 2 ∷ 1 ∷ 0 ∷ 1 ∷ [])) (padded 40 ([])) (padded 40 ([])) (padded 5 (2 ∷ [])) (counts 3 0 0 1)) ≡ refused 4
 unfolding comparison
 case-97 = refl
 
--- default's token of an unknown kind, right
-case-98 : compare (lent (97 ∷ 32 ∷ 43 ∷ 32 ∷ 98 ∷ []) (padded 80 (2 ∷ 0 ∷ 25 ∷ 0 ∷ 1 ∷ 0 ∷ 0 ∷ 0 ∷ 0 ∷ 0 ∷ 0 ∷ 0 ∷ 0 ∷ 0 ∷ 0 ∷ 0 ∷ 2 ∷ 0 ∷ 25 ∷ 4 ∷ 1 ∷ 0 ∷ 0 ∷ 0 ∷ 0 ∷ 0 ∷ 0 ∷ 0 ∷ 0 ∷ 0 ∷ 0 ∷ 0 ∷ 3 ∷ 2 ∷ 4 ∷ 2 ∷ 1 ∷ 0 ∷ 1 ∷ [])) (padded 40 ([])) (padded 40 ([])) (padded 5 (2 ∷ [])) (counts 3 0 0 1)) (lent (97 ∷ 97 ∷ []) (padded 32 (7 ∷ 0 ∷ 0 ∷ 0 ∷ 44 ∷ 0 ∷ 1 ∷ [])) (padded 16 ([])) (padded 16 ([])) (padded 2 ([])) (counts 1 0 0 1)) ≡ refused 4
+-- case's own token of an unknown kind, right
+case-98 : compare (lent (97 ∷ 32 ∷ 43 ∷ 32 ∷ 98 ∷ []) (padded 80 (2 ∷ 0 ∷ 25 ∷ 0 ∷ 1 ∷ 0 ∷ 0 ∷ 0 ∷ 0 ∷ 0 ∷ 0 ∷ 0 ∷ 0 ∷ 0 ∷ 0 ∷ 0 ∷ 2 ∷ 0 ∷ 25 ∷ 4 ∷ 1 ∷ 0 ∷ 0 ∷ 0 ∷ 0 ∷ 0 ∷ 0 ∷ 0 ∷ 0 ∷ 0 ∷ 0 ∷ 0 ∷ 3 ∷ 2 ∷ 4 ∷ 2 ∷ 1 ∷ 0 ∷ 1 ∷ [])) (padded 40 ([])) (padded 40 ([])) (padded 5 (2 ∷ [])) (counts 3 0 0 1)) (lent (97 ∷ 98 ∷ 99 ∷ []) (padded 48 (2 ∷ 0 ∷ 25 ∷ 0 ∷ 1 ∷ 0 ∷ 0 ∷ 0 ∷ 0 ∷ 0 ∷ 0 ∷ 0 ∷ 0 ∷ 0 ∷ 0 ∷ 0 ∷ 2 ∷ 0 ∷ 25 ∷ 1 ∷ 1 ∷ 0 ∷ 0 ∷ 0 ∷ 0 ∷ 0 ∷ 0 ∷ 0 ∷ 0 ∷ 0 ∷ 0 ∷ 0 ∷ 7 ∷ 2 ∷ 0 ∷ 1 ∷ 20 ∷ 0 ∷ 1 ∷ 7 ∷ 1 ∷ [])) (padded 24 ([])) (padded 24 (99 ∷ 0 ∷ 1 ∷ 0 ∷ 6 ∷ 1 ∷ 1 ∷ 1 ∷ [])) (padded 3 (2 ∷ [])) (counts 3 0 8 1)) ≡ refused 4
 unfolding comparison
 case-98 = refl
 
--- nodes one cell short, left
-case-99 : compare (lent (97 ∷ 97 ∷ []) (padded 31 (15 ∷ [])) (padded 16 ([])) (padded 16 ([])) (padded 2 ([])) (counts 1 0 0 1)) (lent (97 ∷ 32 ∷ 43 ∷ 32 ∷ 98 ∷ []) (padded 80 (2 ∷ 0 ∷ 25 ∷ 0 ∷ 1 ∷ 0 ∷ 0 ∷ 0 ∷ 0 ∷ 0 ∷ 0 ∷ 0 ∷ 0 ∷ 0 ∷ 0 ∷ 0 ∷ 2 ∷ 0 ∷ 25 ∷ 4 ∷ 1 ∷ 0 ∷ 0 ∷ 0 ∷ 0 ∷ 0 ∷ 0 ∷ 0 ∷ 0 ∷ 0 ∷ 0 ∷ 0 ∷ 3 ∷ 2 ∷ 4 ∷ 2 ∷ 1 ∷ 0 ∷ 1 ∷ [])) (padded 40 ([])) (padded 40 ([])) (padded 5 (2 ∷ [])) (counts 3 0 0 1)) ≡ refused 2
+-- case's own token past the script, left
+case-99 : compare (lent (97 ∷ 98 ∷ 99 ∷ []) (padded 48 (2 ∷ 0 ∷ 25 ∷ 0 ∷ 1 ∷ 0 ∷ 0 ∷ 0 ∷ 0 ∷ 0 ∷ 0 ∷ 0 ∷ 0 ∷ 0 ∷ 0 ∷ 0 ∷ 2 ∷ 0 ∷ 25 ∷ 1 ∷ 1 ∷ 0 ∷ 0 ∷ 0 ∷ 0 ∷ 0 ∷ 0 ∷ 0 ∷ 0 ∷ 0 ∷ 0 ∷ 0 ∷ 7 ∷ 2 ∷ 0 ∷ 1 ∷ 20 ∷ 0 ∷ 1 ∷ 7 ∷ 1 ∷ [])) (padded 24 ([])) (padded 24 (25 ∷ 3 ∷ 1 ∷ 0 ∷ 6 ∷ 1 ∷ 1 ∷ 1 ∷ [])) (padded 3 (2 ∷ [])) (counts 3 0 8 1)) (lent (97 ∷ 32 ∷ 43 ∷ 32 ∷ 98 ∷ []) (padded 80 (2 ∷ 0 ∷ 25 ∷ 0 ∷ 1 ∷ 0 ∷ 0 ∷ 0 ∷ 0 ∷ 0 ∷ 0 ∷ 0 ∷ 0 ∷ 0 ∷ 0 ∷ 0 ∷ 2 ∷ 0 ∷ 25 ∷ 4 ∷ 1 ∷ 0 ∷ 0 ∷ 0 ∷ 0 ∷ 0 ∷ 0 ∷ 0 ∷ 0 ∷ 0 ∷ 0 ∷ 0 ∷ 3 ∷ 2 ∷ 4 ∷ 2 ∷ 1 ∷ 0 ∷ 1 ∷ [])) (padded 40 ([])) (padded 40 ([])) (padded 5 (2 ∷ [])) (counts 3 0 0 1)) ≡ refused 4
 unfolding comparison
 case-99 = refl
 
--- nodes one cell short, right
-case-100 : compare (lent (97 ∷ 32 ∷ 43 ∷ 32 ∷ 98 ∷ []) (padded 80 (2 ∷ 0 ∷ 25 ∷ 0 ∷ 1 ∷ 0 ∷ 0 ∷ 0 ∷ 0 ∷ 0 ∷ 0 ∷ 0 ∷ 0 ∷ 0 ∷ 0 ∷ 0 ∷ 2 ∷ 0 ∷ 25 ∷ 4 ∷ 1 ∷ 0 ∷ 0 ∷ 0 ∷ 0 ∷ 0 ∷ 0 ∷ 0 ∷ 0 ∷ 0 ∷ 0 ∷ 0 ∷ 3 ∷ 2 ∷ 4 ∷ 2 ∷ 1 ∷ 0 ∷ 1 ∷ [])) (padded 40 ([])) (padded 40 ([])) (padded 5 (2 ∷ [])) (counts 3 0 0 1)) (lent (97 ∷ 97 ∷ []) (padded 31 (15 ∷ [])) (padded 16 ([])) (padded 16 ([])) (padded 2 ([])) (counts 1 0 0 1)) ≡ refused 2
+-- case's own token past the script, right
+case-100 : compare (lent (97 ∷ 32 ∷ 43 ∷ 32 ∷ 98 ∷ []) (padded 80 (2 ∷ 0 ∷ 25 ∷ 0 ∷ 1 ∷ 0 ∷ 0 ∷ 0 ∷ 0 ∷ 0 ∷ 0 ∷ 0 ∷ 0 ∷ 0 ∷ 0 ∷ 0 ∷ 2 ∷ 0 ∷ 25 ∷ 4 ∷ 1 ∷ 0 ∷ 0 ∷ 0 ∷ 0 ∷ 0 ∷ 0 ∷ 0 ∷ 0 ∷ 0 ∷ 0 ∷ 0 ∷ 3 ∷ 2 ∷ 4 ∷ 2 ∷ 1 ∷ 0 ∷ 1 ∷ [])) (padded 40 ([])) (padded 40 ([])) (padded 5 (2 ∷ [])) (counts 3 0 0 1)) (lent (97 ∷ 98 ∷ 99 ∷ []) (padded 48 (2 ∷ 0 ∷ 25 ∷ 0 ∷ 1 ∷ 0 ∷ 0 ∷ 0 ∷ 0 ∷ 0 ∷ 0 ∷ 0 ∷ 0 ∷ 0 ∷ 0 ∷ 0 ∷ 2 ∷ 0 ∷ 25 ∷ 1 ∷ 1 ∷ 0 ∷ 0 ∷ 0 ∷ 0 ∷ 0 ∷ 0 ∷ 0 ∷ 0 ∷ 0 ∷ 0 ∷ 0 ∷ 7 ∷ 2 ∷ 0 ∷ 1 ∷ 20 ∷ 0 ∷ 1 ∷ 7 ∷ 1 ∷ [])) (padded 24 ([])) (padded 24 (25 ∷ 3 ∷ 1 ∷ 0 ∷ 6 ∷ 1 ∷ 1 ∷ 1 ∷ [])) (padded 3 (2 ∷ [])) (counts 3 0 8 1)) ≡ refused 4
 unfolding comparison
 case-100 = refl
 
--- types one cell short, left
-case-101 : compare (lent (97 ∷ 97 ∷ []) (padded 32 (15 ∷ [])) (padded 15 ([])) (padded 16 ([])) (padded 2 ([])) (counts 1 0 0 1)) (lent (97 ∷ 32 ∷ 43 ∷ 32 ∷ 98 ∷ []) (padded 80 (2 ∷ 0 ∷ 25 ∷ 0 ∷ 1 ∷ 0 ∷ 0 ∷ 0 ∷ 0 ∷ 0 ∷ 0 ∷ 0 ∷ 0 ∷ 0 ∷ 0 ∷ 0 ∷ 2 ∷ 0 ∷ 25 ∷ 4 ∷ 1 ∷ 0 ∷ 0 ∷ 0 ∷ 0 ∷ 0 ∷ 0 ∷ 0 ∷ 0 ∷ 0 ∷ 0 ∷ 0 ∷ 3 ∷ 2 ∷ 4 ∷ 2 ∷ 1 ∷ 0 ∷ 1 ∷ [])) (padded 40 ([])) (padded 40 ([])) (padded 5 (2 ∷ [])) (counts 3 0 0 1)) ≡ refused 2
+-- default's token of an unknown kind, left
+case-101 : compare (lent (97 ∷ 97 ∷ []) (padded 32 (7 ∷ 0 ∷ 0 ∷ 0 ∷ 44 ∷ 0 ∷ 1 ∷ [])) (padded 16 ([])) (padded 16 ([])) (padded 2 ([])) (counts 1 0 0 1)) (lent (97 ∷ 32 ∷ 43 ∷ 32 ∷ 98 ∷ []) (padded 80 (2 ∷ 0 ∷ 25 ∷ 0 ∷ 1 ∷ 0 ∷ 0 ∷ 0 ∷ 0 ∷ 0 ∷ 0 ∷ 0 ∷ 0 ∷ 0 ∷ 0 ∷ 0 ∷ 2 ∷ 0 ∷ 25 ∷ 4 ∷ 1 ∷ 0 ∷ 0 ∷ 0 ∷ 0 ∷ 0 ∷ 0 ∷ 0 ∷ 0 ∷ 0 ∷ 0 ∷ 0 ∷ 3 ∷ 2 ∷ 4 ∷ 2 ∷ 1 ∷ 0 ∷ 1 ∷ [])) (padded 40 ([])) (padded 40 ([])) (padded 5 (2 ∷ [])) (counts 3 0 0 1)) ≡ refused 4
 unfolding comparison
 case-101 = refl
 
--- types one cell short, right
-case-102 : compare (lent (97 ∷ 32 ∷ 43 ∷ 32 ∷ 98 ∷ []) (padded 80 (2 ∷ 0 ∷ 25 ∷ 0 ∷ 1 ∷ 0 ∷ 0 ∷ 0 ∷ 0 ∷ 0 ∷ 0 ∷ 0 ∷ 0 ∷ 0 ∷ 0 ∷ 0 ∷ 2 ∷ 0 ∷ 25 ∷ 4 ∷ 1 ∷ 0 ∷ 0 ∷ 0 ∷ 0 ∷ 0 ∷ 0 ∷ 0 ∷ 0 ∷ 0 ∷ 0 ∷ 0 ∷ 3 ∷ 2 ∷ 4 ∷ 2 ∷ 1 ∷ 0 ∷ 1 ∷ [])) (padded 40 ([])) (padded 40 ([])) (padded 5 (2 ∷ [])) (counts 3 0 0 1)) (lent (97 ∷ 97 ∷ []) (padded 32 (15 ∷ [])) (padded 15 ([])) (padded 16 ([])) (padded 2 ([])) (counts 1 0 0 1)) ≡ refused 2
+-- default's token of an unknown kind, right
+case-102 : compare (lent (97 ∷ 32 ∷ 43 ∷ 32 ∷ 98 ∷ []) (padded 80 (2 ∷ 0 ∷ 25 ∷ 0 ∷ 1 ∷ 0 ∷ 0 ∷ 0 ∷ 0 ∷ 0 ∷ 0 ∷ 0 ∷ 0 ∷ 0 ∷ 0 ∷ 0 ∷ 2 ∷ 0 ∷ 25 ∷ 4 ∷ 1 ∷ 0 ∷ 0 ∷ 0 ∷ 0 ∷ 0 ∷ 0 ∷ 0 ∷ 0 ∷ 0 ∷ 0 ∷ 0 ∷ 3 ∷ 2 ∷ 4 ∷ 2 ∷ 1 ∷ 0 ∷ 1 ∷ [])) (padded 40 ([])) (padded 40 ([])) (padded 5 (2 ∷ [])) (counts 3 0 0 1)) (lent (97 ∷ 97 ∷ []) (padded 32 (7 ∷ 0 ∷ 0 ∷ 0 ∷ 44 ∷ 0 ∷ 1 ∷ [])) (padded 16 ([])) (padded 16 ([])) (padded 2 ([])) (counts 1 0 0 1)) ≡ refused 4
 unfolding comparison
 case-102 = refl
 
--- lists one cell short, left
-case-103 : compare (lent (97 ∷ 97 ∷ []) (padded 32 (15 ∷ [])) (padded 16 ([])) (padded 15 ([])) (padded 2 ([])) (counts 1 0 0 1)) (lent (97 ∷ 32 ∷ 43 ∷ 32 ∷ 98 ∷ []) (padded 80 (2 ∷ 0 ∷ 25 ∷ 0 ∷ 1 ∷ 0 ∷ 0 ∷ 0 ∷ 0 ∷ 0 ∷ 0 ∷ 0 ∷ 0 ∷ 0 ∷ 0 ∷ 0 ∷ 2 ∷ 0 ∷ 25 ∷ 4 ∷ 1 ∷ 0 ∷ 0 ∷ 0 ∷ 0 ∷ 0 ∷ 0 ∷ 0 ∷ 0 ∷ 0 ∷ 0 ∷ 0 ∷ 3 ∷ 2 ∷ 4 ∷ 2 ∷ 1 ∷ 0 ∷ 1 ∷ [])) (padded 40 ([])) (padded 40 ([])) (padded 5 (2 ∷ [])) (counts 3 0 0 1)) ≡ refused 2
+-- nodes one cell short, left
+case-103 : compare (lent (97 ∷ 97 ∷ []) (padded 31 (15 ∷ [])) (padded 16 ([])) (padded 16 ([])) (padded 2 ([])) (counts 1 0 0 1)) (lent (97 ∷ 32 ∷ 43 ∷ 32 ∷ 98 ∷ []) (padded 80 (2 ∷ 0 ∷ 25 ∷ 0 ∷ 1 ∷ 0 ∷ 0 ∷ 0 ∷ 0 ∷ 0 ∷ 0 ∷ 0 ∷ 0 ∷ 0 ∷ 0 ∷ 0 ∷ 2 ∷ 0 ∷ 25 ∷ 4 ∷ 1 ∷ 0 ∷ 0 ∷ 0 ∷ 0 ∷ 0 ∷ 0 ∷ 0 ∷ 0 ∷ 0 ∷ 0 ∷ 0 ∷ 3 ∷ 2 ∷ 4 ∷ 2 ∷ 1 ∷ 0 ∷ 1 ∷ [])) (padded 40 ([])) (padded 40 ([])) (padded 5 (2 ∷ [])) (counts 3 0 0 1)) ≡ refused 2
 unfolding comparison
 case-103 = refl
 
--- lists one cell short, right
-case-104 : compare (lent (97 ∷ 32 ∷ 43 ∷ 32 ∷ 98 ∷ []) (padded 80 (2 ∷ 0 ∷ 25 ∷ 0 ∷ 1 ∷ 0 ∷ 0 ∷ 0 ∷ 0 ∷ 0 ∷ 0 ∷ 0 ∷ 0 ∷ 0 ∷ 0 ∷ 0 ∷ 2 ∷ 0 ∷ 25 ∷ 4 ∷ 1 ∷ 0 ∷ 0 ∷ 0 ∷ 0 ∷ 0 ∷ 0 ∷ 0 ∷ 0 ∷ 0 ∷ 0 ∷ 0 ∷ 3 ∷ 2 ∷ 4 ∷ 2 ∷ 1 ∷ 0 ∷ 1 ∷ [])) (padded 40 ([])) (padded 40 ([])) (padded 5 (2 ∷ [])) (counts 3 0 0 1)) (lent (97 ∷ 97 ∷ []) (padded 32 (15 ∷ [])) (padded 16 ([])) (padded 15 ([])) (padded 2 ([])) (counts 1 0 0 1)) ≡ refused 2
+-- nodes one cell short, right
+case-104 : compare (lent (97 ∷ 32 ∷ 43 ∷ 32 ∷ 98 ∷ []) (padded 80 (2 ∷ 0 ∷ 25 ∷ 0 ∷ 1 ∷ 0 ∷ 0 ∷ 0 ∷ 0 ∷ 0 ∷ 0 ∷ 0 ∷ 0 ∷ 0 ∷ 0 ∷ 0 ∷ 2 ∷ 0 ∷ 25 ∷ 4 ∷ 1 ∷ 0 ∷ 0 ∷ 0 ∷ 0 ∷ 0 ∷ 0 ∷ 0 ∷ 0 ∷ 0 ∷ 0 ∷ 0 ∷ 3 ∷ 2 ∷ 4 ∷ 2 ∷ 1 ∷ 0 ∷ 1 ∷ [])) (padded 40 ([])) (padded 40 ([])) (padded 5 (2 ∷ [])) (counts 3 0 0 1)) (lent (97 ∷ 97 ∷ []) (padded 31 (15 ∷ [])) (padded 16 ([])) (padded 16 ([])) (padded 2 ([])) (counts 1 0 0 1)) ≡ refused 2
 unfolding comparison
 case-104 = refl
 
--- roots one cell short, left
-case-105 : compare (lent (97 ∷ 97 ∷ []) (padded 32 (15 ∷ [])) (padded 16 ([])) (padded 16 ([])) (padded 1 ([])) (counts 1 0 0 1)) (lent (97 ∷ 32 ∷ 43 ∷ 32 ∷ 98 ∷ []) (padded 80 (2 ∷ 0 ∷ 25 ∷ 0 ∷ 1 ∷ 0 ∷ 0 ∷ 0 ∷ 0 ∷ 0 ∷ 0 ∷ 0 ∷ 0 ∷ 0 ∷ 0 ∷ 0 ∷ 2 ∷ 0 ∷ 25 ∷ 4 ∷ 1 ∷ 0 ∷ 0 ∷ 0 ∷ 0 ∷ 0 ∷ 0 ∷ 0 ∷ 0 ∷ 0 ∷ 0 ∷ 0 ∷ 3 ∷ 2 ∷ 4 ∷ 2 ∷ 1 ∷ 0 ∷ 1 ∷ [])) (padded 40 ([])) (padded 40 ([])) (padded 5 (2 ∷ [])) (counts 3 0 0 1)) ≡ refused 2
+-- types one cell short, left
+case-105 : compare (lent (97 ∷ 97 ∷ []) (padded 32 (15 ∷ [])) (padded 15 ([])) (padded 16 ([])) (padded 2 ([])) (counts 1 0 0 1)) (lent (97 ∷ 32 ∷ 43 ∷ 32 ∷ 98 ∷ []) (padded 80 (2 ∷ 0 ∷ 25 ∷ 0 ∷ 1 ∷ 0 ∷ 0 ∷ 0 ∷ 0 ∷ 0 ∷ 0 ∷ 0 ∷ 0 ∷ 0 ∷ 0 ∷ 0 ∷ 2 ∷ 0 ∷ 25 ∷ 4 ∷ 1 ∷ 0 ∷ 0 ∷ 0 ∷ 0 ∷ 0 ∷ 0 ∷ 0 ∷ 0 ∷ 0 ∷ 0 ∷ 0 ∷ 3 ∷ 2 ∷ 4 ∷ 2 ∷ 1 ∷ 0 ∷ 1 ∷ [])) (padded 40 ([])) (padded 40 ([])) (padded 5 (2 ∷ [])) (counts 3 0 0 1)) ≡ refused 2
 unfolding comparison
 case-105 = refl
 
--- roots one cell short, right
-case-106 : compare (lent (97 ∷ 32 ∷ 43 ∷ 32 ∷ 98 ∷ []) (padded 80 (2 ∷ 0 ∷ 25 ∷ 0 ∷ 1 ∷ 0 ∷ 0 ∷ 0 ∷ 0 ∷ 0 ∷ 0 ∷ 0 ∷ 0 ∷ 0 ∷ 0 ∷ 0 ∷ 2 ∷ 0 ∷ 25 ∷ 4 ∷ 1 ∷ 0 ∷ 0 ∷ 0 ∷ 0 ∷ 0 ∷ 0 ∷ 0 ∷ 0 ∷ 0 ∷ 0 ∷ 0 ∷ 3 ∷ 2 ∷ 4 ∷ 2 ∷ 1 ∷ 0 ∷ 1 ∷ [])) (padded 40 ([])) (padded 40 ([])) (padded 5 (2 ∷ [])) (counts 3 0 0 1)) (lent (97 ∷ 97 ∷ []) (padded 32 (15 ∷ [])) (padded 16 ([])) (padded 16 ([])) (padded 1 ([])) (counts 1 0 0 1)) ≡ refused 2
+-- types one cell short, right
+case-106 : compare (lent (97 ∷ 32 ∷ 43 ∷ 32 ∷ 98 ∷ []) (padded 80 (2 ∷ 0 ∷ 25 ∷ 0 ∷ 1 ∷ 0 ∷ 0 ∷ 0 ∷ 0 ∷ 0 ∷ 0 ∷ 0 ∷ 0 ∷ 0 ∷ 0 ∷ 0 ∷ 2 ∷ 0 ∷ 25 ∷ 4 ∷ 1 ∷ 0 ∷ 0 ∷ 0 ∷ 0 ∷ 0 ∷ 0 ∷ 0 ∷ 0 ∷ 0 ∷ 0 ∷ 0 ∷ 3 ∷ 2 ∷ 4 ∷ 2 ∷ 1 ∷ 0 ∷ 1 ∷ [])) (padded 40 ([])) (padded 40 ([])) (padded 5 (2 ∷ [])) (counts 3 0 0 1)) (lent (97 ∷ 97 ∷ []) (padded 32 (15 ∷ [])) (padded 15 ([])) (padded 16 ([])) (padded 2 ([])) (counts 1 0 0 1)) ≡ refused 2
 unfolding comparison
 case-106 = refl
 
--- 2 on the right before 4 on the left
-case-107 : compare (lent (97 ∷ []) (padded 16 (15 ∷ [])) (padded 8 ([])) (padded 8 ([])) (padded 1 ([])) (counts 1 0 0 1)) (lent (97 ∷ 97 ∷ []) (padded 32 ([])) (padded 16 ([])) (padded 16 ([])) (padded 1 ([])) (counts 0 0 0 0)) ≡ refused 2
+-- lists one cell short, left
+case-107 : compare (lent (97 ∷ 97 ∷ []) (padded 32 (15 ∷ [])) (padded 16 ([])) (padded 15 ([])) (padded 2 ([])) (counts 1 0 0 1)) (lent (97 ∷ 32 ∷ 43 ∷ 32 ∷ 98 ∷ []) (padded 80 (2 ∷ 0 ∷ 25 ∷ 0 ∷ 1 ∷ 0 ∷ 0 ∷ 0 ∷ 0 ∷ 0 ∷ 0 ∷ 0 ∷ 0 ∷ 0 ∷ 0 ∷ 0 ∷ 2 ∷ 0 ∷ 25 ∷ 4 ∷ 1 ∷ 0 ∷ 0 ∷ 0 ∷ 0 ∷ 0 ∷ 0 ∷ 0 ∷ 0 ∷ 0 ∷ 0 ∷ 0 ∷ 3 ∷ 2 ∷ 4 ∷ 2 ∷ 1 ∷ 0 ∷ 1 ∷ [])) (padded 40 ([])) (padded 40 ([])) (padded 5 (2 ∷ [])) (counts 3 0 0 1)) ≡ refused 2
 unfolding comparison
 case-107 = refl
 
--- 1 on the right before 2 on the left
-case-108 : compare (lent (97 ∷ 97 ∷ []) (padded 1 ([])) (padded 1 ([])) (padded 1 ([])) (padded 1 ([])) (counts 0 0 0 0)) (lent (replicate 65537 32) (padded 1 ([])) (padded 1 ([])) (padded 1 ([])) (padded 1 ([])) (counts 0 0 0 0)) ≡ refused 1
+-- lists one cell short, right
+case-108 : compare (lent (97 ∷ 32 ∷ 43 ∷ 32 ∷ 98 ∷ []) (padded 80 (2 ∷ 0 ∷ 25 ∷ 0 ∷ 1 ∷ 0 ∷ 0 ∷ 0 ∷ 0 ∷ 0 ∷ 0 ∷ 0 ∷ 0 ∷ 0 ∷ 0 ∷ 0 ∷ 2 ∷ 0 ∷ 25 ∷ 4 ∷ 1 ∷ 0 ∷ 0 ∷ 0 ∷ 0 ∷ 0 ∷ 0 ∷ 0 ∷ 0 ∷ 0 ∷ 0 ∷ 0 ∷ 3 ∷ 2 ∷ 4 ∷ 2 ∷ 1 ∷ 0 ∷ 1 ∷ [])) (padded 40 ([])) (padded 40 ([])) (padded 5 (2 ∷ [])) (counts 3 0 0 1)) (lent (97 ∷ 97 ∷ []) (padded 32 (15 ∷ [])) (padded 16 ([])) (padded 15 ([])) (padded 2 ([])) (counts 1 0 0 1)) ≡ refused 2
 unfolding comparison
 case-108 = refl
 
--- 65,536 bytes on the right
-case-109 : compare (lent (97 ∷ 32 ∷ 43 ∷ 32 ∷ 98 ∷ []) (padded 80 (2 ∷ 0 ∷ 25 ∷ 0 ∷ 1 ∷ 0 ∷ 0 ∷ 0 ∷ 0 ∷ 0 ∷ 0 ∷ 0 ∷ 0 ∷ 0 ∷ 0 ∷ 0 ∷ 2 ∷ 0 ∷ 25 ∷ 4 ∷ 1 ∷ 0 ∷ 0 ∷ 0 ∷ 0 ∷ 0 ∷ 0 ∷ 0 ∷ 0 ∷ 0 ∷ 0 ∷ 0 ∷ 3 ∷ 2 ∷ 4 ∷ 2 ∷ 1 ∷ 0 ∷ 1 ∷ [])) (padded 40 ([])) (padded 40 ([])) (padded 5 (2 ∷ [])) (counts 3 0 0 1)) (lent (replicate 65536 32) (padded 1 ([])) (padded 1 ([])) (padded 1 ([])) (padded 1 ([])) (counts 0 0 0 0)) ≡ refused 2
+-- roots one cell short, left
+case-109 : compare (lent (97 ∷ 97 ∷ []) (padded 32 (15 ∷ [])) (padded 16 ([])) (padded 16 ([])) (padded 1 ([])) (counts 1 0 0 1)) (lent (97 ∷ 32 ∷ 43 ∷ 32 ∷ 98 ∷ []) (padded 80 (2 ∷ 0 ∷ 25 ∷ 0 ∷ 1 ∷ 0 ∷ 0 ∷ 0 ∷ 0 ∷ 0 ∷ 0 ∷ 0 ∷ 0 ∷ 0 ∷ 0 ∷ 0 ∷ 2 ∷ 0 ∷ 25 ∷ 4 ∷ 1 ∷ 0 ∷ 0 ∷ 0 ∷ 0 ∷ 0 ∷ 0 ∷ 0 ∷ 0 ∷ 0 ∷ 0 ∷ 0 ∷ 3 ∷ 2 ∷ 4 ∷ 2 ∷ 1 ∷ 0 ∷ 1 ∷ [])) (padded 40 ([])) (padded 40 ([])) (padded 5 (2 ∷ [])) (counts 3 0 0 1)) ≡ refused 2
 unfolding comparison
 case-109 = refl
+
+-- roots one cell short, right
+case-110 : compare (lent (97 ∷ 32 ∷ 43 ∷ 32 ∷ 98 ∷ []) (padded 80 (2 ∷ 0 ∷ 25 ∷ 0 ∷ 1 ∷ 0 ∷ 0 ∷ 0 ∷ 0 ∷ 0 ∷ 0 ∷ 0 ∷ 0 ∷ 0 ∷ 0 ∷ 0 ∷ 2 ∷ 0 ∷ 25 ∷ 4 ∷ 1 ∷ 0 ∷ 0 ∷ 0 ∷ 0 ∷ 0 ∷ 0 ∷ 0 ∷ 0 ∷ 0 ∷ 0 ∷ 0 ∷ 3 ∷ 2 ∷ 4 ∷ 2 ∷ 1 ∷ 0 ∷ 1 ∷ [])) (padded 40 ([])) (padded 40 ([])) (padded 5 (2 ∷ [])) (counts 3 0 0 1)) (lent (97 ∷ 97 ∷ []) (padded 32 (15 ∷ [])) (padded 16 ([])) (padded 16 ([])) (padded 1 ([])) (counts 1 0 0 1)) ≡ refused 2
+unfolding comparison
+case-110 = refl
+
+-- 2 on the right before 4 on the left
+case-111 : compare (lent (97 ∷ []) (padded 16 (15 ∷ [])) (padded 8 ([])) (padded 8 ([])) (padded 1 ([])) (counts 1 0 0 1)) (lent (97 ∷ 97 ∷ []) (padded 32 ([])) (padded 16 ([])) (padded 16 ([])) (padded 1 ([])) (counts 0 0 0 0)) ≡ refused 2
+unfolding comparison
+case-111 = refl
+
+-- 1 on the right before 2 on the left
+case-112 : compare (lent (97 ∷ 97 ∷ []) (padded 1 ([])) (padded 1 ([])) (padded 1 ([])) (padded 1 ([])) (counts 0 0 0 0)) (lent (replicate 65537 32) (padded 1 ([])) (padded 1 ([])) (padded 1 ([])) (padded 1 ([])) (counts 0 0 0 0)) ≡ refused 1
+unfolding comparison
+case-112 = refl
+
+-- 65,536 bytes on the right
+case-113 : compare (lent (97 ∷ 32 ∷ 43 ∷ 32 ∷ 98 ∷ []) (padded 80 (2 ∷ 0 ∷ 25 ∷ 0 ∷ 1 ∷ 0 ∷ 0 ∷ 0 ∷ 0 ∷ 0 ∷ 0 ∷ 0 ∷ 0 ∷ 0 ∷ 0 ∷ 0 ∷ 2 ∷ 0 ∷ 25 ∷ 4 ∷ 1 ∷ 0 ∷ 0 ∷ 0 ∷ 0 ∷ 0 ∷ 0 ∷ 0 ∷ 0 ∷ 0 ∷ 0 ∷ 0 ∷ 3 ∷ 2 ∷ 4 ∷ 2 ∷ 1 ∷ 0 ∷ 1 ∷ [])) (padded 40 ([])) (padded 40 ([])) (padded 5 (2 ∷ [])) (counts 3 0 0 1)) (lent (replicate 65536 32) (padded 1 ([])) (padded 1 ([])) (padded 1 ([])) (padded 1 ([])) (counts 0 0 0 0)) ≡ refused 2
+unfolding comparison
+case-113 = refl

@@ -13,7 +13,7 @@ use Rattle.ast.proofs.lookup.+innermost.{statement}
 use Rattle.ast.proofs.lookup.+innermost.Tie.{close}
 
 abbrev μ-innermost : Measures 2 innermost-kinds.ps ℕ
-μ-innermost κs a = a .1 .0
+μ-innermost κs a = a .1 .0 .0
 
 abbrev innermost-at : ℕ → In 2 innermost-kinds.ps
 innermost-at t = and 2 innermost-kinds.ps (is 2 innermost-kinds.ps μ-innermost t) innermost.Pre
@@ -43,7 +43,7 @@ innermost-returns : (t : ℕ) → innermost-lts.Need-returns (
   innermost-below t,
   innermost.Post,
 ) (innermost-at t) innermost.Post
-innermost-returns t c = let k = c .before .before in innermost-step (k .before .before .args .types .now .now) _ _ _ (k .inner-of .ensures) (c .before .if1 .taken) (c .innermost .ensures)
+innermost-returns t c = let k = c .before .before .before .before in innermost-step (k .before .before .args .types .now .now) _ _ _ (k .inner-of .ensures) (c .before .if1 .taken) (c .innermost .ensures)
 
 innermost-returns-2 : (t : ℕ) → innermost-lts.Need-returns-2 (
   inner-of-reads.Asked,
@@ -51,7 +51,7 @@ innermost-returns-2 : (t : ℕ) → innermost-lts.Need-returns-2 (
   innermost-below t,
   innermost.Post,
 ) (innermost-at t) innermost.Post
-innermost-returns-2 t c = let k = c .before in innermost-here (k .before .before .args .types .now .now) _ _ (k .inner-of .ensures) (c .if1 .left)
+innermost-returns-2 t c = let k = c .before .before .before in innermost-here (k .before .before .args .types .now .now) _ _ (k .inner-of .ensures) (c .if1 .left)
 
 pub +innermost-spec : {M : Type 1} → statement M
 +innermost-spec = close μ-innermost λ t. innermost-lts.spec (

@@ -15,7 +15,7 @@ use Rattle.ast.proofs.lookup.+start_from.{statement}
 use Rattle.ast.proofs.lookup.+start_from.Tie.{close}
 
 abbrev μ-start-from : Measures 6 start-from-kinds.ps ℕ
-μ-start-from κs a = a .1 .1 .1 .0
+μ-start-from κs a = a .1 .1 .1 .0 .0
 
 abbrev start-from-at : ℕ → In 6 start-from-kinds.ps
 start-from-at t =
@@ -100,7 +100,7 @@ start-from-returns t c =
     let s = a .script .now .now in
     let cells = a .cells .now .now in
     let nodes = a .nodes .now .now in
-    c .encode-start .ensures ∙ ap (finish s cells nodes (a .i)) (sym (c .before .before .step .given .1) ∙ k .start-step .ensures) ∙ steps s cells nodes (a .other) (a .i)
+    c .encode-start .ensures ∙ ap (finish s cells nodes (a .id .0)) (sym (c .before .before .step .given .1) ∙ k .start-step .ensures) ∙ steps s cells nodes (a .other) (a .id .0)
 
 start-from-returns-2 : (t : ℕ) → start-from-lts.Need-returns-2 (
   start-step-reads.Asked,
@@ -112,12 +112,12 @@ start-from-returns-2 : (t : ℕ) → start-from-lts.Need-returns-2 (
 ) (start-from-at t) start-from.Post
 unfolding finish
 start-from-returns-2 t c =
-    let k = c .before .before .before .before .before in
+    let k = c .before .before .before .before .before .before .before in
     let a = k .before .before .before .before .args in
     let s = a .script .now .now in
     let cells = a .cells .now .now in
     let nodes = a .nodes .now .now in
-    c .start-from .ensures ∙ sym (finish-below s cells nodes (a .i) _ _ (c .before .if1 .taken)) ∙ ap (finish s cells nodes (a .i)) (sym (c .before .before .before .step2 .given .1) ∙ k .start-step .ensures) ∙ steps s cells nodes (a .other) (a .i)
+    c .start-from .ensures ∙ sym (finish-below s cells nodes (a .id .0) _ _ (c .before .if1 .taken)) ∙ ap (finish s cells nodes (a .id .0)) (sym (c .before .before .before .before .before .step2 .given .1) ∙ k .start-step .ensures) ∙ steps s cells nodes (a .other) (a .id .0)
 
 start-from-returns-3 : (t : ℕ) → start-from-lts.Need-returns-3 (
   start-step-reads.Asked,
@@ -129,12 +129,12 @@ start-from-returns-3 : (t : ℕ) → start-from-lts.Need-returns-3 (
 ) (start-from-at t) start-from.Post
 unfolding finish
 start-from-returns-3 t c =
-    let k = c .before .before .before .before in
+    let k = c .before .before .before .before .before .before in
     let a = k .before .before .before .before .args in
     let s = a .script .now .now in
     let cells = a .cells .now .now in
     let nodes = a .nodes .now .now in
-    code-number 4 (omega arith) ∙ sym (finish-past s cells nodes (a .i) _ _ (c .if1 .left)) ∙ ap (finish s cells nodes (a .i)) (sym (c .before .before .step2 .given .1) ∙ k .start-step .ensures) ∙ steps s cells nodes (a .other) (a .i)
+    code-number 4 (omega arith) ∙ sym (finish-past s cells nodes (a .id .0) _ _ (c .if1 .left)) ∙ ap (finish s cells nodes (a .id .0)) (sym (c .before .before .before .before .step2 .given .1) ∙ k .start-step .ensures) ∙ steps s cells nodes (a .other) (a .id .0)
 
 pub +start-from-spec : {M : Type 1} → statement M
 +start-from-spec = close μ-start-from λ t. start-from-lts.spec (

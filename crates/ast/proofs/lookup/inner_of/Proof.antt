@@ -34,27 +34,27 @@ enum-told-4 c = search needs
 
 returns : tie.Need-returns
 unfolding innerOf
-returns c = sym (ap (λ (o : Option TypeExpr). innerOf o (c .before .before .before .before .args .i)) (type-is-none (c .before .before .type-expr .ensures) (c .enum-told .given .1)))
+returns c = sym (ap (λ (o : Option TypeExpr). innerOf o (c .before .before .before .before .args .id .0)) (type-is-none (c .before .before .type-expr .ensures) (c .enum-told .given .1)))
 
 returns-2 : tie.Need-returns-2
 unfolding innerOf
-returns-2 c = let k = c in sym (ap (λ (o : Option TypeExpr). innerOf o (k .before .before .before .before .before .before .before .args .i)) (type-is (k .before .before .before .before .before .type-expr .ensures) (k .before .before .before .read .given .1) (k .enum-told2 .given .1)))
+returns-2 c = let k = c in sym (ap (λ (o : Option TypeExpr). innerOf o (k .before .before .before .before .before .before .before .args .id .0)) (type-is (k .before .before .before .before .before .type-expr .ensures) (k .before .before .before .read .given .1) (k .enum-told2 .given .1)))
 
 returns-3 : tie.Need-returns-3
 unfolding innerOf
-returns-3 c = let k = c in sym (ap (λ (o : Option TypeExpr). innerOf o (k .before .before .before .before .before .before .before .args .i)) (type-is (k .before .before .before .before .before .type-expr .ensures) (k .before .before .before .read .given .1) (k .enum-told3 .given .1)))
+returns-3 c = let k = c in sym (ap (λ (o : Option TypeExpr). innerOf o (k .before .before .before .before .before .before .before .args .id .0)) (type-is (k .before .before .before .before .before .type-expr .ensures) (k .before .before .before .read .given .1) (k .enum-told3 .given .1)))
 
 returns-4 : tie.Need-returns-4
 unfolding innerOf
-returns-4 c = let k = c .before in sym (ap (λ (o : Option TypeExpr). innerOf o (k .before .before .before .before .before .before .before .args .i)) (type-is (k .before .before .before .before .before .type-expr .ensures) (k .before .before .before .read .given .1) (k .t .given .1)))
+returns-4 c = let k = c .before in sym (ap (λ (o : Option TypeExpr). innerOf o (k .before .before .before .before .before .before .before .args .id .0)) (type-is (k .before .before .before .before .before .type-expr .ensures) (k .before .before .before .read .given .1) (k .t .given .1)))
 
 returns-5 : tie.Need-returns-5
 unfolding innerOf
-returns-5 c = let k = c .before in sym (ap (λ (o : Option TypeExpr). innerOf o (k .before .before .before .before .before .before .before .args .i)) (type-is (k .before .before .before .before .before .type-expr .ensures) (k .before .before .before .read .given .1) (k .t2 .given .1)))
+returns-5 c = let k = c .before in sym (ap (λ (o : Option TypeExpr). innerOf o (k .before .before .before .before .before .before .before .args .id .0)) (type-is (k .before .before .before .before .before .type-expr .ensures) (k .before .before .before .read .given .1) (k .t2 .given .1)))
 
 returns-6 : tie.Need-returns-6
 unfolding innerOf
-returns-6 c = let k = c in sym (ap (λ (o : Option TypeExpr). innerOf o (k .before .before .before .before .before .before .before .args .i)) (type-is (k .before .before .before .before .before .type-expr .ensures) (k .before .before .before .read .given .1) (k .enum-told4 .given .1)))
+returns-6 c = let k = c in sym (ap (λ (o : Option TypeExpr). innerOf o (k .before .before .before .before .before .before .before .args .id .0)) (type-is (k .before .before .before .before .before .type-expr .ensures) (k .before .before .before .read .given .1) (k .enum-told4 .given .1)))
 
 pub inner-of-spec : {M : Type 1} → statement M
 inner-of-spec =

@@ -45,7 +45,7 @@ unfolding asTypeToken
 returns c =
     let k = c .before .before in
     let a = k .before .before .before .args in
-    sym (ap asTypeToken (token-none (a .script .now) (a .types .now) (a .i) (type-is-none (k .type-expr .ensures) (c .enum-told .given .1))))
+    sym (ap asTypeToken (token-none (a .script .now) (a .types .now) (a .id .0) (type-is-none (k .type-expr .ensures) (c .enum-told .given .1))))
 
 returns-2 : tie.Need-returns-2
 unfolding typeTokenOf asTypeToken innerOf
@@ -54,7 +54,7 @@ returns-2 c =
     let k = n .before .before .before .before .before in
     let a = k .before .before .before .args in
     let e = type-is (k .type-expr .ensures) (n .before .before .before .read .given .1) (n .t .given .1) in
-    c .check-token .ensures ∙ sym (ap asTypeToken (token-some (a .script .now) (a .types .now) (a .i) e))
+    c .check-token .ensures ∙ sym (ap asTypeToken (token-some (a .script .now) (a .types .now) (a .id .0) e))
 
 returns-3 : tie.Need-returns-3
 unfolding typeTokenOf asTypeToken innerOf
@@ -63,7 +63,7 @@ returns-3 c =
     let k = n .before .before .before .before .before in
     let a = k .before .before .before .args in
     let e = type-is (k .type-expr .ensures) (n .before .before .before .read .given .1) (n .t2 .given .1) in
-    c .check-token2 .ensures ∙ sym (ap asTypeToken (token-some (a .script .now) (a .types .now) (a .i) e))
+    c .check-token2 .ensures ∙ sym (ap asTypeToken (token-some (a .script .now) (a .types .now) (a .id .0) e))
 
 returns-4 : tie.Need-returns-4
 unfolding typeTokenOf asTypeToken innerOf
@@ -72,7 +72,7 @@ returns-4 c =
     let k = n .before .before .before .before .before in
     let a = k .before .before .before .args in
     let e = type-is (k .type-expr .ensures) (n .before .before .before .read .given .1) (n .enum-told2 .given .1) in
-    sym (ap asTypeToken (token-some (a .script .now) (a .types .now) (a .i) e) ∙ ap asTypeToken (inner-past (a .script .now) (a .types .now) (a .i) _ (not-below (a .types .now) (a .script .now) (a .i) _ e (k .before .before .before .pre))))
+    sym (ap asTypeToken (token-some (a .script .now) (a .types .now) (a .id .0) e) ∙ ap asTypeToken (inner-past (a .script .now) (a .types .now) (a .id .0) _ (not-below (a .types .now) (a .script .now) (a .id .0) _ e (k .before .before .before .pre))))
 
 returns-5 : tie.Need-returns-5
 unfolding typeTokenOf asTypeToken innerOf
@@ -81,7 +81,7 @@ returns-5 c =
     let k = n .before .before .before .before .before in
     let a = k .before .before .before .args in
     let e = type-is (k .type-expr .ensures) (n .before .before .before .read .given .1) (n .enum-told3 .given .1) in
-    sym (ap asTypeToken (token-some (a .script .now) (a .types .now) (a .i) e) ∙ ap asTypeToken (inner-past (a .script .now) (a .types .now) (a .i) _ (not-below (a .types .now) (a .script .now) (a .i) _ e (k .before .before .before .pre))))
+    sym (ap asTypeToken (token-some (a .script .now) (a .types .now) (a .id .0) e) ∙ ap asTypeToken (inner-past (a .script .now) (a .types .now) (a .id .0) _ (not-below (a .types .now) (a .script .now) (a .id .0) _ e (k .before .before .before .pre))))
 
 returns-6 : tie.Need-returns-6
 unfolding typeTokenOf asTypeToken innerOf
@@ -90,7 +90,7 @@ returns-6 c =
     let k = n .before .before .before .before .before in
     let a = k .before .before .before .args in
     let e = type-is (k .type-expr .ensures) (n .before .before .before .read .given .1) (n .t3 .given .1) in
-    c .check-token3 .ensures ∙ sym (ap asTypeToken (token-some (a .script .now) (a .types .now) (a .i) e))
+    c .check-token3 .ensures ∙ sym (ap asTypeToken (token-some (a .script .now) (a .types .now) (a .id .0) e))
 
 pub token-here-spec : {M : Type 1} → statement M
 token-here-spec =
