@@ -19,11 +19,13 @@ use rules::Node;
 use rules::NodeId;
 use rules::NodeKind;
 use rules::Run;
+use rules::TypeExprId;
 ghost use mathlib.Core.Path.{_≡_};
 ghost use mathlib.Core.List.{List, [], _∷_, _++_};
 ghost use Prim.Native.Nat.{ℕ, _<_};
 ghost use lib.ListN.{getD};
-ghost use Rattle.rules.specs.Combinators.{tokenCells, runCells};
+ghost use Rattle.rules.specs.Combinators.{pushNode, tokenCells, runCells};
+ghost use Rattle.rules.specs.declared.Node.the-variants as N;
 ghost use Rattle.rules.specs.Rules.{atom, ident, fieldAccess, cast, breaksOff};
 ghost use Rattle.parser_base.specs.Represents.{parserOf, code, lowToken};
 ghost use Rattle.parser_base.specs.Refines.{Refines, kept, ReadsNode, ReadsStep, Pushes, deeper};
@@ -237,6 +239,19 @@ pub fn field_access(script: &[u8], nodes: &mut [u32], p: &mut [u32; 17], lhs: No
     push_field(nodes, p, lhs, name)
 }
 
+// A Cast is pushed from a node and a type, one of each.
+fn push_cast(
+    nodes: &mut [u32],
+    p: &mut [u32; 17],
+    src: Token,
+    lhs: NodeId,
+    rhs: TypeExprId,
+) -> NodeId
+    ensures { λ r. ⌜ ((script types lists : List ℕ) → Refines script 1 0 (pushNode (λ id. N.Cast id (lowToken src) lhs rhs)) (λ i. i ≡ r) kept 0 0 0 (code (now (nodes .entry)) types lists (parserOf (now (p .entry)))) (code (now (nodes .exit)) types lists (parserOf (now (p .exit))))) ⌝ }
+{
+    push_token_node(nodes, p, NodeKind::CAST, src, lhs.0, rhs.0)
+}
+
 pub fn cast(
     script: &[u8],
     nodes: &mut [u32],
@@ -252,7 +267,7 @@ pub fn cast(
     let src = current(p);
     advance(script, p);
     let rhs = parse_type(script, types, lists, p, levels);
-    push_token_node(nodes, p, NodeKind::CAST, src, lhs.0, rhs.0)
+    push_cast(nodes, p, src, lhs, rhs)
 }
 
 // ---- the cases of a match
