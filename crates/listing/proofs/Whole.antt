@@ -9,9 +9,12 @@ use lib.Dec.{leb, ltb}
 use lib.ListN.{length, set, drop}
 use lib.Seq.{sets-eq}
 use borrow.Author.Tests.{lt-ltb, le-ltb, le-leb, lt-leb, leb-true}
+use Rattle.listing.specs.declared.Listing.{Listing}
 use Rattle.listing.specs.declared.Listing.the-variants as L
 use Rattle.text.specs.Emit.{plain}
-use Rattle.listing.specs.Listing.{Written, written}
+use Rattle.listing.specs.Listing.{written, listingAnswer}
+use Rattle.text.specs.Answer as T
+use Rattle.text.specs.Answer.{Result, refuse, inFront}
 use Rattle.text.specs.Emit.{Output, last, put, emit, Emits}
 use Rattle.text.proofs.EmitLaws.{same-size, bytes-count, bytes-in}
 
@@ -66,22 +69,22 @@ module _ {text y : List ℕ} (x : List ℕ) {n : ℕ} (measured : Emits text [] 
   length-is : plain text ≡ true → n ≡ min (length text) last
   length-is e = sym counted ∙ bytes-count text (record { buffer = []; at = 0 }) e (omega arith) ∙ omega arith
 
-  pub no-tree : n ≡ last → _≡_ {A = Written} (record { answer = L.Malformed; buffer = y ++ x }) (written text x)
+  pub no-tree : n ≡ last → _≡_ {A = Result} (record { answer = T.refused 4; buffer = y ++ x }) (written text x)
   unfolding written
   no-tree h = rw kept (go (plain text) refl)
     where
-      go : (t : Bool) → plain text ≡ t → _≡_ {A = Written} (record { answer = L.Malformed; buffer = x }) (written text x)
+      go : (t : Bool) → plain text ≡ t → _≡_ {A = Result} (record { answer = T.refused 4; buffer = x }) (written text x)
       go true e = let l : last ≤ length text = omega (arith, length-is e) in rw (e, le-ltb (length text) last l, written)
       go false e = rw (e, written)
 
-  pub no-room : (n ≡ last → ⊥) → length x < n → _≡_ {A = Written} (record { answer = L.Short; buffer = y ++ x }) (written text x)
+  pub no-room : (n ≡ last → ⊥) → length x < n → _≡_ {A = Result} (record { answer = T.refused 2; buffer = y ++ x }) (written text x)
   unfolding written
   no-room h l =
       let e : plain text ≡ true = all-bytes h in
       let m : n ≡ min (length text) last = length-is e in
       rw (kept, e, lt-ltb (length text) last (omega arith), lt-leb (length text) (length x) (omega arith), written)
 
-  pub whole : {z : List ℕ} {m : ℕ} → (n ≡ last → ⊥) → n ≤ length x → Emits text (y ++ x) 0 z m → _≡_ {A = Written} (record { answer = L.Written m; buffer = z }) (written text x)
+  pub whole : {z : List ℕ} {m : ℕ} → (n ≡ last → ⊥) → n ≤ length x → Emits text (y ++ x) 0 z m → _≡_ {A = Result} (record { answer = T.written m; buffer = z }) (written text x)
   unfolding written
   whole {z} {m} h l f =
       let e : plain text ≡ true = all-bytes h in
@@ -93,13 +96,13 @@ module _ {text y : List ℕ} (x : List ℕ) {n : ℕ} (measured : Emits text [] 
       rw (e, lt-ltb (length text) last (omega arith), le-leb (length text) (length x) (omega arith), to, out, written)
 
 -- a text that was written lies in its buffer
-pub inside-buffer : (text buffer : List ℕ) (n : ℕ) → written text buffer .answer ≡ L.Written n → n ≤ length buffer
-unfolding written
-inside-buffer text buffer n h = go (plain text && ltb (length text) last) (leb (length text) (length buffer)) refl h
+pub inside-buffer : (text buffer : List ℕ) (n : ℕ) {r : Listing} {out : List ℕ} → _≡_ {A = Result} (record { answer = listingAnswer r; buffer = out }) (written text buffer) → r ≡ L.Written n → n ≤ length buffer
+unfolding written listingAnswer
+inside-buffer text buffer n h k = go (plain text && ltb (length text) last) (leb (length text) (length buffer)) refl (ap listingAnswer (sym k) ∙ ap (λ (x : Result). x .answer) h)
   where
     go : (t u : Bool) → leb (length text) (length buffer) ≡ u
-        → elim t as (λ (_ : Bool). Written) [ true ↦ elim u as (λ (_ : Bool). Written) [ true ↦ record { answer = L.Written (length text); buffer = text ++ drop (length text) buffer } | false ↦ record { answer = L.Short; buffer = buffer } ] | false ↦ record { answer = L.Malformed; buffer = buffer } ] .answer ≡ L.Written n
+        → T.written n ≡ elim t as (λ (_ : Bool). Result) [ true ↦ elim u as (λ (_ : Bool). Result) [ true ↦ inFront text buffer | false ↦ refuse 2 buffer ] | false ↦ refuse 4 buffer ] .answer
         → n ≤ length buffer
-    go true true e h = let z : length text ≡ n = cc in omega (arith, leb-true (length text) (length buffer) e)
+    go true true e h = let z : n ≡ length text = cc in omega (arith, leb-true (length text) (length buffer) e)
     go true false e h = absurd (let z : _≡_ {A = ℕ} 0 1 = cc in omega arith)
     go false u e h = absurd (let z : _≡_ {A = ℕ} 0 1 = cc in omega arith)

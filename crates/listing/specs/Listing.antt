@@ -4,7 +4,7 @@ use mathlib.Core.Option.{Option, none, some}
 use mathlib.Core.List.{List, [], _∷_, _++_}
 use Prim.Native.Nat.{ℕ, _+_, _*_}
 use lib.Dec.{leb, ltb, eqb}
-use lib.ListN.{length, getD, take, drop, getElem?}
+use lib.ListN.{length, getD, take, getElem?}
 use Rattle.lex.specs.declared.diagnostic.Diagnostic.{Diagnostic}
 use Rattle.rules.specs.declared.Counts.{Counts}
 use Rattle.rules.specs.declared.Node.{Node}
@@ -17,6 +17,8 @@ use Rattle.rules.specs.Parse.{Reading, read, ended}
 use Rattle.rules.specs.Promise.{Arrays, noError}
 use Rattle.ast.specs.Decode.{nodeAt, typeAt}
 use Rattle.text.specs.Emit.{plain}
+use Rattle.text.specs.Answer as T
+use Rattle.text.specs.Answer.{Answer, Result, refuse, inFront}
 use Rattle.listing.specs.declared.Listing.{Listing}
 use Rattle.listing.specs.declared.Listing.the-variants as L
 use Rattle.text.specs.Text.{bytes, number}
@@ -109,18 +111,16 @@ textOf (P.Refused n) a = line (bytes "refused") (number n ∷ [])
 
 -- ---- into a buffer
 
--- the answer, and the buffer as it is left
-pub record Written : Type 0 where
-  pub answer : Listing
-  pub buffer : List ℕ
-
--- the text in front; the buffer as it was where it is too short, and where the text has what is no byte, or 2^64 - 1 bytes or more
-unfoldable pub written : List ℕ → List ℕ → Written
+-- the text in front; refused, with the buffer as it was, where that is too short (2), and where the text has what is no byte, or 2^64 - 1 bytes or more (4)
+unfoldable pub written : List ℕ → List ℕ → Result
 written text buffer =
     elim (plain text && ltb (length text) 18446744073709551615) [
-      | true ↦ elim (leb (length text) (length buffer)) [
-        | true ↦ record { answer = L.Written (length text); buffer = text ++ drop (length text) buffer }
-        | false ↦ record { answer = L.Short; buffer = buffer }
-      ]
-      | false ↦ record { answer = L.Malformed; buffer = buffer }
+      | true ↦ elim (leb (length text) (length buffer)) [ true ↦ inFront text buffer | false ↦ refuse 2 buffer ]
+      | false ↦ refuse 4 buffer
     ]
+
+-- document 01's number, or the length, for each case of an answer
+unfoldable pub listingAnswer : Listing → Answer
+listingAnswer (L.Written n) = T.written n
+listingAnswer L.Short = T.refused 2
+listingAnswer L.Malformed = T.refused 4

@@ -1,9 +1,8 @@
 -- `listing_print::print` meets its contract: the text lies in the buffer, which keeps its length.
-use mathlib.Core.Path.{_∙_, ap, sym}
+use mathlib.Core.Path.{sym}
 use native.Mathlib.Omega.{arith}
 use lib.Seq.{length-take-le}
 use borrow.Author.Needs.{needs}
-use Rattle.listing.specs.Listing.{Written}
 use Rattle.listing.proofs.Whole.{inside-buffer}
 use Rattle.listing_print.proofs.print.Statement.{statement}
 use Rattle.listing_print.proofs.print.Tie as tie
@@ -11,7 +10,7 @@ use Rattle.listing_print.proofs.print.Tie as tie
 array-share-prefix-out : tie.Need-array-share-prefix-out
 array-share-prefix-out c =
     let w = c .before .before .before .before .write-listing in
-    let h = inside-buffer _ _ _ (ap (λ (x : Written). x .answer) (sym (w .ensures)) ∙ c .before .n .given .1) in
+    let h = inside-buffer _ _ _ (w .ensures) (c .before .n .given .1) in
     omega (arith, w .kept .1 .1 .1 .1 .1 .1 .0)
 
 slice-aggregate-write-all : tie.Need-slice-aggregate-write-all
