@@ -1,4 +1,5 @@
--- What the proofs of the exported functions share, demand 3 of what is delivered, and its law.
+-- What the proofs of the exported functions share; the user's demands and the law of what is delivered.
 pub mod Answers
 pub mod UniqueReading
+pub mod Demands
 pub mod Law

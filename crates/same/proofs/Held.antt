@@ -132,7 +132,7 @@ module _ (script : List ℕ) (t : Tree) (es : List Diagnostic) (l : Arrays) wher
 padded-length : (n : ℕ) (xs : List ℕ) → n ≤ length (padded n xs)
 padded-length n xs = let e = length-append xs (zeros (n - length xs)) in let f : length (zeros (n - length xs)) ≡ n - length xs = length-replicate (n - length xs) 0 in omega arith
 
-or-false : (a b : Bool) → or a b ≡ false → (a ≡ false) × (b ≡ false)
+pub or-false : (a b : Bool) → or a b ≡ false → (a ≡ false) × (b ≡ false)
 unfolding or
 or-false true b e = absurd (let z : _≡_ {A = ℕ} 1 0 = ap (λ (c : Bool). if c 1 0) e in omega arith)
 or-false false b e = (refl, e)
@@ -163,12 +163,15 @@ no-errors : (x : Result (List ℕ)) (t : Tree) (es : List Diagnostic) → elim x
 no-errors (ok roots s) t es e = let z : [] ≡ es = cc in sym z
 no-errors (err d s) t es e = absurd (let z : _≡_ {A = ℕ} 0 1 = cc in omega arith)
 
-pub strict-read : (script : List ℕ) (t : Tree) (es : List Diagnostic) → parse stageOne script ≡ read t es → parse stageOne script ≡ read t []
+pub strict-errors : (script : List ℕ) (t : Tree) (es : List Diagnostic) → parse stageOne script ≡ read t es → es ≡ []
 unfolding parse
-strict-read script t es e = e ∙ ap (read t) (no-errors (parseRoots stageOne script (begin script)) t es e)
+strict-errors script t es e = no-errors (parseRoots stageOne script (begin script)) t es e
+
+pub strict-read : (script : List ℕ) (t : Tree) (es : List Diagnostic) → parse stageOne script ≡ read t es → parse stageOne script ≡ read t []
+strict-read script t es e = e ∙ ap (read t) (strict-errors script t es e)
 
 -- Eof is no infix sign
-no-eof : stageOne kEof ≡ none
+pub no-eof : stageOne kEof ≡ none
 unfolding stageOne choose
 no-eof = refl
 
