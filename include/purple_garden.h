@@ -7,7 +7,10 @@
  * - A pointer with a length beside it is not null, is aligned for its type, and points to at least so many elements; with length 0 any
  *   aligned pointer that is not null will do. `numbers`, `counts` and the arrays for an answer have the lengths that are written here.
  * - What a function writes to overlaps nothing else that is passed to it, and nobody else uses it during the call.
- * - There is stack enough: a reading takes up to 400 KB (the deepest nests measured took 384 KB).
+ * - There is stack enough. A reading takes up to 110 KB (the deepest nests measured took 105 KB), a lookup 16 KB on arrays of any
+ *   depth, and a comparison of trees that readings returned 64 KB. A comparison of arrays that no reading made goes as deep as they
+ *   do: nests in the last member of the last list take no more, any other 320 bytes a level, record types in one another 290. With
+ *   8 MB it compares 26,000 such levels; arrays of 65,536 bytes hold up to 65,535. Bound the depth, or read the script anew.
  *
  * What is not left to the caller: on every input that keeps this, each function answers what its comment says. That is proved (crates/reader_c).
  *

@@ -3,6 +3,9 @@
 //! chains [KIB]         lookups and comparison of chains run in a thread with a stack of KIB KiB, 256 unless given
 //! chains nests KIB     how many levels of each nest are compared with a stack of KIB KiB
 //! chains nest NAME LEVELS KIB    one of them
+//! chains reading       how much stack a reading takes
+mod reading;
+
 use std::time::{Duration, Instant};
 
 unsafe extern "C" {
@@ -538,6 +541,9 @@ fn main() {
             println!("| {name} | {} |", deepest(name, kib));
         }
         return;
+    }
+    if words.len() == 2 && words[1] == "reading" {
+        return reading::show(purple_garden_parse);
     }
     let kib = std::env::args().nth(1).map_or(256, |word| word.parse().expect("a number of KiB"));
     println!("Chains, looked up and compared with a stack of {kib} KiB; times in milliseconds.\n");
