@@ -89,7 +89,7 @@ uint32_t purple_garden_node_start(const uint8_t *script, size_t script_len,
                                   const uint32_t *roots, size_t roots_len,
                                   const uint32_t counts[6], uint32_t node, uint64_t start[2]);
 
-/* The token of type `type`: `token` gets its kind, start and length. */
+/* The token of type `type`: `token` gets its kind, start and length. The length of a kind with a fixed spelling is that spelling's. */
 uint32_t purple_garden_type_token(const uint8_t *script, size_t script_len,
                                   const uint32_t *nodes, size_t nodes_len,
                                   const uint32_t *types, size_t types_len,

@@ -200,7 +200,7 @@ module _ (mode : Mode) (script : List ℕ) (c : ReadingCall mode script) where
           → c .numbers ≡ written (promised (reading mode) script (c .lent) .answer) (c .numbersLent) → c .left ≡ promised (reading mode) script (c .lent) .arrays → Read mode script (c .left) (countsIn (c .numbers))
       go o (outLong h) e n w a = absurd (let z : _≡_ {A = ℕ} 1 0 = ap (λ (x : Outcome). numbersOf (x .answer) .number) (sym e) ∙ n in omega arith)
       go o (outShort h k) e n w a = absurd (let z : _≡_ {A = ℕ} 2 0 = ap (λ (x : Outcome). numbersOf (x .answer) .number) (sym e) ∙ n in omega arith)
-      go o (outError h k x p) e n w a = absurd (let z : x .number ≡ 0 = ap (λ (y : Outcome). numbersOf (y .answer) .number) (sym e) ∙ n in omega (arith, ends-numbered mode script x p))
+      go o (outError h k x p) e n w a = absurd (let z : x .number ≡ 0 = ap (λ (y : Outcome). numbersOf (y .answer) .number) (sym e) ∙ n in omega (arith, ends-numbered mode script x p .0))
       go o (outTree h k t es p) e n w a =
           let counts : Counts = record { nodes = length (t .arena .nodes); types = length (t .arena .types); cells = length (t .arena .cells); roots = length (t .roots); values = t .arena .values; diagnostics = length es } in
           let m : countsIn (c .numbers) ≡ counts = ap countsIn (w ∙ ap (λ (x : Outcome). written (x .answer) (c .numbersLent)) e) in
