@@ -58,6 +58,59 @@ enum {
     PURPLE_GARDEN_NUMBERS = 12 /* how many cells there are */
 };
 
+/* An error is five numbers, in this order: its number; where its span starts; how long the span is;
+ * the wanted kind of token (11 only, else 0); the seen kind: of the token that the error names, for 33
+ * the byte itself, for 31, 32 and 34 it is 0. So they stand in numbers[1] to numbers[5], and in each
+ * five cells of `diagnostics`. A string's span starts behind its quote, and a Doc's at its `#`, with
+ * the length of its words. The script's end has a span of length 3, which lies past the script. */
+
+/* The kinds of token, in `wanted` and `seen` and wherever a tree holds a token. */
+enum {
+    PURPLE_GARDEN_KIND_EOF = 1,
+    PURPLE_GARDEN_KIND_BRACE_LEFT,    /* ( */
+    PURPLE_GARDEN_KIND_BRACE_RIGHT,   /* ) */
+    PURPLE_GARDEN_KIND_PLUS,
+    PURPLE_GARDEN_KIND_MINUS,
+    PURPLE_GARDEN_KIND_ASTERIKS,
+    PURPLE_GARDEN_KIND_SLASH,
+    PURPLE_GARDEN_KIND_PERCENT,
+    PURPLE_GARDEN_KIND_EQUAL,
+    PURPLE_GARDEN_KIND_DOUBLE_EQUAL,  /* 10 */
+    PURPLE_GARDEN_KIND_LESS_THAN,
+    PURPLE_GARDEN_KIND_GREATER_THAN,
+    PURPLE_GARDEN_KIND_EXCLAIM,
+    PURPLE_GARDEN_KIND_NOT_EQUAL,
+    PURPLE_GARDEN_KIND_QUESTION,
+    PURPLE_GARDEN_KIND_COLON,
+    PURPLE_GARDEN_KIND_DOT,
+    PURPLE_GARDEN_KIND_BRAKET_LEFT,   /* [ */
+    PURPLE_GARDEN_KIND_BRAKET_RIGHT,  /* ] */
+    PURPLE_GARDEN_KIND_CURLY_LEFT,    /* 20 */
+    PURPLE_GARDEN_KIND_CURLY_RIGHT,
+    PURPLE_GARDEN_KIND_S,             /* a string */
+    PURPLE_GARDEN_KIND_D,             /* a number with a dot */
+    PURPLE_GARDEN_KIND_I,             /* a whole number */
+    PURPLE_GARDEN_KIND_IDENT,
+    PURPLE_GARDEN_KIND_DOC,           /* 26 */
+    PURPLE_GARDEN_KIND_IMPORT,
+    PURPLE_GARDEN_KIND_EXTERN,
+    PURPLE_GARDEN_KIND_LET,
+    PURPLE_GARDEN_KIND_FN,            /* 30 */
+    PURPLE_GARDEN_KIND_MATCH,
+    PURPLE_GARDEN_KIND_AS,
+    PURPLE_GARDEN_KIND_TRUE,
+    PURPLE_GARDEN_KIND_FALSE,
+    PURPLE_GARDEN_KIND_STR,
+    PURPLE_GARDEN_KIND_INT,
+    PURPLE_GARDEN_KIND_DOUBLE,
+    PURPLE_GARDEN_KIND_BOOL,
+    PURPLE_GARDEN_KIND_VOID,
+    PURPLE_GARDEN_KIND_OPTION,        /* 40 */
+    PURPLE_GARDEN_KIND_ARRAY,
+    PURPLE_GARDEN_KIND_FOREIGN,
+    PURPLE_GARDEN_KIND_RECORD         /* 43 */
+};
+
 /* Strict reading: the tree of the script, or the first error. Lengths count elements. Returns the number, which `numbers[0]` has too.
  *   0: the arrays hold the tree, and zeros behind it. 10 to 23: every cell of the arrays is zero. 1, 2: nothing changed, `numbers` neither. */
 uint32_t purple_garden_parse(const uint8_t *script, size_t script_len,
@@ -81,7 +134,8 @@ uint32_t purple_garden_parse_collect(const uint8_t *script, size_t script_len,
 /* The lookups and the comparison take the script, the arrays that a reading left and its six counts. They take arrays from anywhere: what
  * is malformed is refused with 4. They write their answer only where they return 0. */
 
-/* Where node `node` starts: `start` gets 1 and the byte offset, or 0 and 0 for a node that has no start (an empty array). */
+/* Where node `node` starts: `start` gets 1 and the byte offset, or 0 and 0 for a node that has no
+ * start: an empty array, and what begins with one and has no sign of its own, as `[].b` and `[[] 1]`. */
 uint32_t purple_garden_node_start(const uint8_t *script, size_t script_len,
                                   const uint32_t *nodes, size_t nodes_len,
                                   const uint32_t *types, size_t types_len,
