@@ -80,9 +80,10 @@ fn line_ends() -> bool {
     }
 }
 
-// The next frame, its bytes at the start of `buf`. One that is longer than `buf` is malformed.
+// The next frame, its bytes at the start of `buf`; the cells behind them keep what they held. One that
+// is longer than `buf` is malformed. Where nothing is left `buf` stays as it was.
 pub fn read_frame(buf: &mut [u8]) -> Frame
-    ensures { λ r. ⌜ Inside (now (buf .exit)) r ⌝ }
+    ensures { λ r. ⌜ Inside (now (buf .entry)) (now (buf .exit)) r ⌝ }
 {
     match read_number(buf.len()) {
         Number::Value(n) => {
