@@ -16,7 +16,8 @@ pub enum Error {
 #[derive(Clone, Debug, PartialEq, Eq)]
 pub struct Diagnostic {
     pub problem: Problem,
-    /// The bytes of the token that the error names, or that the lexer passed over.
+    /// The place of the token that the error names, or that the lexer passed over. At the script's end it lies past
+    /// the script: an index by it panics, and [`Diagnostic::bytes`] does not.
     pub span: Range<usize>,
     /// The kind of that token; nothing for what is no token.
     pub seen: Option<Kind>,

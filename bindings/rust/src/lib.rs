@@ -16,6 +16,7 @@ mod error;
 mod ffi;
 mod kind;
 mod node;
+mod span;
 
 pub use error::{Diagnostic, Error, Problem};
 pub use kind::Kind;
@@ -68,8 +69,9 @@ impl Tree {
         self.arrays.roots[..self.counts.roots()].iter().map(|&id| NodeId(id))
     }
 
-    /// Every node, in the order in which they were made: those below a node come before it. A body that a later default replaced is
-    /// among them, though no root reaches it.
+    /// Every node, in the order in which they were made: those below a node come before it. Those that no root
+    /// reaches are among them: a body that a later default replaced, and what a collecting reading had made of a
+    /// root before an error.
     pub fn nodes(&self) -> impl ExactSizeIterator<Item = (NodeId, Node<'_>)> {
         (0..self.counts.nodes() as u32).map(|i| (NodeId(i), self.node(NodeId(i))))
     }
@@ -122,7 +124,8 @@ impl Tree {
         std::str::from_utf8(bytes).expect("the lexer refuses bad UTF-8")
     }
 
-    /// Where a node starts, in bytes; an empty array has no start.
+    /// Where a node starts, in bytes. An empty array has no start, nor has what begins with one and has no sign of
+    /// its own, as `[].b` and `[[] 1]`.
     ///
     /// # Panics
     /// Where the tree has no node of that number.
@@ -140,7 +143,8 @@ impl Tree {
         token.unwrap_or_else(|number| panic!("no type {}: refused with {number}", id.0))
     }
 
-    /// The bytes that a token covers. A string's span starts behind its quote.
+    /// The place of a token. A string's span starts behind its quote; a Doc's starts at its `#` and is as long as its
+    /// words; that of a Void that is written nowhere may end past the script. [`Tree::bytes`] has what it covers.
     ///
     /// # Panics
     /// Where the token is none of this tree.
