@@ -2,9 +2,9 @@
 use mathlib.Core.Path.{_≡_}
 use mathlib.Core.Bool.{false}
 use mathlib.Core.Option.{Option, none}
-use mathlib.Core.List.{[]}
+use mathlib.Core.List.{List, []}
 use Prim.Native.Nat.{ℕ, _≤_}
-use lib.ListN.{length}
+use lib.ListN.{length, take}
 use Rattle.lex.specs.Kind.{kEof, kBraceRight, kPlus, kLet}
 use Rattle.rules.specs.Tree.{Tree}
 use Rattle.rules.specs.Rules.{Powers, powers}
@@ -41,3 +41,8 @@ pub record Answered (power : ℕ → Option Powers) (seed lines : ℕ) (arrays :
 abbrev pub SheetsAnswered : Type 0
 SheetsAnswered = (power : ℕ → Option Powers) → Signs power → (seed lines : ℕ) → lines ≤ maxLines
     → (arrays : Arrays) → tooShort (sheet seed lines) arrays ≡ false → Answered power seed lines arrays
+
+-- what stands in front of a buffer in which `n` bytes were written is the sheet
+pub record Delivered (power : ℕ → Option Powers) (seed lines n : ℕ) (out : List ℕ) : Type 0 where
+  pub front : take n out ≡ sheet seed lines
+  pub accepted : Accepted power seed lines
