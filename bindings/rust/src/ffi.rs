@@ -305,3 +305,17 @@ pub fn describe(error: &[u32; 5]) -> Result<String, u32> {
     let number = unsafe { purple_garden_describe(error, line.as_mut_ptr(), line.len(), &mut length) };
     answered(number, String::from_utf8_lossy(&line[..length[0] as usize]).into_owned())
 }
+
+// ---- practice sheets
+
+extern "C" {
+    fn purple_garden_practice(seed: u32, lines: u32, out: *mut u8, out_len: usize, length: *mut [u64; 1]) -> u32;
+}
+
+/// The length of the sheet that now stands in front of `out`.
+pub fn practice(seed: u32, lines: u32, out: &mut [u8]) -> Result<usize, u32> {
+    let mut length = [0];
+    // SAFETY: the pointer comes with its length; one cell for the answer.
+    let number = unsafe { purple_garden_practice(seed, lines, out.as_mut_ptr(), out.len(), &mut length) };
+    answered(number, length[0] as usize)
+}

@@ -17,6 +17,7 @@ mod ffi;
 mod kind;
 mod node;
 mod span;
+pub mod practice;
 
 pub use error::{Diagnostic, Error, Problem};
 pub use kind::Kind;
