@@ -197,6 +197,22 @@ uint32_t purple_garden_practice(uint32_t seed, uint32_t lines, uint8_t *out, siz
  *   nothing changes. */
 uint32_t purple_garden_describe(const uint32_t error[5], uint8_t *line, size_t line_len, uint64_t length[1]);
 
+/* The correction sheet. */
+
+/* A line of a sheet has 72 bytes and a line feed; an error takes at most three lines. */
+#define PURPLE_GARDEN_SHEET_LINE_BYTES 73
+#define PURPLE_GARDEN_SHEET_LINES 3
+
+/* The correction sheet of errors, five cells each as a reading leaves them in `diagnostics`; lend only
+ * the used part. `sheet` gets the lines and keeps what lies behind them; `length` gets their bytes.
+ * There is no zero byte at the end. A line holds the error's line in places 1 to 5, its column in 7 to
+ * 11, its number in 13 and 14, its words (docs/WORDS.md) in 16 to 72; longer words go on at place 16 of
+ * the next line under a blank margin. 1; then for each error in turn 42, it has no words, else 3, it
+ * starts past the script's end; last 44, `sheet` is too short: nothing changed, `length` neither. */
+uint32_t purple_garden_sheet(const uint8_t *script, size_t script_len,
+                             const uint32_t *errors, size_t errors_len,
+                             uint8_t *sheet, size_t sheet_len, uint64_t length[1]);
+
 #ifdef __cplusplus
 }
 #endif

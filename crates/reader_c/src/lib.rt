@@ -1,6 +1,7 @@
 // The reader for programs in other languages: readings, lookups and comparison on numbers and slices.
-mod practice_sheet;
 mod describe;
+mod practice_sheet;
+mod sheets;
 mod texts;
 
 use ast::diagnostic::Position;
