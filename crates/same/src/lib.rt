@@ -9,6 +9,7 @@ use ast::lookup::refusal;
 use ast::lookup::used;
 use node::agree_node;
 use rules::Counts;
+use rules::NodeId;
 ghost use mathlib.Core.Path.{_≡_};
 ghost use Rattle.ast.specs.Answer.{lent};
 ghost use Rattle.same.specs.Agree.{Agree, Decides};
@@ -61,14 +62,14 @@ fn agree_roots(
             cells,
             k,
             n,
-            cell(roots, at, 0),
+            NodeId(cell(roots, at, 0)),
             s2,
             nodes2,
             types2,
             cells2,
             k2,
             m,
-            cell(roots2, at, 0),
+            NodeId(cell(roots2, at, 0)),
         ) {
             return false;
         }

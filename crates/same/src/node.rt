@@ -9,8 +9,10 @@ use crate::word::formed_at;
 use ast::layout::cell;
 use ast::layout::run_at;
 use rules::Node;
+use rules::NodeId;
 use rules::NodeKind;
 use rules::Run;
+use rules::TypeExprId;
 ghost use mathlib.Core.Path.{_≡_};
 ghost use Prim.Native.Nat.{ℕ, _*_, _<_};
 ghost use Rattle.rules.specs.Shape.{shapes, fields, cases};
@@ -143,44 +145,44 @@ pub(crate) fn agree_node(
     cells: &&[u32],
     k: u32,
     n: u32,
-    i: u32,
+    i: NodeId,
     s2: &&[u8],
     nodes2: &&[u32],
     types2: &&[u32],
     cells2: &&[u32],
     k2: u32,
     m: u32,
-    j: u32,
+    j: NodeId,
 ) -> bool
-    ensures { λ r. ⌜ Decides r (Agree (nodesBelow (view (now (now (s .entry))) (now (now (nodes .entry))) (now (now (types .entry))) (now (now (cells .entry))) k) n i) (nodesBelow (view (now (now (s2 .entry))) (now (now (nodes2 .entry))) (now (now (types2 .entry))) (now (now (cells2 .entry))) k2) m j)) ⌝ }
+    ensures { λ r. ⌜ Decides r (Agree (nodesBelow (view (now (now (s .entry))) (now (now (nodes .entry))) (now (now (types .entry))) (now (now (cells .entry))) k) n (i .0)) (nodesBelow (view (now (now (s2 .entry))) (now (now (nodes2 .entry))) (now (now (types2 .entry))) (now (now (cells2 .entry))) k2) m (j .0))) ⌝ }
 {
-    if n <= i {
+    if n <= i.0 {
         return false;
     }
-    if m <= j {
+    if m <= j.0 {
         return false;
     }
-    let kind = kind_at(*nodes, Node::WIDTH, NodeKind::ARRAY, i);
+    let kind = kind_at(*nodes, Node::WIDTH, NodeKind::ARRAY, i.0);
     if kind == 0 {
         return false;
     }
-    if kind != kind_at(*nodes2, Node::WIDTH, NodeKind::ARRAY, j) {
+    if kind != kind_at(*nodes2, Node::WIDTH, NodeKind::ARRAY, j.0) {
         return false;
     }
-    let order = order_of(nodes, kind, i);
+    let order = order_of(nodes, kind, i.0);
     if !agree_parts(
         s,
         nodes,
         types,
         cells,
         k,
-        i,
+        i.0,
         s2,
         nodes2,
         types2,
         cells2,
         k2,
-        j,
+        j.0,
         order,
     ) {
         return false;
@@ -198,19 +200,19 @@ pub(crate) fn agree_node(
             types,
             cells,
             k,
-            i,
-            cell(*nodes, Node::WIDTH * i as usize, o),
+            i.0,
+            NodeId(cell(*nodes, Node::WIDTH * i.0 as usize, o)),
             s2,
             nodes2,
             types2,
             cells2,
             k2,
-            j,
-            cell(*nodes2, Node::WIDTH * j as usize, o),
+            j.0,
+            NodeId(cell(*nodes2, Node::WIDTH * j.0 as usize, o)),
         );
     }
-    let r = run_at(*nodes, Node::WIDTH * i as usize + o);
-    let r2 = run_at(*nodes2, Node::WIDTH * j as usize + o);
+    let r = run_at(*nodes, Node::WIDTH * i.0 as usize + o);
+    let r2 = run_at(*nodes2, Node::WIDTH * j.0 as usize + o);
     if sort == Sort::FIELDS {
         if r.len != r2.len {
             return false;
@@ -237,15 +239,15 @@ pub(crate) fn agree_node(
                 types,
                 cells,
                 k,
-                i,
-                cell(*cells, at, 3),
+                i.0,
+                NodeId(cell(*cells, at, 3)),
                 s2,
                 nodes2,
                 types2,
                 cells2,
                 k2,
-                j,
-                cell(*cells2, at2, 3),
+                j.0,
+                NodeId(cell(*cells2, at2, 3)),
             ) {
                 return false;
             }
@@ -262,15 +264,15 @@ pub(crate) fn agree_node(
             types,
             cells,
             k,
-            i,
-            cell(*cells, at, 3),
+            i.0,
+            NodeId(cell(*cells, at, 3)),
             s2,
             nodes2,
             types2,
             cells2,
             k2,
-            j,
-            cell(*cells2, at2, 3),
+            j.0,
+            NodeId(cell(*cells2, at2, 3)),
         );
     }
     if r.len != r2.len {
@@ -295,15 +297,15 @@ pub(crate) fn agree_node(
             types,
             cells,
             k,
-            i,
-            cell(*cells, at, 0),
+            i.0,
+            NodeId(cell(*cells, at, 0)),
             s2,
             nodes2,
             types2,
             cells2,
             k2,
-            j,
-            cell(*cells2, at2, 0),
+            j.0,
+            NodeId(cell(*cells2, at2, 0)),
         ) {
             return false;
         }
@@ -317,15 +319,15 @@ pub(crate) fn agree_node(
         types,
         cells,
         k,
-        i,
-        cell(*cells, at, 0),
+        i.0,
+        NodeId(cell(*cells, at, 0)),
         s2,
         nodes2,
         types2,
         cells2,
         k2,
-        j,
-        cell(*cells2, at2, 0),
+        j.0,
+        NodeId(cell(*cells2, at2, 0)),
     )
 }
 
@@ -431,12 +433,12 @@ fn agree_part(
             types,
             cells,
             k,
-            cell(*nodes, at, 0),
+            TypeExprId(cell(*nodes, at, 0)),
             s2,
             types2,
             cells2,
             k2,
-            cell(*nodes2, at2, 0),
+            TypeExprId(cell(*nodes2, at2, 0)),
         );
     }
     if sort == Sort::FNS {
@@ -515,14 +517,14 @@ fn agree_part(
             cells,
             k,
             i,
-            cell(*nodes, at, 0),
+            NodeId(cell(*nodes, at, 0)),
             s2,
             nodes2,
             types2,
             cells2,
             k2,
             j,
-            cell(*nodes2, at2, 0),
+            NodeId(cell(*nodes2, at2, 0)),
         );
     }
     true
@@ -567,14 +569,14 @@ fn agree_nodes(
             cells,
             k,
             i,
-            cell(*cells, at, 0),
+            NodeId(cell(*cells, at, 0)),
             s2,
             nodes2,
             types2,
             cells2,
             k2,
             j,
-            cell(*cells2, at2, 0),
+            NodeId(cell(*cells2, at2, 0)),
         ) {
             return false;
         }
@@ -627,14 +629,14 @@ fn agree_fields(
             cells,
             k,
             i,
-            cell(*cells, at, 3),
+            NodeId(cell(*cells, at, 3)),
             s2,
             nodes2,
             types2,
             cells2,
             k2,
             j,
-            cell(*cells2, at2, 3),
+            NodeId(cell(*cells2, at2, 3)),
         ) {
             return false;
         }
@@ -690,14 +692,14 @@ fn agree_cases(
             cells,
             k,
             i,
-            cell(*cells, at, 3),
+            NodeId(cell(*cells, at, 3)),
             s2,
             nodes2,
             types2,
             cells2,
             k2,
             j,
-            cell(*cells2, at2, 3),
+            NodeId(cell(*cells2, at2, 3)),
         ) {
             return false;
         }

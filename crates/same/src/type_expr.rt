@@ -6,6 +6,7 @@ use ast::layout::cell;
 use ast::layout::run_at;
 use rules::Run;
 use rules::TypeExpr;
+use rules::TypeExprId;
 use rules::TypeExprKind;
 ghost use Rattle.rules.specs.Shape.{params, fns};
 ghost use Rattle.same.specs.Agree.{Agree, Decides};
@@ -18,42 +19,42 @@ pub(crate) fn agree_type(
     types: &&[u32],
     cells: &&[u32],
     n: u32,
-    i: u32,
+    i: TypeExprId,
     s2: &&[u8],
     types2: &&[u32],
     cells2: &&[u32],
     m: u32,
-    j: u32,
+    j: TypeExprId,
 ) -> bool
-    ensures { λ r. ⌜ Decides r (Agree (typesBelow (now (now (s .entry))) (now (now (cells .entry))) (now (now (types .entry))) n i) (typesBelow (now (now (s2 .entry))) (now (now (cells2 .entry))) (now (now (types2 .entry))) m j)) ⌝ }
+    ensures { λ r. ⌜ Decides r (Agree (typesBelow (now (now (s .entry))) (now (now (cells .entry))) (now (now (types .entry))) n (i .0)) (typesBelow (now (now (s2 .entry))) (now (now (cells2 .entry))) (now (now (types2 .entry))) m (j .0))) ⌝ }
 {
-    if n <= i {
+    if n <= i.0 {
         return false;
     }
-    if m <= j {
+    if m <= j.0 {
         return false;
     }
-    let kind = kind_at(*types, TypeExpr::WIDTH, TypeExprKind::RECORD, i);
+    let kind = kind_at(*types, TypeExpr::WIDTH, TypeExprKind::RECORD, i.0);
     if kind == 0 {
         return false;
     }
-    if kind != kind_at(*types2, TypeExpr::WIDTH, TypeExprKind::RECORD, j) {
+    if kind != kind_at(*types2, TypeExpr::WIDTH, TypeExprKind::RECORD, j.0) {
         return false;
     }
-    let at = TypeExpr::WIDTH * i as usize;
-    let at2 = TypeExpr::WIDTH * j as usize;
+    let at = TypeExpr::WIDTH * i.0 as usize;
+    let at2 = TypeExpr::WIDTH * j.0 as usize;
     if kind == TypeExprKind::OPTION {
         return agree_type(
             s,
             types,
             cells,
-            i,
-            cell(*types, at, 1),
+            i.0,
+            TypeExprId(cell(*types, at, 1)),
             s2,
             types2,
             cells2,
-            j,
-            cell(*types2, at2, 1),
+            j.0,
+            TypeExprId(cell(*types2, at2, 1)),
         );
     }
     if kind == TypeExprKind::ARRAY {
@@ -61,13 +62,13 @@ pub(crate) fn agree_type(
             s,
             types,
             cells,
-            i,
-            cell(*types, at, 1),
+            i.0,
+            TypeExprId(cell(*types, at, 1)),
             s2,
             types2,
             cells2,
-            j,
-            cell(*types2, at2, 1),
+            j.0,
+            TypeExprId(cell(*types2, at2, 1)),
         );
     }
     if !agree_token_at(s, types, at + 1, s2, types2, at2 + 1) {
@@ -80,12 +81,12 @@ pub(crate) fn agree_type(
         s,
         types,
         cells,
-        i,
+        i.0,
         run_at(*types, at + 4),
         s2,
         types2,
         cells2,
-        j,
+        j.0,
         run_at(*types2, at2 + 4),
     )
 }
@@ -126,12 +127,12 @@ pub(crate) fn agree_params(
             types,
             cells,
             n,
-            cell(*cells, at, 3),
+            TypeExprId(cell(*cells, at, 3)),
             s2,
             types2,
             cells2,
             m,
-            cell(*cells2, at2, 3),
+            TypeExprId(cell(*cells2, at2, 3)),
         ) {
             return false;
         }
@@ -202,12 +203,12 @@ pub(crate) fn agree_fns(
             types,
             cells,
             n,
-            cell(*cells, at, 7),
+            TypeExprId(cell(*cells, at, 7)),
             s2,
             types2,
             cells2,
             m,
-            cell(*cells2, at2, 7),
+            TypeExprId(cell(*cells2, at2, 7)),
         ) {
             return false;
         }
