@@ -10,6 +10,7 @@
 //! refusals   1 to 3: scripts that are too long, arrays that are too short, numbers that lie outside
 //! limits     scripts of 0, 1, 65,536 and 65,537 bytes of many shapes; arrays exactly long enough, longer, and one cell short of each
 //! practice   practice sheets beside a generator of its own; each is read
+//! sheets     correction sheets, read back by a reader of its own; their refusals; how long one takes
 //! words      errors of every number, wanted and seen beside the tables of docs/WORDS.md, and their refusals
 //!
 //! Without a family all are run. Of each script the numbers, all cells of all arrays, the starts of nodes, the tokens of types, spans, lines and columns
@@ -28,6 +29,7 @@ mod numbers;
 mod practice;
 mod scripts;
 mod shape;
+mod sheet;
 mod words;
 
 use crate::ast::{Ast, NodeId, TypeExprId};
@@ -466,13 +468,15 @@ fn source(script: &[u8], t: &lex::Token<'_>) -> (usize, usize) {
     (t.start, end)
 }
 
-const FAMILIES: [&str; 9] = ["refusals", "limits", "bytes", "tokens", "programs", "long", "pairs", "practice", "words"];
+const FAMILIES: [&str; 10] =
+    ["refusals", "limits", "bytes", "tokens", "programs", "long", "pairs", "practice", "sheets", "words"];
 
 fn run(quick: bool, seed: u64, families: &[String]) -> u64 {
     let mut beside = Beside::new(seed);
     let mut differ = 0;
     for family in FAMILIES.iter().filter(|f| families.is_empty() || families.iter().any(|g| g == *f)) {
         differ += match *family {
+            "sheets" => beside.sheets(if quick { 20_000 } else { 400_000 }),
             "practice" => beside.practice(if quick { 5_000 } else { 100_000 }),
             "words" => beside.describe(if quick { 100_000 } else { 2_000_000 }),
             "refusals" => beside.refusals(),
