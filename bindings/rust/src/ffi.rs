@@ -319,3 +319,27 @@ pub fn practice(seed: u32, lines: u32, out: &mut [u8]) -> Result<usize, u32> {
     let number = unsafe { purple_garden_practice(seed, lines, out.as_mut_ptr(), out.len(), &mut length) };
     answered(number, length[0] as usize)
 }
+
+// ---- correction sheets
+
+extern "C" {
+    fn purple_garden_sheet(
+        script: *const u8,
+        script_len: usize,
+        errors: *const u32,
+        errors_len: usize,
+        sheet: *mut u8,
+        sheet_len: usize,
+        length: *mut [u64; 1],
+    ) -> u32;
+}
+
+/// The length of the sheet that now stands in front of `sheet`.
+pub fn sheet(script: &[u8], errors: &[u32], sheet: &mut [u8]) -> Result<usize, u32> {
+    let mut length = [0];
+    // SAFETY: each pointer comes with its length; one cell for the answer.
+    let number = unsafe {
+        purple_garden_sheet(script.as_ptr(), script.len(), errors.as_ptr(), errors.len(), sheet.as_mut_ptr(), sheet.len(), &mut length)
+    };
+    answered(number, length[0] as usize)
+}

@@ -18,6 +18,7 @@ mod kind;
 mod node;
 mod span;
 pub mod practice;
+mod sheet;
 
 pub use error::{Diagnostic, Error, Problem};
 pub use kind::Kind;
