@@ -10,7 +10,7 @@
 //! refusals   1 to 3: scripts that are too long, arrays that are too short, numbers that lie outside
 //! limits     scripts of 0, 1, 65,536 and 65,537 bytes of many shapes; arrays exactly long enough, longer, and one cell short of each
 //! practice   practice sheets beside a generator of its own; each is read
-//! sheets     correction sheets, read back by a reader of its own; their refusals; how long one takes
+//! sheets     correction sheets, read back by a reader of its own; refusals; how long one takes
 //! words      errors of every number, wanted and seen beside the tables of docs/WORDS.md, and their refusals
 //!
 //! Without a family all are run. Of each script the numbers, all cells of all arrays, the starts of nodes, the tokens of types, spans, lines and columns

@@ -18,7 +18,8 @@ struct Draws {
 }
 
 impl Draws {
-    /// 'the new seed divided by 65,536, without its fraction, and of that the remainder by the count'
+    /// 'the new seed divided by 65,536, without its fraction, and of that the remainder by the
+    /// count'
     fn among(&mut self, count: u64) -> u64 {
         self.seed = (self.seed * 1_664_525 + 1_013_904_223) % 4_294_967_296;
         self.seed / 65_536 % count
@@ -55,7 +56,7 @@ const GUARD: usize = 8;
 const UNTOUCHED: u8 = 0xa5;
 const NO_LENGTH: u64 = 0xdead_beef_dead_beef;
 
-/// The library on a buffer of so many bytes: its number, the length, and the buffer with its guards.
+/// The library on a buffer of so many bytes: its number, the length, the buffer with its guards.
 fn written(seed: u32, lines: u32, bytes: usize) -> (u32, u64, Vec<u8>) {
     let mut cells = vec![UNTOUCHED; bytes + 2 * GUARD];
     let mut length = [NO_LENGTH];
@@ -126,8 +127,8 @@ impl Beside {
         count.done()
     }
 
-    /// Strict mode accepts the sheet with one root per line, collecting mode gathers nothing, and both
-    /// trees are the Rust's.
+    /// Strict mode accepts the sheet with one root per line, collecting mode gathers nothing, and
+    /// both trees are the Rust's.
     fn accepted(&mut self, count: &mut Count, script: &[u8], lines: u32) {
         count.scripts += 1;
         for mode in [Mode::Strict, Mode::Collecting] {

@@ -1,6 +1,6 @@
-//! Correction sheets: read back from their text by a reader that is written from document 02's words,
-//! and compared with the errors that they were printed from. The words of an error come from the two
-//! tables of docs/WORDS.md, its line and column from counting bytes.
+//! Correction sheets: read back from their text by a reader that is written from document 02's
+//! words, and compared with the errors that they were printed from. The words of an error come from
+//! the two tables of docs/WORDS.md, its line and column from counting bytes.
 
 use crate::library::{self, Mode};
 use crate::scripts::Random;
@@ -184,7 +184,7 @@ impl Printed {
     }
 }
 
-/// What an independent printer would show, or the refusal: 1, then for each error in turn 42, else 3.
+/// What is to be shown, or the refusal: 1, then for each error in turn 42, else 3.
 fn due(words: &Words, script: &[u8], errors: &[u32]) -> Result<Vec<Shown>, u32> {
     if script.len() > LONGEST {
         return Err(1);

@@ -13,9 +13,9 @@ fn print(script: &[u8], errors: &[u32]) -> String {
 }
 
 impl Tree {
-    /// The correction sheet of what a collecting reading gathered; empty after a strict one. Each line
-    /// has 72 bytes: the error's line in places 1 to 5, its column in 7 to 11, its number in 13 and 14,
-    /// its words from 16 on. Words that are longer go on under a blank margin.
+    /// The correction sheet of what a collecting reading gathered; empty after a strict one. Each
+    /// line has 72 bytes: the error's line in places 1 to 5, its column in 7 to 11, its number in 13
+    /// and 14, its words from 16 on. Words that are longer go on under a blank margin.
     pub fn sheet(&self) -> String {
         print(&self.script, &self.arrays.diagnostics[..5 * self.counts.diagnostics()])
     }

@@ -47,7 +47,7 @@ fn every_error_of_a_long_script() {
     assert_eq!(last, "32768     1 33 ");
 }
 
-/// docs/FOR-TEACHERS.md has the sheets of the wrong papers, without the blanks at the ends of lines.
+/// docs/FOR-TEACHERS.md has the sheets of the wrong papers, without blanks at the ends of lines.
 #[test]
 fn the_teachers_page_has_the_sheets() {
     let root = concat!(env!("CARGO_MANIFEST_DIR"), "/../../");
