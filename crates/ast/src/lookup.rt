@@ -320,13 +320,18 @@ fn inner_of(types: &[u32], id: TypeExprId) -> TypeExprId
     }
 }
 
-// The type whose token type `id` has: the first on the way down that holds none below its own number. The call is the last thing
-// done, and passes nothing that lies in this function's frame, so that a long chain takes no stack.
-fn innermost(types: &&[u32], id: TypeExprId) -> TypeExprId
-    ensures { λ r. ⌜ Innermost (now (now (types .entry))) (id .0) (r .0) ⌝ }
+// The number of the type whose token type `id` has: the first on the way down that holds none below its own number. The call is the
+// last thing done, and passes nothing that lies in this function's frame, so that a long chain takes no stack; a struct that is
+// returned would lie there.
+fn innermost(types: &&[u32], id: TypeExprId) -> u32
+    ensures { λ r. ⌜ Innermost (now (now (types .entry))) (id .0) r ⌝ }
 {
     let j = inner_of(*types, id);
-    if j.0 < id.0 { innermost(types, j) } else { id }
+    if j.0 < id.0 {
+        innermost(types, j)
+    } else {
+        id.0
+    }
 }
 
 // The token of a type that holds none below its own number.
@@ -370,5 +375,5 @@ pub fn type_token(
     if types.len() < TypeExpr::WIDTH * i as usize + TypeExpr::WIDTH {
         return TypeToken::Refused(3);
     }
-    token_here(script, types, innermost(&types, id))
+    token_here(script, types, TypeExprId(innermost(&types, id)))
 }

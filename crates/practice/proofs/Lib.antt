@@ -1,4 +1,5 @@
--- Strict reading accepts every practice sheet, with one root for each line; and what the functions' proofs cite.
+-- Strict reading accepts every practice sheet, with one root for each line;
+-- and what the functions' proofs cite.
 pub mod Spelled
 pub mod Lexed
 pub mod Read

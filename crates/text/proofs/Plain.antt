@@ -1,4 +1,5 @@
--- Laws of texts of bytes: one behind another, numbers, and a text that is counted on no buffer before it is written.
+-- Laws of texts of bytes: one behind another, numbers, and a text that is counted on no buffer
+-- before it is written.
 use mathlib.Core.Path.{_≡_, refl, _∙_, ap}
 use mathlib.Core.Bool.{Bool, true, false}
 use mathlib.Core.List.{List, [], _∷_, _++_}
