@@ -42,11 +42,13 @@ onward p bs = record { line = p .line + feeds bs; column = 1 + since (p .column 
 abbrev pub maxPlace : ℕ
 maxPlace = 65537
 
--- the walk to `to` goes on from `known`, the place of `from`: `to` is not before it, and `known` is a place that a script can have
+-- the walk to `to` goes on from `known`, the place of `from`: `to` is not before it, and `known` is
+-- a place that a script can have
 unfoldable pub goesOn : ℕ → Place → ℕ → Bool
 goesOn from known to = if (ltb to from) false (if (ltb (known .column) 1) false (if (ltb maxPlace (known .column)) false (leb (known .line) maxPlace)))
 
--- the place of `to` from `known`, taken for the place of `from`; from the script's beginning where the walk does not go on
+-- the place of `to` from `known`, taken for the place of `from`; from the script's beginning where
+-- the walk does not go on
 unfoldable pub advanced : List ℕ → ℕ → Place → ℕ → Answer Place
 advanced script from known to =
     if (ltb maxBytes (length script)) (refused 1)

@@ -1,4 +1,5 @@
--- What the code's own functions mean: how long a text is, texts one behind the other, and how far a sheet is written.
+-- What the code's own functions mean: how long a text is, texts one behind the other, and how far
+-- a sheet is written.
 use mathlib.Core.Path.{_≡_}
 use mathlib.Core.Option.{none, some}
 use mathlib.Core.List.{List, [], _++_}

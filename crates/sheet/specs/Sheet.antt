@@ -122,12 +122,13 @@ unfoldable pub blank : List ℕ → Bool
 blank [] = true
 blank (b ∷ bs) = eqb b 32 && blank bs
 
--- what lines tell: the words of the errors that begin in them, and what is to go on from the line above
+-- what lines tell: the words of the errors that begin in them, and what goes on from the line above
 pub record Gathered : Type 0 where
   pub loose : List ℕ
   pub errors : List (List ℕ)
 
--- under a blank margin the words of the line above go on; under another an error begins, and its padding is cut off
+-- under a blank margin the words of the line above go on; under another an error begins, and its
+-- padding is cut off
 abbrev pub tell : Bool → List ℕ → List (List ℕ) → Gathered
 tell true more errors = record { loose = more; errors = errors }
 tell false more errors = record { loose = []; errors = cut more ∷ errors }

@@ -228,8 +228,8 @@ fn write_all(script: &[u8], errors: &[u32], out: &mut [u8]) -> usize
     w.to
 }
 
-// The sheet of the errors, five numbers each. They are looked at before anything is written, so that
-// the buffer is as it was where the sheet is refused.
+// The sheet of the errors, five numbers each. They are looked at before anything is written, so
+// that the buffer is as it was where the sheet is refused.
 pub fn print_sheet(script: &[u8], errors: &[u32], sheet: &mut [u8]) -> Writing
     ensures { λ r.
         let left = result (answerOf r) (now (sheet .exit)) in
