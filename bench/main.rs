@@ -1,4 +1,4 @@
-//! Times strict reading by the library (libreader_c.a) beside the unchanged Rust, on the same scripts.
+//! Times strict reading by the library (libc_api.a) beside the unchanged Rust, on the same scripts.
 //!
 //! bench [--table]                          a Markdown table
 //! bench --once INPUT BYTES COUNT READER    READER (rust, library or clear) reads one input COUNT times

@@ -1,6 +1,6 @@
 /* purple_garden.h: the reader of Purple Garden scripts for C.
  *
- * Link libreader_c.a, which tools/build-library writes (x86-64 Linux). The functions keep nothing
+ * Link libc_api.a, which tools/build-library writes (x86-64 Linux). The functions keep nothing
  * between calls, allocate nothing, call nothing of yours, and may be called from several threads at
  * once, each with arrays of its own.
  *
@@ -18,7 +18,7 @@
  *   or read the script anew.
  *
  * What is not left to the caller: on every input that keeps this, each function answers what its
- * comment says. That is proved (crates/reader_c).
+ * comment says. That is proved (crates/c_api).
  *
  * Numbers that functions return: 0, it went well;
  *   1, the script has over 65,536 bytes; 2, an array is shorter than its least length;
@@ -181,7 +181,7 @@ uint32_t purple_garden_token_span(const uint8_t *script, size_t script_len,
 uint32_t purple_garden_line_column(const uint8_t *script, size_t script_len, uint32_t at,
                                    uint64_t place[2]);
 
-/* Two trees have the same shape: `same` gets 1 for yes, 0 for no. Trees from anywhere that share
+/* Two trees have the same shape: `compare` gets 1 for yes, 0 for no. Trees from anywhere that share
  * nodes can take very long (docs/DECISIONS.md, 26). */
 uint32_t purple_garden_same_shape(const uint8_t *script, size_t script_len,
                                   const uint32_t *nodes, size_t nodes_len,

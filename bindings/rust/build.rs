@@ -6,10 +6,10 @@ fn main() {
         Some(folder) => PathBuf::from(folder),
         None => PathBuf::from(env!("CARGO_MANIFEST_DIR")).join("../../target/staticlib"),
     };
-    let library = folder.join("libreader_c.a");
+    let library = folder.join("libc_api.a");
     assert!(library.exists(), "{} is missing: run tools/build-library first", library.display());
     println!("cargo:rerun-if-env-changed=PURPLE_GARDEN_LIBRARY");
     println!("cargo:rerun-if-changed={}", library.display());
     println!("cargo:rustc-link-search=native={}", folder.display());
-    println!("cargo:rustc-link-lib=static=reader_c");
+    println!("cargo:rustc-link-lib=static=c_api");
 }

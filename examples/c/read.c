@@ -2,7 +2,7 @@
  * or the error with its line and column.
  *
  *   tools/build-library
- *   cc -I include -o target/read examples/c/read.c target/staticlib/libreader_c.a
+ *   cc -I include -o target/read examples/c/read.c target/staticlib/libc_api.a
  *   target/read FILE
  *
  * Exit status: 0, a tree; 1, the script's own error, which is printed; 2, FILE cannot be read

@@ -10,7 +10,7 @@
 //! # Ok::<(), purple_garden_reader::Error>(())
 //! ```
 //!
-//! The reading itself is proved (crates/reader_c and below); this wrapper lends it arrays of the lengths it asks for and decodes what they hold.
+//! The reading itself is proved (crates/c_api and below); this wrapper lends it arrays of the lengths it asks for and decodes what they hold.
 
 mod error;
 mod ffi;

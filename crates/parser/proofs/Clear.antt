@@ -6,7 +6,7 @@ use native.Mathlib.Omega.{arith}
 use lib.ListN.{length, take, drop, set, getD, length-append, length-take, take-append-drop, drop-of-length-le, replicate-append-replicate}
 use lib.Seq.{drop-cons, drop-at, set-at, take-at}
 use Rattle.rules.specs.Layout.{zeros}
-use Rattle.parser_base.proofs.Cells.{zeros-length}
+use Rattle.parser_state.proofs.Cells.{zeros-length}
 use Rattle.parser.specs.Whole.{cleared, Left}
 
 pub cleared-start : (a : List ℕ) (from : ℕ) → a ≡ cleared a from from

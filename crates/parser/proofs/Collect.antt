@@ -29,13 +29,13 @@ use Rattle.diagnostics.proofs.Records.{cells-length, holding-pushed, holding-no
 use Rattle.diagnostics.specs.Faults.{faultsBetween, lowDiagnostic}
 use Rattle.diagnostics.proofs.Faults.{faults-low}
 use Rattle.diagnostics.proofs.Order.{Ordered, ordered-start, ordered-error, ordered-end, ordered-room}
-use Rattle.parser_base.specs.Represents.{Failed, Code, code, isGoing, ahead, Represents, FailedAt}
-use Rattle.parser_base.specs.Refines.{Ends, kept, Refines, deeper, memberFollows}
-use Rattle.parser_base.specs.declared.Parser.{Parser}
-use Rattle.parser_base.specs.declared.Status.{Status}
-use Rattle.parser_base.proofs.Steps.{true≢false, current-represents, represents-less, represents-going}
-use Rattle.parser_base.proofs.Rounds.{after, iterate-suc, ifKind-is-yes, ifKind-is-no}
-use Rattle.parser_base.proofs.Loops.{member-going, member-eof}
+use Rattle.parser_state.specs.Represents.{Failed, Code, code, isGoing, ahead, Represents, FailedAt}
+use Rattle.parser_state.specs.Refines.{Ends, kept, Refines, deeper, memberFollows}
+use Rattle.parser_state.specs.declared.Parser.{Parser}
+use Rattle.parser_state.specs.declared.Status.{Status}
+use Rattle.parser_state.proofs.Steps.{true≢false, current-represents, represents-less, represents-going}
+use Rattle.parser_state.proofs.Rounds.{after, iterate-suc, ifKind-is-yes, ifKind-is-no}
+use Rattle.parser_state.proofs.Loops.{member-going, member-eof}
 use Rattle.parser.specs.Whole.{Left, Blank, fresh, dropDocs, Resumes, synchronizing}
 use Rattle.parser.specs.Collect.{RootsCollected, collectStep, DiagnosticsAre, Gathers, Room, Stopped, TurnEnds, CollectEnds}
 use Rattle.parser.proofs.Clear.{left-front}

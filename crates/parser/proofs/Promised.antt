@@ -16,11 +16,11 @@ use Rattle.rules.specs.Layout.{zeros, padded, nodeCells, typeCells, diagnosticC
 use Rattle.rules.specs.Promise.{maxBytes, Arrays, Outcome, tooShort, zeroed, holding, outcome, promised}
 use Rattle.rules.specs.declared.Parsed.{Parsed}
 use Rattle.rules.specs.declared.Parsed.the-variants as P
-use Rattle.parser_base.specs.Represents.{isGoing}
-use Rattle.parser_base.specs.declared.Used.{Used}
-use Rattle.parser_base.specs.declared.Status.{Status}
-use Rattle.parser_base.proofs.Steps.{true≢false}
-use Rattle.parser_base.proofs.Cells.{zeros-length}
+use Rattle.parser_state.specs.Represents.{isGoing}
+use Rattle.parser_state.specs.declared.Used.{Used}
+use Rattle.parser_state.specs.declared.Status.{Status}
+use Rattle.parser_state.proofs.Steps.{true≢false}
+use Rattle.parser_state.proofs.Cells.{zeros-length}
 use Rattle.parser.specs.Whole.{RootsRead, Left, LeftBehind, arrays, refusal, Blank, Holds, RootsEnd}
 use Rattle.parser.specs.Collect.{RootsCollected, inOrder, CollectEnds}
 

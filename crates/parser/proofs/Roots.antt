@@ -19,16 +19,16 @@ use Rattle.rules.specs.Rules.{maxLevels, stageOne}
 use Rattle.rules.specs.Parse.{begin, parseRoots}
 use Rattle.rules.specs.Layout.{zeros, nodeCells, typeCells}
 use Rattle.rules.specs.declared.NodeId.{NodeId}
-use Rattle.parser_base.specs.Represents.{withUsed, Going, Failed, Code, code, going, isGoing, ahead, docCells, Related, Represents, FailedAt}
-use Rattle.parser_base.specs.Refines.{Ends, kept, Refines, deeper, memberFollows}
-use Rattle.parser_base.specs.declared.Parser.{Parser}
-use Rattle.parser_base.specs.declared.Used.{Used}
-use Rattle.parser_base.proofs.Steps.{either, true≢false, left-some, current-represents, represents-less, represents-going, failed-fails}
-use Rattle.parser_base.proofs.Leaves.{lent, moved-low, from-next, next-near}
-use Rattle.parser_base.proofs.Cells.{types-length, nodes-length}
-use Rattle.parser_base.proofs.Docs.{docs-length}
-use Rattle.parser_base.proofs.Rounds.{Again, Turned, LoopInvariant, round-start-at, round-out, ifKind-is-yes, ifKind-is-no}
-use Rattle.parser_base.proofs.Loops.{member-eof, no-member}
+use Rattle.parser_state.specs.Represents.{withUsed, Going, Failed, Code, code, going, isGoing, ahead, docCells, Related, Represents, FailedAt}
+use Rattle.parser_state.specs.Refines.{Ends, kept, Refines, deeper, memberFollows}
+use Rattle.parser_state.specs.declared.Parser.{Parser}
+use Rattle.parser_state.specs.declared.Used.{Used}
+use Rattle.parser_state.proofs.Steps.{either, true≢false, left-some, current-represents, represents-less, represents-going, failed-fails}
+use Rattle.parser_state.proofs.Leaves.{lent, moved-low, from-next, next-near}
+use Rattle.parser_state.proofs.Cells.{types-length, nodes-length}
+use Rattle.parser_state.proofs.Docs.{docs-length}
+use Rattle.parser_state.proofs.Rounds.{Again, Turned, LoopInvariant, round-start-at, round-out, ifKind-is-yes, ifKind-is-no}
+use Rattle.parser_state.proofs.Loops.{member-eof, no-member}
 use Rattle.parser.specs.Whole.{RootsRead, Left, LeftBehind, hasCell, RootPushed, Blank, fresh, rootStep, RootsAre, dropDocs, Holds, RootsEnd}
 use Rattle.parser.proofs.Clear.{end-cleared, left-as, left-more, left-front}
 

@@ -16,13 +16,13 @@ use Rattle.rules.specs.Combinators.{Rule, _>>_, pure, advance, choose, withDocs
 use Rattle.rules.specs.Parse.{synchronizeByKind, synchronizeStep, synchronizeRoot}
 use Rattle.rules.specs.Layout.{zeros}
 use Rattle.rules.proofs.Results as Results
-use Rattle.parser_base.specs.Represents.{Going, withUsed, withStatus, Code, code, isGoing, Represents, FailedAt}
-use Rattle.parser_base.specs.Refines.{Ends, kept, Refines}
-use Rattle.parser_base.specs.declared.Parser.{Parser}
-use Rattle.parser_base.specs.declared.Used.{Used}
-use Rattle.parser_base.proofs.Steps.{either, true≢false, at-kind, then, done, enough, represents-less}
-use Rattle.parser_base.proofs.Leaves.{idle, lent}
-use Rattle.parser_leaves.proofs.Tables.{past, past-all}
+use Rattle.parser_state.specs.Represents.{Going, withUsed, withStatus, Code, code, isGoing, Represents, FailedAt}
+use Rattle.parser_state.specs.Refines.{Ends, kept, Refines}
+use Rattle.parser_state.specs.declared.Parser.{Parser}
+use Rattle.parser_state.specs.declared.Used.{Used}
+use Rattle.parser_state.proofs.Steps.{either, true≢false, at-kind, then, done, enough, represents-less}
+use Rattle.parser_state.proofs.Leaves.{idle, lent}
+use Rattle.parser_operators.proofs.Tables.{past, past-all}
 use Rattle.parser.specs.Whole.{Resumes, rootBoundary, skips, synchronizing}
 use Rattle.parser.proofs.Clear.{end-cleared}
 

@@ -13,9 +13,9 @@ use Rattle.rules.specs.Parse.{Gathered, merged, recover}
 use Rattle.rules.specs.Layout.{padded, diagnosticCells}
 use Rattle.diagnostics.specs.Records.{diagnostics, holding}
 use Rattle.diagnostics.proofs.Order.{Ordered}
-use Rattle.parser_base.specs.Represents.{Failed, code, ahead, Represents}
-use Rattle.parser_base.specs.Refines.{deeper}
-use Rattle.parser_base.specs.declared.Parser.{Parser}
+use Rattle.parser_state.specs.Represents.{Failed, code, ahead, Represents}
+use Rattle.parser_state.specs.Refines.{deeper}
+use Rattle.parser_state.specs.declared.Parser.{Parser}
 use Rattle.parser.specs.Whole.{Left, LeftBehind, RootsAre, Holds}
 use Rattle.parser.specs.declared.Gathering.{Gathering}
 

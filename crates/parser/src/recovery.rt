@@ -3,18 +3,18 @@ use crate::clear_from;
 use crate::drop_docs;
 use lex::Diagnostic;
 use lex::Type;
-use parser_base::Used;
-use parser_base::advance;
-use parser_base::get_used;
-use parser_base::going;
-use parser_base::kind;
-use parser_base::set_status;
-use parser_base::set_used;
+use parser_state::Used;
+use parser_state::advance;
+use parser_state::get_used;
+use parser_state::going;
+use parser_state::kind;
+use parser_state::set_status;
+use parser_state::set_used;
 ghost use mathlib.Core.Path.{_≡_};
 ghost use mathlib.Core.List.{List};
 ghost use Prim.Native.Nat.{ℕ};
-ghost use Rattle.parser_base.specs.Represents.{parserOf, code};
-ghost use Rattle.parser_base.specs.Refines.{Refines, kept};
+ghost use Rattle.parser_state.specs.Represents.{parserOf, code};
+ghost use Rattle.parser_state.specs.Refines.{Refines, kept};
 ghost use Rattle.parser.specs.Whole.{Resumes, rootBoundary, skips, synchronizing};
 
 // What was under construction when a reading failed is cleared, its docs are dropped, and the reading goes on.

@@ -12,13 +12,13 @@ use Rattle.rules.specs.Tree.{State, ok}
 use Rattle.rules.specs.Combinators.{Rule, Readers, ControlFlow, break, failExpecting, byKind, choose, collectDocs, pure}
 use Rattle.rules.specs.Rules.{powers, stageOne, readers, itemByKind, parsePrefix, parseExpr, operand}
 use Rattle.rules.specs.declared.NodeId.{NodeId}
-use Rattle.parser_base.specs.Represents.{Code, going}
-use Rattle.parser_base.specs.Refines.{kept, Refines, Refuses, deeper}
-use Rattle.parser_base.proofs.Steps.{either, at-kind, refused, then, enough, current-represents, ifKind-no}
-use Rattle.parser_base.proofs.Docs.{docs-none, require-then}
-use Rattle.parser_base.proofs.Rounds.{Again, weight, ifKind-is-no, round-out, round-start}
-use Rattle.parser_leaves.specs.Tests.{beginsExpr, operandClass, operandOf, operatorNumber, leftPowers, rightPowers}
-use Rattle.parser_leaves.proofs.Tables.{begins-expr, entry-past, entry-other, operand-class, powers-some}
+use Rattle.parser_state.specs.Represents.{Code, going}
+use Rattle.parser_state.specs.Refines.{kept, Refines, Refuses, deeper}
+use Rattle.parser_state.proofs.Steps.{either, at-kind, refused, then, enough, current-represents, ifKind-no}
+use Rattle.parser_state.proofs.Docs.{docs-none, require-then}
+use Rattle.parser_state.proofs.Rounds.{Again, weight, ifKind-is-no, round-out, round-start}
+use Rattle.parser_operators.specs.Tests.{beginsExpr, operandClass, operandOf, operatorNumber, leftPowers, rightPowers}
+use Rattle.parser_operators.proofs.Tables.{begins-expr, entry-past, entry-other, operand-class, powers-some}
 
 -- ---- levels
 

@@ -7,9 +7,9 @@ use lib.ListN.{length}
 use Rattle.rules.specs.Tree.{State, Result, ok, err}
 use Rattle.rules.specs.Combinators.{Rule}
 use Rattle.rules.specs.Rules.{strikeSingle}
-use Rattle.parser_base.specs.Represents.{Code}
-use Rattle.parser_base.specs.Refines.{Ends, Refines}
-use Rattle.parser_base.proofs.Steps.{noted, represents-noted}
+use Rattle.parser_state.specs.Represents.{Code}
+use Rattle.parser_state.specs.Refines.{Ends, Refines}
+use Rattle.parser_state.proofs.Steps.{noted, represents-noted}
 
 module _ {script : List ℕ} {x : Rule (List (List ℕ))} {Q : List (List ℕ) → Type 0} {grow : List (List ℕ) → List ℕ → List ℕ} {r l d r′ l′ : ℕ} {s s′ : Code} where
   pub strike-as : Refines script r l x Q grow d r′ l′ s s′ → Refines script r l (strikeSingle x) Q grow d r′ l′ s s′

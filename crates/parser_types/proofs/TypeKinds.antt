@@ -11,9 +11,9 @@ use Rattle.lex.specs.Kind.{kStr, kInt, kDouble, kBool, kVoid, kOption, kArray, 
 use Rattle.rules.specs.Combinators.{choose, failExpecting, Readers}
 use Rattle.rules.specs.Rules.{readers, parseType, typeByKind, atomType}
 use Rattle.rules.specs.declared.TypeExprId.{TypeExprId}
-use Rattle.parser_base.specs.Represents.{Code}
-use Rattle.parser_base.specs.Refines.{Refines, Refuses, kept, deeper}
-use Rattle.parser_base.proofs.Steps.{either, at-kind, refused}
+use Rattle.parser_state.specs.Represents.{Code}
+use Rattle.parser_state.specs.Refines.{Refines, Refuses, kept, deeper}
+use Rattle.parser_state.proofs.Steps.{either, at-kind, refused}
 
 deeper-zero : (script : List ℕ) (levels : ℕ) → levels ≡ 0 → deeper script levels .type ≡ failExpecting 10 0
 unfolding readers

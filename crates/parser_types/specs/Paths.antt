@@ -2,8 +2,8 @@
 use Prim.Native.Nat.{ℕ}
 use mathlib.Core.List.{List}
 use Rattle.rules.specs.Combinators.{Rule}
-use Rattle.parser_base.specs.Represents.{Code}
-use Rattle.parser_base.specs.Refines.{Refines, Collected, allGrown}
+use Rattle.parser_state.specs.Represents.{Code}
+use Rattle.parser_state.specs.Refines.{Refines, Collected, allGrown}
 
 -- so many paths are pushed
 abbrev pub ReadsPaths : List ℕ → Rule (List (List ℕ)) → Code → Code → ℕ → Type 0

@@ -2,7 +2,7 @@
 use native.Mathlib.Omega.{arith}
 use borrow.Author.Needs.{needs}
 use mathlib.Core.Path.{sym, _∙_}
-use Rattle.parser_base.proofs.Steps.{true≢false, represents-going, failed-fails}
+use Rattle.parser_state.proofs.Steps.{true≢false, represents-going, failed-fails}
 use Rattle.parser.proofs.Collect.{collect-turn, gathered-root, gathers-on}
 use Rattle.parser.proofs.Roots.{root-there}
 use Rattle.parser.proofs.collect_root.Statement.{statement}

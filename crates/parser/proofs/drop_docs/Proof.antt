@@ -1,12 +1,12 @@
 -- `parser::drop_docs` meets its contract.
 use borrow.Author.Needs.{needs}
-use Rattle.parser_base.specs.declared.Parser.{Parser}
-use Rattle.parser_base.specs.declared.Used.{Used}
+use Rattle.parser_state.specs.declared.Parser.{Parser}
+use Rattle.parser_state.specs.declared.Used.{Used}
 use native.Mathlib.Omega.{arith}
 use mathlib.Core.Path.{refl, sym, _∙_, ap}
 use borrow.Author.Tests.{not-true, not-false}
-use Rattle.parser_base.proofs.Leaves.{full, idle}
-use Rattle.parser_base.proofs.Steps.{left-some}
+use Rattle.parser_state.proofs.Leaves.{full, idle}
+use Rattle.parser_state.proofs.Steps.{left-some}
 use Rattle.parser.proofs.Roots.{dropping}
 use Rattle.parser.proofs.drop_docs.Statement.{statement}
 use Rattle.parser.proofs.drop_docs.Tie as tie

@@ -1,7 +1,7 @@
 -- `parser::first` meets its contract.
 use borrow.Author.Needs.{needs}
 use Rattle.parser.specs.Whole.{fresh}
-use Rattle.parser_base.specs.Represents.{parserOf}
+use Rattle.parser_state.specs.Represents.{parserOf}
 use mathlib.Core.Path.{ap, _∙_}
 use Rattle.parser.proofs.first.Statement.{statement}
 use Rattle.parser.proofs.first.Tie as tie

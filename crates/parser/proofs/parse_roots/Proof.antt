@@ -1,15 +1,15 @@
 -- `parser::parse_roots` meets its contract.
 use borrow.Author.Needs.{needs}
-use Rattle.parser_base.specs.Represents.{parserOf}
+use Rattle.parser_state.specs.Represents.{parserOf}
 use native.Mathlib.Omega.{arith}
 use mathlib.Core.Path.{_≡_, refl, sym, _∙_}
 use mathlib.Core.List.{[]}
 use lib.ListN.{length}
 use Rattle.lex.specs.Kind.{kEof}
-use Rattle.parser_base.specs.Represents.{code}
-use Rattle.parser_base.specs.Refines.{kept}
-use Rattle.parser_base.proofs.Rounds.{LoopInvariant, round-again, weight, lighter}
-use Rattle.parser_base.proofs.Loops.{member-going}
+use Rattle.parser_state.specs.Represents.{code}
+use Rattle.parser_state.specs.Refines.{kept}
+use Rattle.parser_state.proofs.Rounds.{LoopInvariant, round-again, weight, lighter}
+use Rattle.parser_state.proofs.Loops.{member-going}
 use Rattle.parser.specs.Whole.{Left, rootStep, RootsAre}
 use Rattle.parser.proofs.Roots.{root-there, root-front, root-again, roots-none, roots-start, roots-end}
 use Rattle.parser.proofs.parse_roots.Statement.{statement}

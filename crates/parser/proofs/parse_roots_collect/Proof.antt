@@ -1,7 +1,7 @@
 -- `parser::parse_roots_collect` meets its contract.
 use borrow.Author.Needs.{needs}
 use Rattle.parser.specs.Collect.{collected}
-use Rattle.parser_base.specs.Represents.{parserOf}
+use Rattle.parser_state.specs.Represents.{parserOf}
 use native.Mathlib.Omega.{arith}
 use mathlib.Core.Path.{_≡_, refl, sym, _∙_}
 use borrow.Author.Tests.{not-true, not-false}

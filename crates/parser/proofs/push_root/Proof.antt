@@ -3,7 +3,7 @@ use borrow.Author.Needs.{needs}
 use native.Mathlib.Omega.{arith}
 use mathlib.Core.Path.{sym, _∙_}
 use borrow.Author.Tests.{not-true, not-false}
-use Rattle.parser_base.proofs.Steps.{true≢false}
+use Rattle.parser_state.proofs.Steps.{true≢false}
 use Rattle.parser.proofs.Roots.{root-written, root-left-out}
 use Rattle.parser.proofs.push_root.Statement.{statement}
 use Rattle.parser.proofs.push_root.Tie as tie

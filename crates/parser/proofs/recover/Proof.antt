@@ -1,12 +1,12 @@
 -- `parser::recover` meets its contract.
 use borrow.Author.Needs.{needs}
 use Rattle.parser.specs.Collect.{collected}
-use Rattle.parser_base.specs.Represents.{parserOf}
+use Rattle.parser_state.specs.Represents.{parserOf}
 use native.Mathlib.Omega.{arith}
 use mathlib.Core.Path.{sym, ap, _∙_}
 use borrow.Author.Tests.{eq-eqb, ne-eqb}
-use Rattle.parser_base.specs.Represents.{isGoing}
-use Rattle.parser_base.proofs.Steps.{true≢false}
+use Rattle.parser_state.specs.Represents.{isGoing}
+use Rattle.parser_state.proofs.Steps.{true≢false}
 use Rattle.parser.proofs.Collect.{ended-by-ten, gathered-error}
 use Rattle.parser.proofs.recover.Statement.{statement}
 use Rattle.parser.proofs.recover.Tie as tie

@@ -2,7 +2,7 @@
 use borrow.Author.Needs.{needs}
 use Rattle.parser_types.proofs.atom_type.Statement.{statement}
 use Rattle.parser_types.proofs.atom_type.Tie as tie
-use Rattle.parser_base.proofs.Steps.{read, enough}
+use Rattle.parser_state.proofs.Steps.{read, enough}
 use Rattle.rules.specs.Rules.{atomType}
 
 returns : tie.Need-returns

@@ -1,9 +1,9 @@
 -- `parser_types::bracketed_paths` meets its contract.
 use borrow.Author.Needs.{needs}
-use Rattle.parser_base.proofs.Steps.{then, collected-then, enough}
-use Rattle.parser_base.proofs.Loops.{MembersInvariant, midway-start, midway-turn, members-end, falls}
-use Rattle.parser_base.proofs.Rounds.{weight}
-use Rattle.parser_base.specs.Represents.{parserOf, code}
+use Rattle.parser_state.proofs.Steps.{then, collected-then, enough}
+use Rattle.parser_state.proofs.Loops.{MembersInvariant, midway-start, midway-turn, members-end, falls}
+use Rattle.parser_state.proofs.Rounds.{weight}
+use Rattle.parser_state.specs.Represents.{parserOf, code}
 use Rattle.lex.specs.Kind.{kBraceRight}
 use Rattle.rules.specs.Rules.{importPath, bracketedPaths}
 use mathlib.Core.Path.{_≡_, refl, sym, _∙_}

@@ -1,7 +1,7 @@
 -- `parser_types::extern_fn` meets its contract.
 use borrow.Author.Needs.{needs}
 use native.Mathlib.Omega.{arith}
-use Rattle.parser_base.proofs.Steps.{then, seq, read, enough}
+use Rattle.parser_state.proofs.Steps.{then, seq, read, enough}
 use Rattle.rules.specs.Rules.{externFn}
 use Rattle.parser_types.proofs.extern_fn.Statement.{statement}
 use Rattle.parser_types.proofs.extern_fn.Tie as tie

@@ -1,10 +1,10 @@
 -- `parser_types::extern_fns` meets its contract.
 use borrow.Author.Needs.{needs}
-use Rattle.parser_base.specs.declared.Used.{Used}
-use Rattle.parser_base.proofs.Loops.{MembersInvariant, midway-start, midway-turn, midway-end, falls}
-use Rattle.parser_base.proofs.Rounds.{weight}
-use Rattle.parser_base.specs.Represents.{parserOf, code}
-use Rattle.parser_base.specs.Refines.{deeper}
+use Rattle.parser_state.specs.declared.Used.{Used}
+use Rattle.parser_state.proofs.Loops.{MembersInvariant, midway-start, midway-turn, midway-end, falls}
+use Rattle.parser_state.proofs.Rounds.{weight}
+use Rattle.parser_state.specs.Represents.{parserOf, code}
+use Rattle.parser_state.specs.Refines.{deeper}
 use Rattle.lex.specs.Kind.{kCurlyRight}
 use Rattle.rules.specs.Rules.{externFn}
 use mathlib.Core.Path.{_≡_, refl, sym, _∙_, ap}

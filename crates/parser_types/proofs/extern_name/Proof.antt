@@ -1,7 +1,7 @@
 -- `parser_types::extern_name` meets its contract.
 use borrow.Author.Needs.{needs}
 use mathlib.Core.Path.{sym, _∙_}
-use Rattle.parser_base.proofs.Steps.{ifKind-yes, ifKind-no, refused}
+use Rattle.parser_state.proofs.Steps.{ifKind-yes, ifKind-no, refused}
 use Rattle.parser_types.proofs.extern_name.Statement.{statement}
 use Rattle.parser_types.proofs.extern_name.Tie as tie
 

@@ -1,8 +1,8 @@
 -- `parser_types::extern_return` meets its contract.
 use borrow.Author.Needs.{needs}
 use mathlib.Core.Path.{sym, _∙_}
-use Rattle.parser_base.proofs.Steps.{ifKind-yes, ifKind-no, ifKind-both, enough}
-use Rattle.parser_base.proofs.Rounds.{struck-as}
+use Rattle.parser_state.proofs.Steps.{ifKind-yes, ifKind-no, ifKind-both, enough}
+use Rattle.parser_state.proofs.Rounds.{struck-as}
 use Rattle.rules.specs.Rules.{returnType}
 use Rattle.parser_types.proofs.extern_return.Statement.{statement}
 use Rattle.parser_types.proofs.extern_return.Tie as tie

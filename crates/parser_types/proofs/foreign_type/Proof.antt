@@ -2,7 +2,7 @@
 use borrow.Author.Needs.{needs}
 use Rattle.parser_types.proofs.foreign_type.Statement.{statement}
 use Rattle.parser_types.proofs.foreign_type.Tie as tie
-use Rattle.parser_base.proofs.Steps.{read, then, enough}
+use Rattle.parser_state.proofs.Steps.{read, then, enough}
 use Rattle.rules.specs.Rules.{foreignType}
 
 returns : tie.Need-returns

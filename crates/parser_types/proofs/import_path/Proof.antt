@@ -1,7 +1,7 @@
 -- `parser_types::import_path` meets its contract.
 use borrow.Author.Needs.{needs}
 use mathlib.Core.Path.{sym, _∙_}
-use Rattle.parser_base.proofs.Steps.{ifKind-yes, ifKind-no, read, refused, enough}
+use Rattle.parser_state.proofs.Steps.{ifKind-yes, ifKind-no, read, refused, enough}
 use Rattle.rules.specs.Rules.{importPath}
 use Rattle.parser_types.proofs.import_path.Statement.{statement}
 use Rattle.parser_types.proofs.import_path.Tie as tie

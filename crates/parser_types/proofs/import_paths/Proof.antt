@@ -1,7 +1,7 @@
 -- `parser_types::import_paths` meets its contract.
 use borrow.Author.Needs.{needs}
 use mathlib.Core.Path.{sym, _∙_}
-use Rattle.parser_base.proofs.Steps.{ifKind-yes, ifKind-no}
+use Rattle.parser_state.proofs.Steps.{ifKind-yes, ifKind-no}
 use Rattle.parser_types.proofs.Imports.{strike-as}
 use Rattle.parser_types.proofs.import_paths.Statement.{statement}
 use Rattle.parser_types.proofs.import_paths.Tie as tie

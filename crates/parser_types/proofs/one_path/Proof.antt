@@ -1,6 +1,6 @@
 -- `parser_types::one_path` meets its contract.
 use borrow.Author.Needs.{needs}
-use Rattle.parser_base.proofs.Steps.{read, collected-one, enough}
+use Rattle.parser_state.proofs.Steps.{read, collected-one, enough}
 use Rattle.parser_types.proofs.one_path.Statement.{statement}
 use Rattle.parser_types.proofs.one_path.Tie as tie
 

@@ -2,7 +2,7 @@
 use borrow.Author.Needs.{needs}
 use Rattle.parser_types.proofs.open_angle.Statement.{statement}
 use Rattle.parser_types.proofs.open_angle.Tie as tie
-use Rattle.parser_base.proofs.Steps.{then}
+use Rattle.parser_state.proofs.Steps.{then}
 use Rattle.rules.specs.Rules.{openAngle}
 
 returns : tie.Need-returns

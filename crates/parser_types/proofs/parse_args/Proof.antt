@@ -1,6 +1,6 @@
 -- `parser_types::parse_args` meets its contract.
 use borrow.Author.Needs.{needs}
-use Rattle.parser_base.proofs.Steps.{then, enough}
+use Rattle.parser_state.proofs.Steps.{then, enough}
 use Rattle.rules.specs.Rules.{parseArgs}
 use Rattle.parser_types.proofs.parse_args.Statement.{statement}
 use Rattle.parser_types.proofs.parse_args.Tie as tie

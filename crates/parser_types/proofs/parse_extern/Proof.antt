@@ -1,9 +1,9 @@
 -- `parser_types::parse_extern` meets its contract.
 use borrow.Author.Needs.{needs}
 use Rattle.rules.specs.declared.Node.the-variants as N
-use Rattle.parser_base.specs.Represents.{lowToken}
-use Rattle.parser_base.specs.declared.Used.{Used}
-use Rattle.parser_base.proofs.Steps.{then, seq, read, enough}
+use Rattle.parser_state.specs.Represents.{lowToken}
+use Rattle.parser_state.specs.declared.Used.{Used}
+use Rattle.parser_state.proofs.Steps.{then, seq, read, enough}
 use Rattle.rules.specs.Rules.{parseExtern}
 use mathlib.Core.Path.{ap}
 use native.Mathlib.Omega.{arith}

@@ -1,7 +1,7 @@
 -- `parser_types::parse_import` meets its contract.
 use borrow.Author.Needs.{needs}
-use Rattle.parser_base.specs.declared.Used.{Used}
-use Rattle.parser_base.proofs.Steps.{read, seq, reassoc, lists-after, enough}
+use Rattle.parser_state.specs.declared.Used.{Used}
+use Rattle.parser_state.proofs.Steps.{read, seq, reassoc, lists-after, enough}
 use Rattle.rules.specs.Rules.{parseImport}
 use Rattle.rules.specs.Combinators.{allocSlice, tokenCells, runCells}
 use Rattle.rules.specs.Layout.{nodeCells}

@@ -2,8 +2,8 @@
 use borrow.Author.Needs.{needs}
 use mathlib.Core.List.{[], _∷_}
 use Rattle.rules.specs.Combinators.{tokenCells, runCells}
-use Rattle.parser_base.proofs.Steps.{push-as}
-use Rattle.parser_base.proofs.Cells.{two-cells}
+use Rattle.parser_state.proofs.Steps.{push-as}
+use Rattle.parser_state.proofs.Cells.{two-cells}
 use Rattle.parser_types.proofs.push_extern_fn.Statement.{statement}
 use Rattle.parser_types.proofs.push_extern_fn.Tie as tie
 

@@ -1,6 +1,6 @@
 -- `parser_types::supplied_void` meets its contract.
 use borrow.Author.Needs.{needs}
-use Rattle.parser_base.proofs.Steps.{looks, read}
+use Rattle.parser_state.proofs.Steps.{looks, read}
 use Rattle.rules.specs.Rules.{suppliedVoid}
 use Rattle.parser_types.proofs.supplied_void.Statement.{statement}
 use Rattle.parser_types.proofs.supplied_void.Tie as tie

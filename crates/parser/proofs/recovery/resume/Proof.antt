@@ -1,12 +1,12 @@
 -- `parser::recovery::resume` meets its contract.
 use borrow.Author.Needs.{needs}
-use Rattle.parser_base.specs.Represents.{withStatus, Going}
-use Rattle.parser_base.specs.declared.Parser.{Parser}
-use Rattle.parser_base.specs.declared.Used.{Used}
+use Rattle.parser_state.specs.Represents.{withStatus, Going}
+use Rattle.parser_state.specs.declared.Parser.{Parser}
+use Rattle.parser_state.specs.declared.Used.{Used}
 use native.Mathlib.Omega.{arith}
 use mathlib.Core.Path.{refl, ap, _∙_}
-use Rattle.parser_base.specs.Represents.{from}
-use Rattle.parser_base.proofs.Steps.{represents-less}
+use Rattle.parser_state.specs.Represents.{from}
+use Rattle.parser_state.proofs.Steps.{represents-less}
 use Rattle.parser.specs.Whole.{dropDocs}
 use Rattle.parser.proofs.Synchronize.{resuming, stack-fits}
 use Rattle.parser.proofs.recovery.resume.Statement.{statement}

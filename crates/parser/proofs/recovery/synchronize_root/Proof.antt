@@ -1,14 +1,14 @@
 -- `parser::recovery::synchronize_root` meets its contract.
 use borrow.Author.Needs.{needs}
-use Rattle.parser_base.specs.Represents.{parserOf}
+use Rattle.parser_state.specs.Represents.{parserOf}
 use mathlib.Core.Path.{_≡_, refl, sym, _∙_}
 use mathlib.Core.Bool.{true}
 use mathlib.Core.List.{List, []}
 use Prim.Native.Nat.{ℕ}
 use Rattle.rules.specs.Parse.{synchronizeStep}
-use Rattle.parser_base.specs.Represents.{code}
-use Rattle.parser_base.specs.Refines.{kept}
-use Rattle.parser_base.proofs.Rounds.{LoopInvariant, round-start, round-again, round-last, again-of, last-of, weight, lighter}
+use Rattle.parser_state.specs.Represents.{code}
+use Rattle.parser_state.specs.Refines.{kept}
+use Rattle.parser_state.proofs.Rounds.{LoopInvariant, round-start, round-again, round-last, again-of, last-of, weight, lighter}
 use Rattle.parser.specs.Whole.{synchronizing}
 use Rattle.parser.proofs.Synchronize.{skips-both, skips-some, continues, breaks-past, breaks-before}
 use Rattle.parser.proofs.recovery.synchronize_root.Statement.{statement}

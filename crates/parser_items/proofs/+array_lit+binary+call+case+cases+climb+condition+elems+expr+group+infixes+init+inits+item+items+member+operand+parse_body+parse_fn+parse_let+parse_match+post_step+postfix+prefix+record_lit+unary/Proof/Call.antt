@@ -3,12 +3,12 @@ use borrow.Author.Needs.{needs}
 use native.Mathlib.Omega.{arith}
 use Prim.Native.Nat.{ℕ}
 use Rattle.parser_items.proofs.call.Reads as call
-use Rattle.parser_base.proofs.advance.Reads as advance-reads
+use Rattle.parser_state.proofs.advance.Reads as advance-reads
 use Rattle.parser_items.proofs.items.Reads as items
-use Rattle.parser_base.proofs.push_call.Reads as push-call-reads
+use Rattle.parser_state.proofs.push_call.Reads as push-call-reads
 use Rattle.parser_items.proofs.+array_lit+binary+call+case+cases+climb+condition+elems+expr+group+infixes+init+inits+item+items+member+operand+parse_body+parse_fn+parse_let+parse_match+post_step+postfix+prefix+record_lit+unary.Lts-call as lts
 use Rattle.parser_items.proofs.+array_lit+binary+call+case+cases+climb+condition+elems+expr+group+infixes+init+inits+item+items+member+operand+parse_body+parse_fn+parse_let+parse_match+post_step+postfix+prefix+record_lit+unary.Proof.Measures.{call-at, items-below}
-use Rattle.parser_base.proofs.Steps.{then, seq, done, enough}
+use Rattle.parser_state.proofs.Steps.{then, seq, done, enough}
 use Rattle.rules.specs.Rules.{call}
 
 abbrev claims : ℕ → lts.Claims

@@ -4,14 +4,14 @@ use mathlib.Core.Path.{sym, _∙_}
 use native.Mathlib.Omega.{arith}
 use Prim.Native.Nat.{ℕ}
 use Rattle.parser_items.proofs.case.Reads as case
-use Rattle.parser_base.proofs.kind.Reads as kind-reads
-use Rattle.parser_base.proofs.current.Reads as current-reads
+use Rattle.parser_state.proofs.kind.Reads as kind-reads
+use Rattle.parser_state.proofs.current.Reads as current-reads
 use Rattle.parser_items.proofs.parse_body.Reads as parse-body
 use Rattle.parser_items.proofs.condition.Reads as condition
 use Rattle.std.proofs.num.wrapping_add_u32.Reads as wrapping-add-u32-reads
 use Rattle.parser_items.proofs.+array_lit+binary+call+case+cases+climb+condition+elems+expr+group+infixes+init+inits+item+items+member+operand+parse_body+parse_fn+parse_let+parse_match+post_step+postfix+prefix+record_lit+unary.Lts-case as lts
 use Rattle.parser_items.proofs.+array_lit+binary+call+case+cases+climb+condition+elems+expr+group+infixes+init+inits+item+items+member+operand+parse_body+parse_fn+parse_let+parse_match+post_step+postfix+prefix+record_lit+unary.Proof.Measures.{case-at, condition-below, parse-body-below}
-use Rattle.parser_leaves.proofs.Matches.{default-again, condition-again}
+use Rattle.parser_operators.proofs.Matches.{default-again, condition-again}
 
 abbrev claims : ℕ → lts.Claims
 claims t = (kind-reads.Asked, kind-reads.Learnt, current-reads.Asked, current-reads.Learnt, parse-body-below t, parse-body.Post, condition-below t, condition.Post, wrapping-add-u32-reads.Asked, wrapping-add-u32-reads.Learnt)

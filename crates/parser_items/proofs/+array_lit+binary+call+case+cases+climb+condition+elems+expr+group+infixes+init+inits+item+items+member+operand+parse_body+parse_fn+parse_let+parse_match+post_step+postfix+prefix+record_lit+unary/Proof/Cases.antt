@@ -1,24 +1,24 @@
 -- `cases` meets its contract.
 use borrow.Author.Needs.{needs}
-use Rattle.parser_base.specs.declared.Used.{Used}
+use Rattle.parser_state.specs.declared.Used.{Used}
 use native.Mathlib.Omega.{arith}
 use Prim.Native.Nat.{ℕ}
 use Rattle.parser_items.proofs.cases.Reads as cases
-use Rattle.parser_base.proofs.get_used.Reads as get-used-reads
-use Rattle.parser_base.proofs.member_follows.Reads as member-follows-reads
+use Rattle.parser_state.proofs.get_used.Reads as get-used-reads
+use Rattle.parser_state.proofs.member_follows.Reads as member-follows-reads
 use Rattle.parser_items.proofs.case.Reads as case
-use Rattle.parser_base.proofs.close.Reads as close-reads
-use Rattle.parser_leaves.proofs.match_node.Reads as match-node-reads
+use Rattle.parser_state.proofs.close.Reads as close-reads
+use Rattle.parser_operators.proofs.match_node.Reads as match-node-reads
 use Rattle.parser_items.proofs.+array_lit+binary+call+case+cases+climb+condition+elems+expr+group+infixes+init+inits+item+items+member+operand+parse_body+parse_fn+parse_let+parse_match+post_step+postfix+prefix+record_lit+unary.Lts-cases as lts
 use Rattle.parser_items.proofs.+array_lit+binary+call+case+cases+climb+condition+elems+expr+group+infixes+init+inits+item+items+member+operand+parse_body+parse_fn+parse_let+parse_match+post_step+postfix+prefix+record_lit+unary.Proof.Measures.{cases-at, case-below}
-use Rattle.parser_base.proofs.Steps.{lists-seq}
-use Rattle.parser_base.proofs.Rounds.{LoopInvariant, round-start-at, round-again, weight}
-use Rattle.parser_base.proofs.Loops.{member-going}
-use Rattle.parser_base.specs.Represents.{parserOf, code}
-use Rattle.parser_base.specs.Refines.{deeper}
+use Rattle.parser_state.proofs.Steps.{lists-seq}
+use Rattle.parser_state.proofs.Rounds.{LoopInvariant, round-start-at, round-again, weight}
+use Rattle.parser_state.proofs.Loops.{member-going}
+use Rattle.parser_state.specs.Represents.{parserOf, code}
+use Rattle.parser_state.specs.Refines.{deeper}
 use Rattle.rules.specs.Rules.{nextCase}
-use Rattle.parser_leaves.specs.Matches.{casesGrown, CasesAre, matchEnd}
-use Rattle.parser_leaves.proofs.Matches.{match-end, default-none}
+use Rattle.parser_operators.specs.Matches.{casesGrown, CasesAre, matchEnd}
+use Rattle.parser_operators.proofs.Matches.{match-end, default-none}
 use Rattle.parser_items.proofs.Levels.{again-lighter}
 use mathlib.Core.Path.{_≡_, refl, sym, ap, _∙_}
 use mathlib.Core.List.{[]}

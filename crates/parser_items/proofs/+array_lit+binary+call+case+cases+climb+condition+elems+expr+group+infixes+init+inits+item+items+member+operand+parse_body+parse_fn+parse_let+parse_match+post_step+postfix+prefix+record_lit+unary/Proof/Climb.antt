@@ -1,20 +1,20 @@
 -- `climb` meets its contract.
 use borrow.Author.Needs.{needs}
-use Rattle.parser_leaves.specs.Tests.{operatorNumber}
-use Rattle.parser_base.specs.Represents.{parserOf}
+use Rattle.parser_operators.specs.Tests.{operatorNumber}
+use Rattle.parser_state.specs.Represents.{parserOf}
 use native.Mathlib.Omega.{arith}
 use Prim.Native.Nat.{ℕ}
 use Rattle.parser_items.proofs.climb.Reads as climb
-use Rattle.parser_base.proofs.kind.Reads as kind-reads
-use Rattle.parser_leaves.proofs.cast.Reads as cast-reads
-use Rattle.parser_leaves.proofs.operator.Reads as operator-reads
-use Rattle.parser_leaves.proofs.right_power.Reads as right-power-reads
+use Rattle.parser_state.proofs.kind.Reads as kind-reads
+use Rattle.parser_operators.proofs.cast.Reads as cast-reads
+use Rattle.parser_operators.proofs.operator.Reads as operator-reads
+use Rattle.parser_operators.proofs.right_power.Reads as right-power-reads
 use Rattle.parser_items.proofs.binary.Reads as binary
 use Rattle.parser_items.proofs.+array_lit+binary+call+case+cases+climb+condition+elems+expr+group+infixes+init+inits+item+items+member+operand+parse_body+parse_fn+parse_let+parse_match+post_step+postfix+prefix+record_lit+unary.Lts-climb as lts
 use Rattle.parser_items.proofs.+array_lit+binary+call+case+cases+climb+condition+elems+expr+group+infixes+init+inits+item+items+member+operand+parse_body+parse_fn+parse_let+parse_match+post_step+postfix+prefix+record_lit+unary.Proof.Measures.{climb-at, binary-below}
-use Rattle.parser_base.proofs.Steps.{ifKind-yes}
-use Rattle.parser_leaves.proofs.Exprs.{no-sign, infix-sign}
-use Rattle.parser_leaves.proofs.Tables.{no-powers}
+use Rattle.parser_state.proofs.Steps.{ifKind-yes}
+use Rattle.parser_operators.proofs.Exprs.{no-sign, infix-sign}
+use Rattle.parser_operators.proofs.Tables.{no-powers}
 use Rattle.parser_items.proofs.Levels.{infix-kind, right-is}
 use mathlib.Core.Path.{sym, _∙_, ap}
 

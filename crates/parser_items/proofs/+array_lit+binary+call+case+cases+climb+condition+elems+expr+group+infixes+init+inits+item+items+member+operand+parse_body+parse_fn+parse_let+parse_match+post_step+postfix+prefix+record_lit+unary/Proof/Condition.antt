@@ -3,14 +3,14 @@ use borrow.Author.Needs.{needs}
 use native.Mathlib.Omega.{arith}
 use Prim.Native.Nat.{ℕ}
 use Rattle.parser_items.proofs.condition.Reads as condition
-use Rattle.parser_base.proofs.current.Reads as current-reads
+use Rattle.parser_state.proofs.current.Reads as current-reads
 use Rattle.parser_items.proofs.expr.Reads as expr
 use Rattle.parser_items.proofs.parse_body.Reads as parse-body
-use Rattle.parser_leaves.proofs.push_case.Reads as push-case-reads
+use Rattle.parser_operators.proofs.push_case.Reads as push-case-reads
 use Rattle.parser_items.proofs.+array_lit+binary+call+case+cases+climb+condition+elems+expr+group+infixes+init+inits+item+items+member+operand+parse_body+parse_fn+parse_let+parse_match+post_step+postfix+prefix+record_lit+unary.Lts-condition as lts
 use Rattle.parser_items.proofs.+array_lit+binary+call+case+cases+climb+condition+elems+expr+group+infixes+init+inits+item+items+member+operand+parse_body+parse_fn+parse_let+parse_match+post_step+postfix+prefix+record_lit+unary.Proof.Measures.{condition-at, expr-below, parse-body-below}
-use Rattle.parser_base.proofs.Steps.{read, seq, looks, enough}
-use Rattle.parser_leaves.specs.Matches.{caseCells}
+use Rattle.parser_state.proofs.Steps.{read, seq, looks, enough}
+use Rattle.parser_operators.specs.Matches.{caseCells}
 
 abbrev claims : ℕ → lts.Claims
 claims t = (current-reads.Asked, current-reads.Learnt, expr-below t, expr.Post, parse-body-below t, parse-body.Post, push-case-reads.Asked, push-case-reads.Learnt)

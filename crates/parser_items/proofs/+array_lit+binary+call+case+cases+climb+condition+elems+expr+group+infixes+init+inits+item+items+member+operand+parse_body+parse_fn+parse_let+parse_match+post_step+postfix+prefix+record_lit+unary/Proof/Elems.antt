@@ -1,24 +1,24 @@
 -- `elems` meets its contract.
 use borrow.Author.Needs.{needs}
-use Rattle.parser_base.specs.declared.Used.{Used}
+use Rattle.parser_state.specs.declared.Used.{Used}
 use native.Mathlib.Omega.{arith}
 use Prim.Native.Nat.{ℕ}
 use Rattle.parser_items.proofs.elems.Reads as elems
-use Rattle.parser_base.proofs.get_used.Reads as get-used-reads
-use Rattle.parser_base.proofs.member_follows.Reads as member-follows-reads
+use Rattle.parser_state.proofs.get_used.Reads as get-used-reads
+use Rattle.parser_state.proofs.member_follows.Reads as member-follows-reads
 use Rattle.parser_items.proofs.expr.Reads as expr
-use Rattle.parser_base.proofs.push_cell.Reads as push-cell-reads
+use Rattle.parser_state.proofs.push_cell.Reads as push-cell-reads
 use Rattle.std.proofs.num.wrapping_add_u32.Reads as wrapping-add-u32-reads
-use Rattle.parser_base.proofs.close.Reads as close-reads
+use Rattle.parser_state.proofs.close.Reads as close-reads
 use Rattle.parser_items.proofs.+array_lit+binary+call+case+cases+climb+condition+elems+expr+group+infixes+init+inits+item+items+member+operand+parse_body+parse_fn+parse_let+parse_match+post_step+postfix+prefix+record_lit+unary.Lts-elems as lts
 use Rattle.parser_items.proofs.+array_lit+binary+call+case+cases+climb+condition+elems+expr+group+infixes+init+inits+item+items+member+operand+parse_body+parse_fn+parse_let+parse_match+post_step+postfix+prefix+record_lit+unary.Proof.Measures.{elems-at, expr-below}
-use Rattle.parser_base.proofs.Loops.{MembersInvariant, midway-start, midway-turn, midway-end, falls}
-use Rattle.parser_base.proofs.Rounds.{weight}
-use Rattle.parser_base.specs.Represents.{parserOf, code}
-use Rattle.parser_base.specs.Refines.{deeper}
+use Rattle.parser_state.proofs.Loops.{MembersInvariant, midway-start, midway-turn, midway-end, falls}
+use Rattle.parser_state.proofs.Rounds.{weight}
+use Rattle.parser_state.specs.Represents.{parserOf, code}
+use Rattle.parser_state.specs.Refines.{deeper}
 use mathlib.Core.Path.{_≡_, refl, sym, _∙_, ap}
 use lib.ListN.{length}
-use Rattle.parser_base.proofs.Steps.{seq, enough}
+use Rattle.parser_state.proofs.Steps.{seq, enough}
 use Rattle.rules.specs.Rules.{nodeMember}
 use Rattle.lex.specs.Kind.{kBraketRight}
 use Rattle.rules.specs.Combinators.{pure}

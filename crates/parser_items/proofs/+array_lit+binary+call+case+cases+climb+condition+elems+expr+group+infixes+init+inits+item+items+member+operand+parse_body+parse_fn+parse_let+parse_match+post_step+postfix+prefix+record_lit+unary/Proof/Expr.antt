@@ -3,13 +3,13 @@ use borrow.Author.Needs.{needs}
 use native.Mathlib.Omega.{arith}
 use Prim.Native.Nat.{ℕ}
 use Rattle.parser_items.proofs.expr.Reads as expr
-use Rattle.parser_base.proofs.fail_expecting.Reads as fail-expecting-reads
+use Rattle.parser_state.proofs.fail_expecting.Reads as fail-expecting-reads
 use Rattle.parser_items.proofs.operand.Reads as operand
 use Rattle.parser_items.proofs.postfix.Reads as postfix
 use Rattle.parser_items.proofs.infixes.Reads as infixes
 use Rattle.parser_items.proofs.+array_lit+binary+call+case+cases+climb+condition+elems+expr+group+infixes+init+inits+item+items+member+operand+parse_body+parse_fn+parse_let+parse_match+post_step+postfix+prefix+record_lit+unary.Lts-expr as lts
 use Rattle.parser_items.proofs.+array_lit+binary+call+case+cases+climb+condition+elems+expr+group+infixes+init+inits+item+items+member+operand+parse_body+parse_fn+parse_let+parse_match+post_step+postfix+prefix+record_lit+unary.Proof.Measures.{expr-at, infixes-below, operand-below, postfix-below}
-use Rattle.parser_base.proofs.Steps.{seq, enough}
+use Rattle.parser_state.proofs.Steps.{seq, enough}
 use Rattle.rules.specs.Rules.{parseExpr}
 use Rattle.parser_items.proofs.Levels.{expr-deep, expr-by}
 

@@ -3,13 +3,13 @@ use borrow.Author.Needs.{needs}
 use native.Mathlib.Omega.{arith}
 use Prim.Native.Nat.{ℕ}
 use Rattle.parser_items.proofs.group.Reads as group
-use Rattle.parser_base.proofs.advance.Reads as advance-reads
+use Rattle.parser_state.proofs.advance.Reads as advance-reads
 use Rattle.parser_items.proofs.expr.Reads as expr
-use Rattle.parser_base.proofs.expect.Reads as expect-reads
+use Rattle.parser_state.proofs.expect.Reads as expect-reads
 use Rattle.parser_items.proofs.+array_lit+binary+call+case+cases+climb+condition+elems+expr+group+infixes+init+inits+item+items+member+operand+parse_body+parse_fn+parse_let+parse_match+post_step+postfix+prefix+record_lit+unary.Lts-group as lts
 use Rattle.parser_items.proofs.+array_lit+binary+call+case+cases+climb+condition+elems+expr+group+infixes+init+inits+item+items+member+operand+parse_body+parse_fn+parse_let+parse_match+post_step+postfix+prefix+record_lit+unary.Proof.Measures.{group-at, expr-below}
-use Rattle.parser_base.proofs.Steps.{then, seq, done, enough}
-use Rattle.parser_base.proofs.Rounds.{struck-as}
+use Rattle.parser_state.proofs.Steps.{then, seq, done, enough}
+use Rattle.parser_state.proofs.Rounds.{struck-as}
 use Rattle.rules.specs.Rules.{group}
 
 abbrev claims : ℕ → lts.Claims

@@ -3,15 +3,15 @@ use borrow.Author.Needs.{needs}
 use native.Mathlib.Omega.{arith}
 use Prim.Native.Nat.{ℕ}
 use Rattle.parser_items.proofs.infixes.Reads as infixes
-use Rattle.parser_leaves.proofs.infix_follows.Reads as infix-follows-reads
+use Rattle.parser_operators.proofs.infix_follows.Reads as infix-follows-reads
 use Rattle.parser_items.proofs.climb.Reads as climb
 use Rattle.parser_items.proofs.+array_lit+binary+call+case+cases+climb+condition+elems+expr+group+infixes+init+inits+item+items+member+operand+parse_body+parse_fn+parse_let+parse_match+post_step+postfix+prefix+record_lit+unary.Lts-infixes as lts
 use Rattle.parser_items.proofs.+array_lit+binary+call+case+cases+climb+condition+elems+expr+group+infixes+init+inits+item+items+member+operand+parse_body+parse_fn+parse_let+parse_match+post_step+postfix+prefix+record_lit+unary.Proof.Measures.{infixes-at, climb-below}
 use Rattle.rules.specs.Rules.{infixes, infixStep, stageOne}
-use Rattle.parser_base.proofs.Rounds.{LoopInvariant, round-start, round-again, round-out, again-of, weight, lighter}
-use Rattle.parser_base.specs.Represents.{parserOf, code}
-use Rattle.parser_base.specs.Refines.{kept, deeper}
-use Rattle.parser_leaves.proofs.Exprs.{infix-on, infix-out}
+use Rattle.parser_state.proofs.Rounds.{LoopInvariant, round-start, round-again, round-out, again-of, weight, lighter}
+use Rattle.parser_state.specs.Represents.{parserOf, code}
+use Rattle.parser_state.specs.Refines.{kept, deeper}
+use Rattle.parser_operators.proofs.Exprs.{infix-on, infix-out}
 use Rattle.parser_items.proofs.Levels.{out-at}
 use mathlib.Core.Path.{_≡_, refl, sym, _∙_}
 use lib.ListN.{length}

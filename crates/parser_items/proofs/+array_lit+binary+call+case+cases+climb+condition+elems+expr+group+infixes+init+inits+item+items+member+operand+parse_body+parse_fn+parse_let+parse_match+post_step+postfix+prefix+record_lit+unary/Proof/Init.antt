@@ -3,14 +3,14 @@ use borrow.Author.Needs.{needs}
 use native.Mathlib.Omega.{arith}
 use Prim.Native.Nat.{ℕ}
 use Rattle.parser_items.proofs.init.Reads as init
-use Rattle.parser_base.proofs.current.Reads as current-reads
-use Rattle.parser_base.proofs.expect_ident.Reads as expect-ident-reads
-use Rattle.parser_base.proofs.expect.Reads as expect-reads
+use Rattle.parser_state.proofs.current.Reads as current-reads
+use Rattle.parser_state.proofs.expect_ident.Reads as expect-ident-reads
+use Rattle.parser_state.proofs.expect.Reads as expect-reads
 use Rattle.parser_items.proofs.expr.Reads as expr
-use Rattle.parser_base.proofs.push_named.Reads as push-named-reads
+use Rattle.parser_state.proofs.push_named.Reads as push-named-reads
 use Rattle.parser_items.proofs.+array_lit+binary+call+case+cases+climb+condition+elems+expr+group+infixes+init+inits+item+items+member+operand+parse_body+parse_fn+parse_let+parse_match+post_step+postfix+prefix+record_lit+unary.Lts-init as lts
 use Rattle.parser_items.proofs.+array_lit+binary+call+case+cases+climb+condition+elems+expr+group+infixes+init+inits+item+items+member+operand+parse_body+parse_fn+parse_let+parse_match+post_step+postfix+prefix+record_lit+unary.Proof.Measures.{init-at, expr-below}
-use Rattle.parser_base.proofs.Steps.{read, then, seq, enough}
+use Rattle.parser_state.proofs.Steps.{read, then, seq, enough}
 use Rattle.rules.specs.Rules.{field}
 
 abbrev claims : ℕ → lts.Claims

@@ -3,19 +3,19 @@ use borrow.Author.Needs.{needs}
 use native.Mathlib.Omega.{arith}
 use Prim.Native.Nat.{ℕ}
 use Rattle.parser_items.proofs.item.Reads as item
-use Rattle.parser_base.proofs.kind.Reads as kind-reads
+use Rattle.parser_state.proofs.kind.Reads as kind-reads
 use Rattle.parser_types.proofs.parse_import.Reads as parse-import-reads
 use Rattle.parser_items.proofs.parse_let.Reads as parse-let
 use Rattle.parser_items.proofs.parse_fn.Reads as parse-fn
 use Rattle.parser_types.proofs.parse_extern.Reads as parse-extern-reads
-use Rattle.parser_base.proofs.require_no_docs.Reads as require-no-docs-reads
+use Rattle.parser_state.proofs.require_no_docs.Reads as require-no-docs-reads
 use Rattle.parser_items.proofs.parse_match.Reads as parse-match
 use Rattle.parser_items.proofs.expr.Reads as expr
 use Rattle.parser_items.proofs.+array_lit+binary+call+case+cases+climb+condition+elems+expr+group+infixes+init+inits+item+items+member+operand+parse_body+parse_fn+parse_let+parse_match+post_step+postfix+prefix+record_lit+unary.Lts-item as lts
 use Rattle.parser_items.proofs.+array_lit+binary+call+case+cases+climb+condition+elems+expr+group+infixes+init+inits+item+items+member+operand+parse_body+parse_fn+parse_let+parse_match+post_step+postfix+prefix+record_lit+unary.Proof.Measures.{item-at, expr-below, parse-fn-below, parse-let-below, parse-match-below}
-use Rattle.parser_base.proofs.Steps.{at-kind, then, enough, ifKind-yes, ifKind-no}
-use Rattle.parser_base.proofs.Docs.{require-then}
-use Rattle.parser_leaves.proofs.Tables.{entry-here, entry-past, entry-other}
+use Rattle.parser_state.proofs.Steps.{at-kind, then, enough, ifKind-yes, ifKind-no}
+use Rattle.parser_state.proofs.Docs.{require-then}
+use Rattle.parser_operators.proofs.Tables.{entry-here, entry-past, entry-other}
 use mathlib.Core.Path.{sym, _∙_}
 
 abbrev claims : ℕ → lts.Claims

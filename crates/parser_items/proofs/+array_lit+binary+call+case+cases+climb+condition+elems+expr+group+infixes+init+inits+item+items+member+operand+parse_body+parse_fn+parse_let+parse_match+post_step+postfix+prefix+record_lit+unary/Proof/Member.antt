@@ -2,7 +2,7 @@
 use borrow.Author.Needs.{needs}
 use Prim.Native.Nat.{ℕ}
 use Rattle.parser_items.proofs.member.Reads as member
-use Rattle.parser_leaves.proofs.begins_expr.Reads as begins-expr-reads
+use Rattle.parser_operators.proofs.begins_expr.Reads as begins-expr-reads
 use Rattle.parser_items.proofs.expr.Reads as expr
 use Rattle.parser_items.proofs.prefix.Reads as prefix
 use Rattle.parser_items.proofs.+array_lit+binary+call+case+cases+climb+condition+elems+expr+group+infixes+init+inits+item+items+member+operand+parse_body+parse_fn+parse_let+parse_match+post_step+postfix+prefix+record_lit+unary.Lts-member as lts

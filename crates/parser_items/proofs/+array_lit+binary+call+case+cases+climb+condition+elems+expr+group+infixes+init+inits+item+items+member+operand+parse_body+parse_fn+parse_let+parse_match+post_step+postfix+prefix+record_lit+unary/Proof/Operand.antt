@@ -1,24 +1,24 @@
 -- `operand` meets its contract.
 use borrow.Author.Needs.{needs}
-use Rattle.parser_leaves.specs.Tests.{operandClass}
+use Rattle.parser_operators.specs.Tests.{operandClass}
 use mathlib.Core.Path.{ap, _∙_}
 use native.Mathlib.Omega.{arith}
 use Prim.Native.Nat.{ℕ}
 use Rattle.parser_items.proofs.operand.Reads as operand
-use Rattle.parser_base.proofs.kind.Reads as kind-reads
-use Rattle.parser_leaves.proofs.operand_class.Reads as operand-class-reads
+use Rattle.parser_state.proofs.kind.Reads as kind-reads
+use Rattle.parser_operators.proofs.operand_class.Reads as operand-class-reads
 use Rattle.parser_items.proofs.record_lit.Reads as record-lit
 use Rattle.parser_items.proofs.array_lit.Reads as array-lit
-use Rattle.parser_leaves.proofs.atom.Reads as atom-reads
-use Rattle.parser_leaves.proofs.ident.Reads as ident-reads
+use Rattle.parser_operators.proofs.atom.Reads as atom-reads
+use Rattle.parser_operators.proofs.ident.Reads as ident-reads
 use Rattle.parser_items.proofs.group.Reads as group
 use Rattle.parser_items.proofs.unary.Reads as unary
-use Rattle.parser_base.proofs.fail_expecting.Reads as fail-expecting-reads
+use Rattle.parser_state.proofs.fail_expecting.Reads as fail-expecting-reads
 use Rattle.parser_items.proofs.+array_lit+binary+call+case+cases+climb+condition+elems+expr+group+infixes+init+inits+item+items+member+operand+parse_body+parse_fn+parse_let+parse_match+post_step+postfix+prefix+record_lit+unary.Lts-operand as lts
 use Rattle.parser_items.proofs.+array_lit+binary+call+case+cases+climb+condition+elems+expr+group+infixes+init+inits+item+items+member+operand+parse_body+parse_fn+parse_let+parse_match+post_step+postfix+prefix+record_lit+unary.Proof.Measures.{operand-at, array-lit-below, group-below, record-lit-below, unary-below}
-use Rattle.parser_leaves.specs.Tests.{operandOf}
-use Rattle.parser_leaves.proofs.Tables.{entry-here, entry-past, entry-other}
-use Rattle.parser_base.proofs.Steps.{refused}
+use Rattle.parser_operators.specs.Tests.{operandOf}
+use Rattle.parser_operators.proofs.Tables.{entry-here, entry-past, entry-other}
+use Rattle.parser_state.proofs.Steps.{refused}
 use Rattle.parser_items.proofs.Levels.{operand-by, operand-kind}
 
 abbrev claims : ℕ → lts.Claims

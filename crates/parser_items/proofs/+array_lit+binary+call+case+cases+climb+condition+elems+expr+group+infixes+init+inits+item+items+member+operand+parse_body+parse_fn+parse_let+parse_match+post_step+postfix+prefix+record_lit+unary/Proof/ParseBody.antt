@@ -3,11 +3,11 @@ use borrow.Author.Needs.{needs}
 use native.Mathlib.Omega.{arith}
 use Prim.Native.Nat.{ℕ}
 use Rattle.parser_items.proofs.parse_body.Reads as parse-body
-use Rattle.parser_base.proofs.expect.Reads as expect-reads
+use Rattle.parser_state.proofs.expect.Reads as expect-reads
 use Rattle.parser_items.proofs.items.Reads as items
 use Rattle.parser_items.proofs.+array_lit+binary+call+case+cases+climb+condition+elems+expr+group+infixes+init+inits+item+items+member+operand+parse_body+parse_fn+parse_let+parse_match+post_step+postfix+prefix+record_lit+unary.Lts-parse_body as lts
 use Rattle.parser_items.proofs.+array_lit+binary+call+case+cases+climb+condition+elems+expr+group+infixes+init+inits+item+items+member+operand+parse_body+parse_fn+parse_let+parse_match+post_step+postfix+prefix+record_lit+unary.Proof.Measures.{parse-body-at, items-below}
-use Rattle.parser_base.proofs.Steps.{then, enough}
+use Rattle.parser_state.proofs.Steps.{then, enough}
 use Rattle.rules.specs.Rules.{parseBody}
 
 abbrev claims : ℕ → lts.Claims

@@ -1,23 +1,23 @@
 -- `parse-fn` meets its contract.
 use borrow.Author.Needs.{needs}
-use Rattle.parser_base.specs.declared.Used.{Used}
-use Rattle.parser_base.specs.Represents.{lowToken}
+use Rattle.parser_state.specs.declared.Used.{Used}
+use Rattle.parser_state.specs.Represents.{lowToken}
 use Rattle.rules.specs.declared.Node.the-variants as N
 use native.Mathlib.Omega.{arith}
 use Prim.Native.Nat.{ℕ}
 use Rattle.parser_items.proofs.parse_fn.Reads as parse-fn
-use Rattle.parser_base.proofs.take_docs.Reads as take-docs-reads
-use Rattle.parser_base.proofs.advance.Reads as advance-reads
-use Rattle.parser_base.proofs.current.Reads as current-reads
-use Rattle.parser_base.proofs.expect_ident.Reads as expect-ident-reads
+use Rattle.parser_state.proofs.take_docs.Reads as take-docs-reads
+use Rattle.parser_state.proofs.advance.Reads as advance-reads
+use Rattle.parser_state.proofs.current.Reads as current-reads
+use Rattle.parser_state.proofs.expect_ident.Reads as expect-ident-reads
 use Rattle.parser_types.proofs.parse_args.Reads as parse-args-reads
 use Rattle.parser_types.proofs.fn_return.Reads as fn-return-reads
 use Rattle.parser_items.proofs.parse_body.Reads as parse-body
-use Rattle.parser_base.proofs.get_used.Reads as get-used-reads
-use Rattle.parser_base.proofs.push_node.Reads as push-node-reads
+use Rattle.parser_state.proofs.get_used.Reads as get-used-reads
+use Rattle.parser_state.proofs.push_node.Reads as push-node-reads
 use Rattle.parser_items.proofs.+array_lit+binary+call+case+cases+climb+condition+elems+expr+group+infixes+init+inits+item+items+member+operand+parse_body+parse_fn+parse_let+parse_match+post_step+postfix+prefix+record_lit+unary.Lts-parse_fn as lts
 use Rattle.parser_items.proofs.+array_lit+binary+call+case+cases+climb+condition+elems+expr+group+infixes+init+inits+item+items+member+operand+parse_body+parse_fn+parse_let+parse_match+post_step+postfix+prefix+record_lit+unary.Proof.Measures.{parse-fn-at, parse-body-below}
-use Rattle.parser_base.proofs.Steps.{seq, then, read, enough}
+use Rattle.parser_state.proofs.Steps.{seq, then, read, enough}
 use Rattle.rules.specs.Rules.{parseFn}
 use mathlib.Core.Path.{_≡_, sym, subst, ap}
 use Rattle.lex.specs.declared.tok.Token.{Token}

@@ -3,15 +3,15 @@ use borrow.Author.Needs.{needs}
 use native.Mathlib.Omega.{arith}
 use Prim.Native.Nat.{ℕ}
 use Rattle.parser_items.proofs.parse_let.Reads as parse-let
-use Rattle.parser_base.proofs.take_docs.Reads as take-docs-reads
-use Rattle.parser_base.proofs.expect.Reads as expect-reads
-use Rattle.parser_base.proofs.current.Reads as current-reads
-use Rattle.parser_base.proofs.expect_ident.Reads as expect-ident-reads
+use Rattle.parser_state.proofs.take_docs.Reads as take-docs-reads
+use Rattle.parser_state.proofs.expect.Reads as expect-reads
+use Rattle.parser_state.proofs.current.Reads as current-reads
+use Rattle.parser_state.proofs.expect_ident.Reads as expect-ident-reads
 use Rattle.parser_items.proofs.prefix.Reads as prefix
-use Rattle.parser_base.proofs.push_let.Reads as push-let-reads
+use Rattle.parser_state.proofs.push_let.Reads as push-let-reads
 use Rattle.parser_items.proofs.+array_lit+binary+call+case+cases+climb+condition+elems+expr+group+infixes+init+inits+item+items+member+operand+parse_body+parse_fn+parse_let+parse_match+post_step+postfix+prefix+record_lit+unary.Lts-parse_let as lts
 use Rattle.parser_items.proofs.+array_lit+binary+call+case+cases+climb+condition+elems+expr+group+infixes+init+inits+item+items+member+operand+parse_body+parse_fn+parse_let+parse_match+post_step+postfix+prefix+record_lit+unary.Proof.Measures.{parse-let-at, prefix-below}
-use Rattle.parser_base.proofs.Steps.{seq, then, read, enough}
+use Rattle.parser_state.proofs.Steps.{seq, then, read, enough}
 use Rattle.rules.specs.Rules.{parseLet}
 
 abbrev claims : ℕ → lts.Claims

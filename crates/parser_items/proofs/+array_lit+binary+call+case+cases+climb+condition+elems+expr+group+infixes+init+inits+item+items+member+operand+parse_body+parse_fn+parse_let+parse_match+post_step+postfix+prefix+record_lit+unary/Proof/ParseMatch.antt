@@ -3,16 +3,16 @@ use borrow.Author.Needs.{needs}
 use native.Mathlib.Omega.{arith}
 use Prim.Native.Nat.{ℕ}
 use Rattle.parser_items.proofs.parse_match.Reads as parse-match
-use Rattle.parser_base.proofs.advance.Reads as advance-reads
-use Rattle.parser_base.proofs.current.Reads as current-reads
-use Rattle.parser_base.proofs.expect.Reads as expect-reads
+use Rattle.parser_state.proofs.advance.Reads as advance-reads
+use Rattle.parser_state.proofs.current.Reads as current-reads
+use Rattle.parser_state.proofs.expect.Reads as expect-reads
 use Rattle.parser_items.proofs.cases.Reads as cases
 use Rattle.parser_items.proofs.+array_lit+binary+call+case+cases+climb+condition+elems+expr+group+infixes+init+inits+item+items+member+operand+parse_body+parse_fn+parse_let+parse_match+post_step+postfix+prefix+record_lit+unary.Lts-parse_match as lts
 use Rattle.parser_items.proofs.+array_lit+binary+call+case+cases+climb+condition+elems+expr+group+infixes+init+inits+item+items+member+operand+parse_body+parse_fn+parse_let+parse_match+post_step+postfix+prefix+record_lit+unary.Proof.Measures.{parse-match-at, cases-below}
-use Rattle.parser_base.proofs.Steps.{then, read, looks, as-rule, enough}
+use Rattle.parser_state.proofs.Steps.{then, read, looks, as-rule, enough}
 use Rattle.rules.specs.Rules.{parseMatch}
-use Rattle.parser_leaves.specs.Matches.{matchNode}
-use Rattle.parser_leaves.proofs.Matches.{match-rest}
+use Rattle.parser_operators.specs.Matches.{matchNode}
+use Rattle.parser_operators.proofs.Matches.{match-rest}
 
 abbrev claims : ℕ → lts.Claims
 claims t = (advance-reads.Asked, advance-reads.Learnt, current-reads.Asked, current-reads.Learnt, expect-reads.Asked, expect-reads.Learnt, cases-below t, cases.Post)

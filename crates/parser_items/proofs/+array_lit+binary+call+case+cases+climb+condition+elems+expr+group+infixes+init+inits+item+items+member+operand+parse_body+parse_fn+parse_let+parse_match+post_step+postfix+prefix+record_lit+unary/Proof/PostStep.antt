@@ -1,17 +1,17 @@
 -- `post-step` meets its contract.
 use borrow.Author.Needs.{needs}
-use Rattle.parser_base.specs.Represents.{parserOf}
+use Rattle.parser_state.specs.Represents.{parserOf}
 use mathlib.Core.Path.{sym, _∙_}
 use native.Mathlib.Omega.{arith}
 use Prim.Native.Nat.{ℕ}
 use Rattle.parser_items.proofs.post_step.Reads as post-step
-use Rattle.parser_base.proofs.kind.Reads as kind-reads
-use Rattle.parser_leaves.proofs.field_access.Reads as field-access-reads
+use Rattle.parser_state.proofs.kind.Reads as kind-reads
+use Rattle.parser_operators.proofs.field_access.Reads as field-access-reads
 use Rattle.parser_items.proofs.call.Reads as call
 use Rattle.parser_items.proofs.+array_lit+binary+call+case+cases+climb+condition+elems+expr+group+infixes+init+inits+item+items+member+operand+parse_body+parse_fn+parse_let+parse_match+post_step+postfix+prefix+record_lit+unary.Lts-post_step as lts
 use Rattle.parser_items.proofs.+array_lit+binary+call+case+cases+climb+condition+elems+expr+group+infixes+init+inits+item+items+member+operand+parse_body+parse_fn+parse_let+parse_match+post_step+postfix+prefix+record_lit+unary.Proof.Measures.{post-step-at, call-below}
-use Rattle.parser_base.proofs.Steps.{ifKind-yes}
-use Rattle.parser_leaves.proofs.Exprs.{postfix-brace, post-call}
+use Rattle.parser_state.proofs.Steps.{ifKind-yes}
+use Rattle.parser_operators.proofs.Exprs.{postfix-brace, post-call}
 
 abbrev claims : ℕ → lts.Claims
 claims t = (kind-reads.Asked, kind-reads.Learnt, field-access-reads.Asked, field-access-reads.Learnt, call-below t, call.Post)

@@ -3,15 +3,15 @@ use borrow.Author.Needs.{needs}
 use native.Mathlib.Omega.{arith}
 use Prim.Native.Nat.{ℕ}
 use Rattle.parser_items.proofs.postfix.Reads as postfix
-use Rattle.parser_leaves.proofs.postfix_follows.Reads as postfix-follows-reads
+use Rattle.parser_operators.proofs.postfix_follows.Reads as postfix-follows-reads
 use Rattle.parser_items.proofs.post_step.Reads as post-step
 use Rattle.parser_items.proofs.+array_lit+binary+call+case+cases+climb+condition+elems+expr+group+infixes+init+inits+item+items+member+operand+parse_body+parse_fn+parse_let+parse_match+post_step+postfix+prefix+record_lit+unary.Lts-postfix as lts
 use Rattle.parser_items.proofs.+array_lit+binary+call+case+cases+climb+condition+elems+expr+group+infixes+init+inits+item+items+member+operand+parse_body+parse_fn+parse_let+parse_match+post_step+postfix+prefix+record_lit+unary.Proof.Measures.{postfix-at, post-step-below}
 use Rattle.rules.specs.Rules.{postfix, postfixStep}
-use Rattle.parser_base.proofs.Rounds.{LoopInvariant, round-start, round-again, round-out, again-of, weight, lighter}
-use Rattle.parser_base.specs.Represents.{parserOf, code}
-use Rattle.parser_base.specs.Refines.{kept, deeper}
-use Rattle.parser_leaves.proofs.Exprs.{postfix-goes, post-out}
+use Rattle.parser_state.proofs.Rounds.{LoopInvariant, round-start, round-again, round-out, again-of, weight, lighter}
+use Rattle.parser_state.specs.Represents.{parserOf, code}
+use Rattle.parser_state.specs.Refines.{kept, deeper}
+use Rattle.parser_operators.proofs.Exprs.{postfix-goes, post-out}
 use Rattle.parser_items.proofs.Levels.{out-at}
 use mathlib.Core.Path.{_≡_, refl, sym, _∙_}
 use lib.ListN.{length}

@@ -3,15 +3,15 @@ use borrow.Author.Needs.{needs}
 use native.Mathlib.Omega.{arith}
 use Prim.Native.Nat.{ℕ}
 use Rattle.parser_items.proofs.prefix.Reads as prefix
-use Rattle.parser_base.proofs.fail_expecting.Reads as fail-expecting-reads
-use Rattle.parser_leaves.proofs.begins_expr.Reads as begins-expr-reads
+use Rattle.parser_state.proofs.fail_expecting.Reads as fail-expecting-reads
+use Rattle.parser_operators.proofs.begins_expr.Reads as begins-expr-reads
 use Rattle.parser_items.proofs.expr.Reads as expr
-use Rattle.parser_base.proofs.collect_docs.Reads as collect-docs-reads
+use Rattle.parser_state.proofs.collect_docs.Reads as collect-docs-reads
 use Rattle.parser_items.proofs.item.Reads as item
 use Rattle.parser_items.proofs.+array_lit+binary+call+case+cases+climb+condition+elems+expr+group+infixes+init+inits+item+items+member+operand+parse_body+parse_fn+parse_let+parse_match+post_step+postfix+prefix+record_lit+unary.Lts-prefix as lts
 use Rattle.parser_items.proofs.+array_lit+binary+call+case+cases+climb+condition+elems+expr+group+infixes+init+inits+item+items+member+operand+parse_body+parse_fn+parse_let+parse_match+post_step+postfix+prefix+record_lit+unary.Proof.Measures.{prefix-at, expr-below, item-below}
 use mathlib.Core.Path.{sym, _∙_}
-use Rattle.parser_base.proofs.Steps.{then, enough}
+use Rattle.parser_state.proofs.Steps.{then, enough}
 use Rattle.rules.specs.Rules.{parsePrefix}
 use Rattle.parser_items.proofs.Levels.{prefix-deep, prefix-by, prefix-expr}
 

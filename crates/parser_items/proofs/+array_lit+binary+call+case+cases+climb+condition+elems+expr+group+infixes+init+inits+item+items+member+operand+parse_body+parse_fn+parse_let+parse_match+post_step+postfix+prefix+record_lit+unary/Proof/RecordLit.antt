@@ -3,13 +3,13 @@ use borrow.Author.Needs.{needs}
 use native.Mathlib.Omega.{arith}
 use Prim.Native.Nat.{ℕ}
 use Rattle.parser_items.proofs.record_lit.Reads as record-lit
-use Rattle.parser_base.proofs.current.Reads as current-reads
-use Rattle.parser_base.proofs.advance.Reads as advance-reads
+use Rattle.parser_state.proofs.current.Reads as current-reads
+use Rattle.parser_state.proofs.advance.Reads as advance-reads
 use Rattle.parser_items.proofs.inits.Reads as inits
-use Rattle.parser_base.proofs.push_token_node.Reads as push-token-node-reads
+use Rattle.parser_state.proofs.push_token_node.Reads as push-token-node-reads
 use Rattle.parser_items.proofs.+array_lit+binary+call+case+cases+climb+condition+elems+expr+group+infixes+init+inits+item+items+member+operand+parse_body+parse_fn+parse_let+parse_match+post_step+postfix+prefix+record_lit+unary.Lts-record_lit as lts
 use Rattle.parser_items.proofs.+array_lit+binary+call+case+cases+climb+condition+elems+expr+group+infixes+init+inits+item+items+member+operand+parse_body+parse_fn+parse_let+parse_match+post_step+postfix+prefix+record_lit+unary.Proof.Measures.{record-lit-at, inits-below}
-use Rattle.parser_base.proofs.Steps.{read, seq, enough}
+use Rattle.parser_state.proofs.Steps.{read, seq, enough}
 use Rattle.rules.specs.Combinators.{tokenCells, runCells}
 use Rattle.rules.specs.Layout.{nodeCells}
 use Rattle.rules.specs.Rules.{recordLiteral}

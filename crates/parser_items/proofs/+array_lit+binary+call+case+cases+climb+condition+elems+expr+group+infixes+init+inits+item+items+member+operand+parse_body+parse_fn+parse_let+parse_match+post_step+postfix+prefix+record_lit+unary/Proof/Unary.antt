@@ -3,13 +3,13 @@ use borrow.Author.Needs.{needs}
 use native.Mathlib.Omega.{arith}
 use Prim.Native.Nat.{ℕ}
 use Rattle.parser_items.proofs.unary.Reads as unary
-use Rattle.parser_base.proofs.current.Reads as current-reads
-use Rattle.parser_base.proofs.advance.Reads as advance-reads
+use Rattle.parser_state.proofs.current.Reads as current-reads
+use Rattle.parser_state.proofs.advance.Reads as advance-reads
 use Rattle.parser_items.proofs.expr.Reads as expr
-use Rattle.parser_base.proofs.push_token_node.Reads as push-token-node-reads
+use Rattle.parser_state.proofs.push_token_node.Reads as push-token-node-reads
 use Rattle.parser_items.proofs.+array_lit+binary+call+case+cases+climb+condition+elems+expr+group+infixes+init+inits+item+items+member+operand+parse_body+parse_fn+parse_let+parse_match+post_step+postfix+prefix+record_lit+unary.Lts-unary as lts
 use Rattle.parser_items.proofs.+array_lit+binary+call+case+cases+climb+condition+elems+expr+group+infixes+init+inits+item+items+member+operand+parse_body+parse_fn+parse_let+parse_match+post_step+postfix+prefix+record_lit+unary.Proof.Measures.{unary-at, expr-below}
-use Rattle.parser_base.proofs.Steps.{read, seq, enough}
+use Rattle.parser_state.proofs.Steps.{read, seq, enough}
 use Rattle.rules.specs.Combinators.{tokenCells}
 use Rattle.rules.specs.Layout.{nodeCells}
 use Rattle.rules.specs.Rules.{unary}

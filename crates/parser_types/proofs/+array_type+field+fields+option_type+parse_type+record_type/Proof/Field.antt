@@ -3,14 +3,14 @@ use borrow.Author.Needs.{needs}
 use native.Mathlib.Omega.{arith}
 use Prim.Native.Nat.{ℕ}
 use Rattle.parser_types.proofs.field.Reads as field
-use Rattle.parser_base.proofs.current.Reads as current-reads
-use Rattle.parser_base.proofs.expect_ident.Reads as expect-ident-reads
-use Rattle.parser_base.proofs.expect.Reads as expect-reads
+use Rattle.parser_state.proofs.current.Reads as current-reads
+use Rattle.parser_state.proofs.expect_ident.Reads as expect-ident-reads
+use Rattle.parser_state.proofs.expect.Reads as expect-reads
 use Rattle.parser_types.proofs.parse_type.Reads as parse-type
-use Rattle.parser_base.proofs.push_named.Reads as push-named-reads
+use Rattle.parser_state.proofs.push_named.Reads as push-named-reads
 use Rattle.parser_types.proofs.+array_type+field+fields+option_type+parse_type+record_type.Lts-field as lts
 use Rattle.parser_types.proofs.+array_type+field+fields+option_type+parse_type+record_type.Proof.Measures.{field-at, parse-type-below}
-use Rattle.parser_base.proofs.Steps.{read, seq, then, enough}
+use Rattle.parser_state.proofs.Steps.{read, seq, then, enough}
 use Rattle.rules.specs.Rules.{typedName}
 
 abbrev claims : ℕ → lts.Claims

@@ -1,24 +1,24 @@
 -- `fields` meets its contract.
 use borrow.Author.Needs.{needs}
-use Rattle.parser_base.specs.declared.Used.{Used}
+use Rattle.parser_state.specs.declared.Used.{Used}
 use native.Mathlib.Omega.{arith}
 use Prim.Native.Nat.{ℕ}
 use Rattle.parser_types.proofs.fields.Reads as fields
-use Rattle.parser_base.proofs.get_used.Reads as get-used-reads
-use Rattle.parser_base.proofs.member_follows.Reads as member-follows-reads
+use Rattle.parser_state.proofs.get_used.Reads as get-used-reads
+use Rattle.parser_state.proofs.member_follows.Reads as member-follows-reads
 use Rattle.parser_types.proofs.field.Reads as field
 use Rattle.std.proofs.num.wrapping_add_u32.Reads as wrapping-add-u32-reads
-use Rattle.parser_base.proofs.close.Reads as close-reads
+use Rattle.parser_state.proofs.close.Reads as close-reads
 use Rattle.parser_types.proofs.+array_type+field+fields+option_type+parse_type+record_type.Lts-fields as lts
 use Rattle.parser_types.proofs.+array_type+field+fields+option_type+parse_type+record_type.Proof.Measures.{fields-at, field-below}
-use Rattle.parser_base.proofs.Loops.{MembersInvariant, midway-start, midway-turn, midway-end, falls}
-use Rattle.parser_base.proofs.Rounds.{weight}
+use Rattle.parser_state.proofs.Loops.{MembersInvariant, midway-start, midway-turn, midway-end, falls}
+use Rattle.parser_state.proofs.Rounds.{weight}
 use mathlib.Core.Path.{_≡_, refl, sym, _∙_, ap}
 use lib.ListN.{length}
 use mathlib.Core.List.{List, []}
 use Rattle.rules.specs.Rules.{typedName}
-use Rattle.parser_base.specs.Represents.{parserOf, code}
-use Rattle.parser_base.specs.Refines.{deeper}
+use Rattle.parser_state.specs.Represents.{parserOf, code}
+use Rattle.parser_state.specs.Refines.{deeper}
 
 abbrev claims : ℕ → lts.Claims
 claims t = (get-used-reads.Asked, get-used-reads.Learnt, member-follows-reads.Asked, member-follows-reads.Learnt, field-below t, field.Post, wrapping-add-u32-reads.Asked, wrapping-add-u32-reads.Learnt, close-reads.Asked, close-reads.Learnt)

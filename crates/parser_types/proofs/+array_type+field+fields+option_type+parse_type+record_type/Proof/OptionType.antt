@@ -5,11 +5,11 @@ use Prim.Native.Nat.{ℕ}
 use Rattle.parser_types.proofs.option_type.Reads as option-type
 use Rattle.parser_types.proofs.open_angle.Reads as open-angle-reads
 use Rattle.parser_types.proofs.parse_type.Reads as parse-type
-use Rattle.parser_base.proofs.expect.Reads as expect-reads
-use Rattle.parser_base.proofs.push_type.Reads as push-type-reads
+use Rattle.parser_state.proofs.expect.Reads as expect-reads
+use Rattle.parser_state.proofs.push_type.Reads as push-type-reads
 use Rattle.parser_types.proofs.+array_type+field+fields+option_type+parse_type+record_type.Lts-option_type as lts
 use Rattle.parser_types.proofs.+array_type+field+fields+option_type+parse_type+record_type.Proof.Measures.{option-type-at, parse-type-below}
-use Rattle.parser_base.proofs.Steps.{seq, then, enough}
+use Rattle.parser_state.proofs.Steps.{seq, then, enough}
 use Rattle.rules.specs.Rules.{optionType}
 
 abbrev claims : ℕ → lts.Claims

@@ -4,8 +4,8 @@ use mathlib.Core.Path.{sym, _∙_}
 use native.Mathlib.Omega.{arith}
 use Prim.Native.Nat.{ℕ}
 use Rattle.parser_types.proofs.parse_type.Reads as parse-type
-use Rattle.parser_base.proofs.fail_expecting.Reads as fail-expecting-reads
-use Rattle.parser_base.proofs.kind.Reads as kind-reads
+use Rattle.parser_state.proofs.fail_expecting.Reads as fail-expecting-reads
+use Rattle.parser_state.proofs.kind.Reads as kind-reads
 use Rattle.parser_types.proofs.foreign_type.Reads as foreign-type-reads
 use Rattle.parser_types.proofs.option_type.Reads as option-type
 use Rattle.parser_types.proofs.array_type.Reads as array-type

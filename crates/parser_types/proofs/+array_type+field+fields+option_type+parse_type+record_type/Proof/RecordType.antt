@@ -3,14 +3,14 @@ use borrow.Author.Needs.{needs}
 use native.Mathlib.Omega.{arith}
 use Prim.Native.Nat.{ℕ}
 use Rattle.parser_types.proofs.record_type.Reads as record-type
-use Rattle.parser_base.proofs.current.Reads as current-reads
-use Rattle.parser_base.proofs.advance.Reads as advance-reads
-use Rattle.parser_base.proofs.expect.Reads as expect-reads
+use Rattle.parser_state.proofs.current.Reads as current-reads
+use Rattle.parser_state.proofs.advance.Reads as advance-reads
+use Rattle.parser_state.proofs.expect.Reads as expect-reads
 use Rattle.parser_types.proofs.fields.Reads as fields
-use Rattle.parser_base.proofs.push_type.Reads as push-type-reads
+use Rattle.parser_state.proofs.push_type.Reads as push-type-reads
 use Rattle.parser_types.proofs.+array_type+field+fields+option_type+parse_type+record_type.Lts-record_type as lts
 use Rattle.parser_types.proofs.+array_type+field+fields+option_type+parse_type+record_type.Proof.Measures.{record-type-at, fields-below}
-use Rattle.parser_base.proofs.Steps.{read, seq, then, enough}
+use Rattle.parser_state.proofs.Steps.{read, seq, then, enough}
 use Rattle.rules.specs.Rules.{recordType}
 
 abbrev claims : ℕ → lts.Claims

@@ -1,0 +1,4 @@
+-- What the exported functions return and write.
+pub mod LexerCells
+pub mod Numbers
+pub mod Texts

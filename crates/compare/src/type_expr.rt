@@ -1,0 +1,220 @@
+// When two types, or two lists of arguments or of fns, agree. The number of a type falls from call to call.
+use crate::kind::kind_at;
+use crate::word::agree_token_at;
+use crate::word::agree_words;
+use ast::layout::cell;
+use ast::layout::run_at;
+use rules::Run;
+use rules::TypeExpr;
+use rules::TypeExprId;
+use rules::TypeExprKind;
+ghost use Rattle.rules.specs.Shape.{params, fns};
+ghost use Rattle.compare.specs.Agree.{Agree, Decides};
+ghost use Rattle.compare.specs.Shapes.{typesBelow, typeEnv};
+
+// Type `i`, below `n`, and type `j`, below `m`. The last call is the last thing done, and passes nothing that lies in this function's
+// frame, so that a long chain takes no stack.
+pub(crate) fn agree_type(
+    s: &&[u8],
+    types: &&[u32],
+    cells: &&[u32],
+    n: u32,
+    i: TypeExprId,
+    s2: &&[u8],
+    types2: &&[u32],
+    cells2: &&[u32],
+    m: u32,
+    j: TypeExprId,
+) -> bool
+    ensures { λ r. ⌜ Decides r (Agree (typesBelow (now (now (s .entry))) (now (now (cells .entry))) (now (now (types .entry))) n (i .0)) (typesBelow (now (now (s2 .entry))) (now (now (cells2 .entry))) (now (now (types2 .entry))) m (j .0))) ⌝ }
+{
+    if n <= i.0 {
+        return false;
+    }
+    if m <= j.0 {
+        return false;
+    }
+    let kind = kind_at(*types, TypeExpr::WIDTH, TypeExprKind::RECORD, i.0);
+    if kind == 0 {
+        return false;
+    }
+    if kind != kind_at(*types2, TypeExpr::WIDTH, TypeExprKind::RECORD, j.0) {
+        return false;
+    }
+    let at = TypeExpr::WIDTH * i.0 as usize;
+    let at2 = TypeExpr::WIDTH * j.0 as usize;
+    if kind == TypeExprKind::OPTION {
+        return agree_type(
+            s,
+            types,
+            cells,
+            i.0,
+            TypeExprId(cell(*types, at, 1)),
+            s2,
+            types2,
+            cells2,
+            j.0,
+            TypeExprId(cell(*types2, at2, 1)),
+        );
+    }
+    if kind == TypeExprKind::ARRAY {
+        return agree_type(
+            s,
+            types,
+            cells,
+            i.0,
+            TypeExprId(cell(*types, at, 1)),
+            s2,
+            types2,
+            cells2,
+            j.0,
+            TypeExprId(cell(*types2, at2, 1)),
+        );
+    }
+    if !agree_token_at(s, types, at + 1, s2, types2, at2 + 1) {
+        return false;
+    }
+    if kind != TypeExprKind::RECORD {
+        return true;
+    }
+    agree_params(
+        s,
+        types,
+        cells,
+        i.0,
+        run_at(*types, at + 4),
+        s2,
+        types2,
+        cells2,
+        j.0,
+        run_at(*types2, at2 + 4),
+    )
+}
+
+// Names with their types, those below `n` and `m`.
+pub(crate) fn agree_params(
+    s: &&[u8],
+    types: &&[u32],
+    cells: &&[u32],
+    n: u32,
+    r: Run,
+    s2: &&[u8],
+    types2: &&[u32],
+    cells2: &&[u32],
+    m: u32,
+    r2: Run,
+) -> bool
+    ensures { λ b. ⌜ Decides b (Agree (params (typeEnv (now (now (s .entry))) (now (now (cells .entry))) (now (now (types .entry))) n) r) (params (typeEnv (now (now (s2 .entry))) (now (now (cells2 .entry))) (now (now (types2 .entry))) m) r2)) ⌝ }
+{
+    if r.len != r2.len {
+        return false;
+    }
+    let mut at = r.start as usize;
+    let mut at2 = r2.start as usize;
+    let mut left = r.len as usize;
+    if cells.len() < at + left * 4 {
+        return false;
+    }
+    if cells2.len() < at2 + left * 4 {
+        return false;
+    }
+    while 0 < left {
+        if !agree_token_at(s, cells, at, s2, cells2, at2) {
+            return false;
+        }
+        if !agree_type(
+            s,
+            types,
+            cells,
+            n,
+            TypeExprId(cell(*cells, at, 3)),
+            s2,
+            types2,
+            cells2,
+            m,
+            TypeExprId(cell(*cells2, at2, 3)),
+        ) {
+            return false;
+        }
+        at += 4;
+        at2 += 4;
+        left -= 1;
+    }
+    true
+}
+
+// The fns of two externs.
+pub(crate) fn agree_fns(
+    s: &&[u8],
+    types: &&[u32],
+    cells: &&[u32],
+    n: u32,
+    r: Run,
+    s2: &&[u8],
+    types2: &&[u32],
+    cells2: &&[u32],
+    m: u32,
+    r2: Run,
+) -> bool
+    ensures { λ b. ⌜ Decides b (Agree (fns (typeEnv (now (now (s .entry))) (now (now (cells .entry))) (now (now (types .entry))) n) r) (fns (typeEnv (now (now (s2 .entry))) (now (now (cells2 .entry))) (now (now (types2 .entry))) m) r2)) ⌝ }
+{
+    if r.len != r2.len {
+        return false;
+    }
+    let mut at = r.start as usize;
+    let mut at2 = r2.start as usize;
+    let mut left = r.len as usize;
+    if cells.len() < at + left * 8 {
+        return false;
+    }
+    if cells2.len() < at2 + left * 8 {
+        return false;
+    }
+    while 0 < left {
+        if !agree_words(
+            s,
+            cells,
+            run_at(*cells, at),
+            s2,
+            cells2,
+            run_at(*cells2, at2),
+        ) {
+            return false;
+        }
+        if !agree_token_at(s, cells, at + 2, s2, cells2, at2 + 2) {
+            return false;
+        }
+        if !agree_params(
+            s,
+            types,
+            cells,
+            n,
+            run_at(*cells, at + 5),
+            s2,
+            types2,
+            cells2,
+            m,
+            run_at(*cells2, at2 + 5),
+        ) {
+            return false;
+        }
+        if !agree_type(
+            s,
+            types,
+            cells,
+            n,
+            TypeExprId(cell(*cells, at, 7)),
+            s2,
+            types2,
+            cells2,
+            m,
+            TypeExprId(cell(*cells2, at2, 7)),
+        ) {
+            return false;
+        }
+        at += 8;
+        at2 += 8;
+        left -= 1;
+    }
+    true
+}

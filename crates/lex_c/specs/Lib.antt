@@ -1,2 +1,0 @@
--- What the exported functions write.
-pub mod Cells

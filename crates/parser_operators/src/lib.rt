@@ -1,0 +1,316 @@
+// The tables and tests of items and expressions, and the nodes with none below them.
+use lex::Token;
+use lex::Type;
+use lex::is_prefix_sign;
+use parser_state::advance;
+use parser_state::current;
+use parser_state::expect_ident;
+use parser_state::fail_at;
+use parser_state::get_used;
+use parser_state::going;
+use parser_state::kind;
+use parser_state::low;
+use parser_state::push_cells;
+use parser_state::push_field;
+use parser_state::push_node;
+use parser_state::push_token_node;
+use parser_types::parse_type;
+use rules::Node;
+use rules::NodeId;
+use rules::NodeKind;
+use rules::Run;
+use rules::TypeExprId;
+ghost use mathlib.Core.Path.{_≡_};
+ghost use mathlib.Core.List.{List, [], _∷_, _++_};
+ghost use Prim.Native.Nat.{ℕ, _<_};
+ghost use lib.ListN.{getD};
+ghost use Rattle.rules.specs.Combinators.{pushNode, tokenCells, runCells};
+ghost use Rattle.rules.specs.declared.Node.the-variants as N;
+ghost use Rattle.rules.specs.Rules.{atom, ident, fieldAccess, cast, breaksOff};
+ghost use Rattle.parser_state.specs.Represents.{parserOf, code, lowToken};
+ghost use Rattle.parser_state.specs.Refines.{Refines, kept, ReadsNode, ReadsStep, Pushes, deeper};
+ghost use Rattle.parser_operators.specs.Tests.{operandClass, operatorNumber, leftPowers, rightPowers, beginsExpr, callAt, postfixFollows, infixFollows};
+ghost use Rattle.parser_operators.specs.Matches.{defaultOf, matchNode};
+
+// ---- tables
+
+// Left and right binding powers of `+` `-` `*` `/` `%` `==` `<` `>` `!=`, by their numbers.
+const LEFT_POWERS: [u32; 9] = [1, 1, 3, 3, 3, 0, 0, 0, 0];
+
+const RIGHT_POWERS: [u32; 9] = [2, 2, 4, 4, 4, 1, 1, 1, 1];
+
+// The power of a prefix sign.
+pub const PREFIX_POWER: u32 = 5;
+
+// What begins an operand: a record 1, an array 2, an atom 3, a name 4, a bracket 5, a sign 6; 0 what begins none.
+// A chain of tests, which is compiled to one jump: a constant array would be written out at each use.
+pub fn operand_class(kind: u32) -> u32
+    ensures { λ r. ⌜ r ≡ operandClass kind ⌝ }
+{
+    if kind == Type::CURLY_LEFT {
+        return 1;
+    }
+    if kind == Type::BRAKET_LEFT {
+        return 2;
+    }
+    if kind == Type::S {
+        return 3;
+    }
+    if kind == Type::I {
+        return 3;
+    }
+    if kind == Type::D {
+        return 3;
+    }
+    if kind == Type::TRUE {
+        return 3;
+    }
+    if kind == Type::FALSE {
+        return 3;
+    }
+    if kind == Type::IDENT {
+        return 4;
+    }
+    if kind == Type::BRACE_LEFT {
+        return 5;
+    }
+    if kind == Type::PLUS {
+        return 6;
+    }
+    if kind == Type::MINUS {
+        return 6;
+    }
+    0
+}
+
+// The number of an infix sign by its kind; 9 where there is none.
+pub fn operator(kind: u32) -> u32
+    ensures { λ r. ⌜ r ≡ operatorNumber kind ⌝ }
+{
+    if kind == Type::PLUS {
+        return 0;
+    }
+    if kind == Type::MINUS {
+        return 1;
+    }
+    if kind == Type::ASTERIKS {
+        return 2;
+    }
+    if kind == Type::SLASH {
+        return 3;
+    }
+    if kind == Type::PERCENT {
+        return 4;
+    }
+    if kind == Type::DOUBLE_EQUAL {
+        return 5;
+    }
+    if kind == Type::LESS_THAN {
+        return 6;
+    }
+    if kind == Type::GREATER_THAN {
+        return 7;
+    }
+    9
+}
+
+fn left_power(n: u32) -> u32
+    requires { ⌜ n < 9 ⌝ }
+    ensures { λ r. ⌜ r ≡ getD leftPowers n 0 ⌝ }
+{
+    LEFT_POWERS[n as usize]
+}
+
+pub fn right_power(n: u32) -> u32
+    requires { ⌜ n < 9 ⌝ }
+    ensures { λ r. ⌜ r ≡ getD rightPowers n 0 ⌝ }
+{
+    RIGHT_POWERS[n as usize]
+}
+
+// ---- whether an item is an expression, and a loop over an expression goes on
+
+// No doc waits or is read, and none of the words that begin another item: the kinds from Doc to Match.
+pub fn begins_expr(p: &[u32; 17]) -> bool
+    ensures { λ r. ⌜ r ≡ beginsExpr (parserOf (now (p .entry))) ⌝ }
+{
+    if get_used(p).docs != 0 {
+        return false;
+    }
+    let k = kind(p);
+    if k < Type::DOC {
+        return true;
+    }
+    Type::MATCH < k
+}
+
+// An Ident or a Field can be called.
+fn is_callable_target(nodes: &[u32], n: NodeId) -> bool
+    ensures { λ r. ⌜ r ≡ callAt (now (nodes .entry)) n ⌝ }
+{
+    let at = 16 * n.0 as usize;
+    if nodes.len() <= at {
+        return false;
+    }
+    if nodes[at] == NodeKind::IDENT {
+        return true;
+    }
+    nodes[at] == NodeKind::FIELD
+}
+
+// A `.`, or a `(` behind a node that can be called.
+pub fn postfix_follows(nodes: &[u32], p: &[u32; 17], n: NodeId) -> bool
+    ensures { λ r. ⌜ r ≡ postfixFollows (now (nodes .entry)) (parserOf (now (p .entry))) n ⌝ }
+{
+    if !going(p) {
+        return false;
+    }
+    let k = kind(p);
+    if k == Type::DOT {
+        return true;
+    }
+    if k == Type::BRACE_LEFT {
+        return is_callable_target(nodes, n);
+    }
+    false
+}
+
+// A sign that begins an operand ends the one before it.
+fn breaks_off(script: &[u8], t: Token) -> bool
+    ensures { λ r. ⌜ r ≡ breaksOff (now (script .entry)) t ⌝ }
+{
+    if t.kind == Type::PLUS {
+        return is_prefix_sign(script, t.start);
+    }
+    if t.kind == Type::MINUS {
+        return is_prefix_sign(script, t.start);
+    }
+    false
+}
+
+// `as`, or an infix sign whose left power is no less.
+pub fn infix_follows(script: &[u8], p: &[u32; 17], least: u32) -> bool
+    ensures { λ r. ⌜ r ≡ infixFollows (now (script .entry)) (parserOf (now (p .entry))) least ⌝ }
+{
+    if !going(p) {
+        return false;
+    }
+    let t = current(p);
+    if t.kind == Type::AS {
+        return true;
+    }
+    let n = operator(t.kind);
+    if 9 <= n {
+        return false;
+    }
+    if breaks_off(script, t) {
+        return false;
+    }
+    least <= left_power(n)
+}
+
+// ---- nodes with none below them
+
+pub fn atom(script: &[u8], nodes: &mut [u32], p: &mut [u32; 17]) -> NodeId
+    requires { ⌜ 1 < parserOf (now p) .cur .kind ⌝ }
+    ensures { λ r. ⌜ ((types lists : List ℕ) → ReadsNode (now (script .entry)) atom (code (now (nodes .entry)) types lists (parserOf (now (p .entry)))) (code (now (nodes .exit)) types lists (parserOf (now (p .exit)))) r) ⌝ }
+{
+    let raw = current(p);
+    advance(script, p);
+    push_token_node(nodes, p, NodeKind::ATOM, raw, 0, 0)
+}
+
+pub fn ident(script: &[u8], nodes: &mut [u32], p: &mut [u32; 17]) -> NodeId
+    requires { ⌜ 1 < parserOf (now p) .cur .kind ⌝ }
+    ensures { λ r. ⌜ ((types lists : List ℕ) → ReadsNode (now (script .entry)) ident (code (now (nodes .entry)) types lists (parserOf (now (p .entry)))) (code (now (nodes .exit)) types lists (parserOf (now (p .exit)))) r) ⌝ }
+{
+    let name = current(p);
+    advance(script, p);
+    push_token_node(nodes, p, NodeKind::IDENT, name, 0, 0)
+}
+
+pub fn field_access(script: &[u8], nodes: &mut [u32], p: &mut [u32; 17], lhs: NodeId) -> NodeId
+    requires { ⌜ 1 < parserOf (now p) .cur .kind ⌝ }
+    ensures { λ r. ⌜ ((types lists : List ℕ) → ReadsStep (now (script .entry)) (fieldAccess lhs) (code (now (nodes .entry)) types lists (parserOf (now (p .entry)))) (code (now (nodes .exit)) types lists (parserOf (now (p .exit)))) r) ⌝ }
+{
+    advance(script, p);
+    let name = current(p);
+    expect_ident(script, p);
+    push_field(nodes, p, lhs, name)
+}
+
+// A Cast is pushed from a node and a type, one of each.
+fn push_cast(
+    nodes: &mut [u32],
+    p: &mut [u32; 17],
+    src: Token,
+    lhs: NodeId,
+    rhs: TypeExprId,
+) -> NodeId
+    ensures { λ r. ⌜ ((script types lists : List ℕ) → Refines script 1 0 (pushNode (λ id. N.Cast id (lowToken src) lhs rhs)) (λ i. i ≡ r) kept 0 0 0 (code (now (nodes .entry)) types lists (parserOf (now (p .entry)))) (code (now (nodes .exit)) types lists (parserOf (now (p .exit))))) ⌝ }
+{
+    push_token_node(nodes, p, NodeKind::CAST, src, lhs.0, rhs.0)
+}
+
+pub fn cast(
+    script: &[u8],
+    nodes: &mut [u32],
+    types: &mut [u32],
+    lists: &mut [u32],
+    p: &mut [u32; 17],
+    lhs: NodeId,
+    levels: usize,
+) -> NodeId
+    requires { ⌜ 1 < parserOf (now p) .cur .kind ⌝ }
+    ensures { λ r. ⌜ ReadsStep (now (script .entry)) (cast (deeper (now (script .entry)) levels) lhs) (code (now (nodes .entry)) (now (types .entry)) (now (lists .entry)) (parserOf (now (p .entry)))) (code (now (nodes .exit)) (now (types .exit)) (now (lists .exit)) (parserOf (now (p .exit)))) r ⌝ }
+{
+    let src = current(p);
+    advance(script, p);
+    let rhs = parse_type(script, types, lists, p, levels);
+    push_cast(nodes, p, src, lhs, rhs)
+}
+
+// ---- the cases of a match
+
+// The default of a match: its token and body, where `has` is not 0.
+pub struct Default {
+    pub has: u32,
+    pub token: Token,
+    pub run: Run,
+}
+
+// The default of a match so far, and how many cases there are.
+pub struct CasesRead {
+    pub default: Default,
+    pub members: u32,
+}
+
+pub fn push_case(lists: &mut [u32], p: &mut [u32; 17], t: Token, n: NodeId, body: Run)
+    ensures { λ r. ⌜ ((script nodes types : List ℕ) → Pushes script 12 (tokenCells (lowToken t) ++ (n .0 ∷ runCells body)) (code nodes types (now (lists .entry)) (parserOf (now (p .entry)))) (code nodes types (now (lists .exit)) (parserOf (now (p .exit))))) ⌝ }
+{
+    let cells = [body.len, body.start, n.0, low(t.len), low(t.start), t.kind];
+    push_cells(lists, p, &cells);
+}
+
+pub fn match_node(nodes: &mut [u32], p: &mut [u32; 17], t: Token, cases: Run, d: Default) -> NodeId
+    ensures { λ r. ⌜ ((script types lists : List ℕ) → Refines script 1 0 (matchNode (lowToken t) (defaultOf d) cases) (λ n. n ≡ r) kept 0 0 0 (code (now (nodes .entry)) types lists (parserOf (now (p .entry)))) (code (now (nodes .exit)) types lists (parserOf (now (p .exit))))) ⌝ }
+{
+    if d.has == 0 {
+        fail_at(p, 18, t);
+        return NodeId(0);
+    }
+    let token = d.token;
+    let run = d.run;
+    let id = get_used(p).values;
+    push_node(
+        nodes,
+        p,
+        Node::Match {
+            id,
+            cases,
+            default_token: token,
+            default_body: run,
+        },
+        0,
+    )
+}

@@ -1,0 +1,19 @@
+-- `parser_state::error` meets its contract.
+use borrow.Author.Needs.{needs}
+use mathlib.Core.Path.{refl}
+use Rattle.parser_state.specs.Represents.{parserOf}
+use Rattle.parser_state.proofs.error.Statement.{statement}
+use Rattle.parser_state.proofs.error.Tie as tie
+
+returns : tie.Need-returns
+unfolding parserOf
+returns c = refl
+
+pub error-spec : {M : Type 1} → statement M
+error-spec = tie.close (tie.spec
+    (λ c. search needs)
+    (λ c. search needs)
+    (λ c. search needs)
+    (λ c. search needs)
+    (λ c. search needs)
+    returns)

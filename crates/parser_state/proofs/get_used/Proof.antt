@@ -1,0 +1,20 @@
+-- `parser_state::get_used` meets its contract.
+use borrow.Author.Needs.{needs}
+use mathlib.Core.Path.{refl}
+use Rattle.parser_state.specs.Represents.{parserOf}
+use Rattle.parser_state.proofs.get_used.Statement.{statement}
+use Rattle.parser_state.proofs.get_used.Tie as tie
+
+returns : tie.Need-returns
+unfolding parserOf
+returns c = refl
+
+pub get-used-spec : {M : Type 1} → statement M
+get-used-spec = tie.close (tie.spec
+    (λ c. search needs)
+    (λ c. search needs)
+    (λ c. search needs)
+    (λ c. search needs)
+    (λ c. search needs)
+    (λ c. search needs)
+    returns)

@@ -1,0 +1,27 @@
+-- `parser_state::push_let` meets its contract.
+use borrow.Author.Needs.{needs}
+use mathlib.Core.Path.{sym}
+use mathlib.Core.List.{[], _∷_}
+use Rattle.rules.specs.Combinators.{tokenCells, runCells}
+use Rattle.rules.specs.Layout.{nodeCells}
+use Rattle.parser_state.proofs.Cells.{two-cells}
+use Rattle.parser_state.proofs.push_let.Statement.{statement}
+use Rattle.parser_state.proofs.push_let.Tie as tie
+
+returns : tie.Need-returns
+unfolding nodeCells tokenCells runCells
+returns c =
+    let low = c .before .before .before .before .low in
+    let low2 = c .before .before .before .low2 in
+    let push-record = c .before .before .push-record in
+    λ script types lists. push-record .ensures script types lists _ (sym (two-cells (_ ∷ _ ∷ _ ∷ _ ∷ _ ∷ []) _ (low .ensures) (low2 .ensures)))
+
+pub push-let-spec : {M : Type 1} → statement M
+push-let-spec =
+    tie.close
+    (tie.spec
+    (λ c κs. search needs)
+    (λ c κs. search needs)
+    (λ c κs. search needs)
+    (λ c. search needs)
+    returns)

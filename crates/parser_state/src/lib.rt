@@ -1,0 +1,1112 @@
+// The parser's state, and the functions of parser.rs that take tokens, write records, lists and docs, and fail.
+use lex::Diagnostic;
+use lex::Next;
+use lex::Token;
+use lex::Type;
+use lex::next_token;
+use rules::Node;
+use rules::NodeId;
+use rules::NodeKind;
+use rules::Parsed;
+use rules::Run;
+use rules::TypeExpr;
+use rules::TypeExprId;
+use rules::TypeExprKind;
+ghost use mathlib.Core.Path.{_≡_};
+ghost use mathlib.Core.Bool.{true, false};
+ghost use mathlib.Core.List.{List, [], _∷_, _++_, reverse};
+ghost use Prim.Native.Nat.{ℕ, _+_, _*_, _-_, _≤_, _<_};
+ghost use lib.ListN.{length, replicate};
+ghost use lib.Seq.{paste};
+ghost use Rattle.rules.specs.Layout.{nodeWidth, padded, nodeCells, typeCells};
+ghost use Rattle.rules.specs.Combinators.{continue, atToken, advance, expect, expectIdent, rejectKind, pushNode, pushNodeAnd, pushType, allocSlice, tokenCells, keepDoc, collectDocs, takeDocs};
+ghost use Rattle.rules.specs.declared.Node.the-variants as N;
+ghost use Rattle.parser_state.specs.Represents.{parserOf, withNext, withUsed, withStatus, code, isGoing, low, lowToken, lowType, lowNode};
+ghost use Rattle.parser_state.specs.Refines.{Refines, kept, Takes, Refuses, Pushes, Lists, failAt, noDocsWait, failed, tokenAt, hasRoom, memberFollows, docFollows, closed};
+
+// Whether the reading has failed, and its error.
+pub struct Status {
+    pub failed: u32,
+    pub error: Diagnostic,
+}
+
+// How much is made: node and type records, value numbers, list cells; and what waits: docs, and cells of lists under construction.
+pub struct Used {
+    pub nodes: u32,
+    pub values: u32,
+    pub types: u32,
+    pub docs: u32,
+    pub cells: u32,
+    pub scratch: u32,
+}
+
+// The token being read and the position after it, what is used of the arrays, and whether the reading has failed.
+// Its numbers lie in seventeen cells that are lent from call to call, since a struct by value would be copied whole at each: the token's start, kind and length, the low and the high 32 bits of the position, the six counts, whether the reading has failed, and the five numbers of the error.
+pub struct Parser {
+    pub cur: Token,
+    pub pos: usize,
+    pub used: Used,
+    pub status: Status,
+}
+
+impl Parser {
+    pub const MAX_BYTES: usize = Parsed::MAX_BYTES;
+
+    pub const MAX_LEVELS: usize = 128;
+}
+
+// ---- the cells of a parser
+
+// The reading has not failed.
+pub fn going(p: &[u32; 17]) -> bool
+    ensures { λ r. ⌜ r ≡ isGoing (parserOf (now (p .entry)) .status) ⌝ }
+{
+    p[11] == 0
+}
+
+fn wide(n: u32) -> usize
+    ensures { λ r. ⌜ (r ≡ n) × (r < 4294967296) ⌝ }
+{
+    n as usize
+}
+
+// The kind of the token being read.
+pub fn kind(p: &[u32; 17]) -> u32
+    ensures { λ r. ⌜ r ≡ parserOf (now (p .entry)) .cur .kind ⌝ }
+{
+    p[1]
+}
+
+// The token being read.
+pub fn current(p: &[u32; 17]) -> Token
+    ensures { λ r. ⌜ r ≡ parserOf (now (p .entry)) .cur ⌝ }
+{
+    Token {
+        kind: p[1],
+        start: wide(p[0]),
+        len: wide(p[2]),
+    }
+}
+
+// The position after the token being read, which has two cells.
+pub fn position(p: &[u32; 17]) -> usize
+    ensures { λ r. ⌜ r ≡ parserOf (now (p .entry)) .pos ⌝ }
+{
+    wide(p[3]) + 4294967296 * wide(p[4])
+}
+
+// What is used of the arrays.
+pub fn get_used(p: &[u32; 17]) -> Used
+    ensures { λ r. ⌜ r ≡ parserOf (now (p .entry)) .used ⌝ }
+{
+    Used {
+        nodes: p[5],
+        values: p[6],
+        types: p[7],
+        docs: p[8],
+        cells: p[9],
+        scratch: p[10],
+    }
+}
+
+// The error of a reading that has failed.
+pub fn error(p: &[u32; 17]) -> Diagnostic
+    ensures { λ r. ⌜ r ≡ parserOf (now (p .entry)) .status .error ⌝ }
+{
+    Diagnostic {
+        number: p[12],
+        start: p[13],
+        len: p[14],
+        wanted: p[15],
+        seen: p[16],
+    }
+}
+
+// The low 24 bits. The numbers of a script's tokens have no others.
+pub fn low(n: usize) -> u32
+    ensures { λ r. ⌜ r ≡ low n ⌝ }
+{
+    (n % 16777216) as u32
+}
+
+// The next token is the one being read. Its start and length lie apart: side by side they would be loaded together, at once after each was stored for itself, and that stalls.
+pub fn set_next(p: &mut [u32; 17], n: Next)
+    ensures { λ r. ⌜ parserOf (now (p .exit)) ≡ withNext (parserOf (now (p .entry))) n ⌝ }
+{
+    *p = [
+        low(n.token.start),
+        n.token.kind,
+        low(n.token.len),
+        (n.next % 4294967296) as u32,
+        (n.next / 4294967296) as u32,
+        p[5],
+        p[6],
+        p[7],
+        p[8],
+        p[9],
+        p[10],
+        p[11],
+        p[12],
+        p[13],
+        p[14],
+        p[15],
+        p[16],
+    ];
+}
+
+// Each `set` writes all cells, of which the compiled code writes those that change.
+pub fn set_used(p: &mut [u32; 17], u: Used)
+    ensures { λ r. ⌜ parserOf (now (p .exit)) ≡ withUsed (parserOf (now (p .entry))) u ⌝ }
+{
+    *p = [
+        p[0],
+        p[1],
+        p[2],
+        p[3],
+        p[4],
+        u.nodes,
+        u.values,
+        u.types,
+        u.docs,
+        u.cells,
+        u.scratch,
+        p[11],
+        p[12],
+        p[13],
+        p[14],
+        p[15],
+        p[16],
+    ];
+}
+
+pub fn set_status(p: &mut [u32; 17], failed: u32, d: Diagnostic)
+    ensures { λ r. ⌜ parserOf (now (p .exit)) ≡ withStatus (parserOf (now (p .entry))) (record { failed = failed; error = d }) ⌝ }
+{
+    *p = [
+        p[0],
+        p[1],
+        p[2],
+        p[3],
+        p[4],
+        p[5],
+        p[6],
+        p[7],
+        p[8],
+        p[9],
+        p[10],
+        failed,
+        d.number,
+        d.start,
+        d.len,
+        d.wanted,
+        d.seen,
+    ];
+}
+
+// ---- tokens
+
+pub fn advance(script: &[u8], p: &mut [u32; 17])
+    requires { ⌜ (parserOf (now p) .cur .kind ≡ 1 → ⊥) ⌝ }
+    ensures { λ r. ⌜ Takes (now (script .entry)) advance (parserOf (now (p .entry))) (parserOf (now (p .exit))) ⌝ }
+{
+    if !going(p) {
+        return;
+    }
+    let n = next_token(script, position(p));
+    set_next(p, n);
+}
+
+// Where the span of an error that names a token starts.
+fn span_start(t: Token) -> u32
+    ensures { λ r. ⌜ r ≡ atToken 0 0 (lowToken t) .start ⌝ }
+{
+    if t.kind == Type::S {
+        std::num::wrapping_add_u32(low(t.start), 1)
+    } else {
+        low(t.start)
+    }
+}
+
+// The reading fails at a token.
+fn fail_with(p: &mut [u32; 17], number: u32, wanted: u32, t: Token)
+    ensures { λ r. ⌜ (isGoing (parserOf (now (p .entry)) .status) ≡ true → parserOf (now (p .exit)) ≡ failed (parserOf (now (p .entry))) (atToken number wanted (lowToken t))) × (isGoing (parserOf (now (p .entry)) .status) ≡ false → parserOf (now (p .exit)) ≡ parserOf (now (p .entry))) ⌝ }
+{
+    if !going(p) {
+        return;
+    }
+    let d = Diagnostic {
+        number,
+        start: span_start(t),
+        len: low(t.len),
+        wanted,
+        seen: t.kind,
+    };
+    set_status(p, 1, d);
+}
+
+// The reading fails at the token being read.
+pub fn fail_expecting(p: &mut [u32; 17], number: u32, wanted: u32)
+    ensures { λ r. ⌜ ((script nodes types lists : List ℕ) → Refuses script number wanted (code nodes types lists (parserOf (now (p .entry)))) (code nodes types lists (parserOf (now (p .exit))))) ⌝ }
+{
+    let t = current(p);
+    fail_with(p, number, wanted, t);
+}
+
+// The reading fails at a token that was met before.
+pub fn fail_at(p: &mut [u32; 17], number: u32, t: Token)
+    ensures { λ r. ⌜ ((script nodes types lists : List ℕ) → Refines script 0 0 (failAt {A = ℕ} number (lowToken t)) (λ n. n ≡ 0) kept 0 0 0 (code nodes types lists (parserOf (now (p .entry)))) (code nodes types lists (parserOf (now (p .exit))))) ⌝ }
+{
+    fail_with(p, number, 0, t);
+}
+
+pub fn expect(script: &[u8], p: &mut [u32; 17], wanted: u32)
+    requires { ⌜ 1 < wanted ⌝ }
+    ensures { λ r. ⌜ Takes (now (script .entry)) (expect wanted) (parserOf (now (p .entry))) (parserOf (now (p .exit))) ⌝ }
+{
+    if kind(p) == wanted {
+        advance(script, p);
+    } else {
+        fail_expecting(p, 11, wanted);
+    }
+}
+
+pub fn expect_ident(script: &[u8], p: &mut [u32; 17])
+    ensures { λ r. ⌜ Takes (now (script .entry)) expectIdent (parserOf (now (p .entry))) (parserOf (now (p .exit))) ⌝ }
+{
+    if kind(p) == Type::IDENT {
+        advance(script, p);
+    } else {
+        fail_expecting(p, 12, 0);
+    }
+}
+
+pub fn reject_kind(p: &mut [u32; 17], rejected: u32, number: u32)
+    ensures { λ r. ⌜ ((script nodes types lists : List ℕ) → Refines script 0 0 (rejectKind rejected number) (λ n. n ≡ 0) kept 0 0 0 (code nodes types lists (parserOf (now (p .entry)))) (code nodes types lists (parserOf (now (p .exit))))) ⌝ }
+{
+    if kind(p) == rejected {
+        fail_expecting(p, number, 0);
+    }
+}
+
+// Another member of a list follows.
+pub fn member_follows(p: &[u32; 17], stop: u32) -> bool
+    ensures { λ r. ⌜ r ≡ memberFollows (parserOf (now (p .entry))) stop ⌝ }
+{
+    if !going(p) {
+        return false;
+    }
+    let k = kind(p);
+    if k == Type::EOF {
+        return false;
+    }
+    k != stop
+}
+
+// The reading has not failed, and the token being read is a doc.
+fn doc_follows(p: &[u32; 17]) -> bool
+    ensures { λ r. ⌜ r ≡ docFollows (parserOf (now (p .entry))) ⌝ }
+{
+    if !going(p) {
+        return false;
+    }
+    kind(p) == Type::DOC
+}
+
+// ---- records
+
+fn put(dst: &mut [u32], at: usize, cells: &[u32])
+    requires { ⌜ at + length (now cells) ≤ length (now dst) ⌝ }
+    ensures { λ r. ⌜ now (dst .exit) ≡ paste (now (dst .entry)) at (now (cells .entry)) (length (now (cells .entry))) ⌝ }
+{
+    let mut i = 0;
+    while i < cells.len() {
+        dst[at + i] = cells[i];
+        i += 1;
+    }
+}
+
+fn type_cells(t: TypeExpr) -> [u32; 8]
+    ensures { λ r. ⌜ r ≡ typeCells (lowType t) ⌝ }
+{
+    match t {
+        TypeExpr::Atom(n) => [
+            TypeExprKind::ATOM,
+            n.kind,
+            low(n.start),
+            low(n.len),
+            0,
+            0,
+            0,
+            0,
+        ],
+        TypeExpr::Foreign(n) => [
+            TypeExprKind::FOREIGN,
+            n.kind,
+            low(n.start),
+            low(n.len),
+            0,
+            0,
+            0,
+            0,
+        ],
+        TypeExpr::Option(i) => [TypeExprKind::OPTION, i.0, 0, 0, 0, 0, 0, 0],
+        TypeExpr::Array(i) => [TypeExprKind::ARRAY, i.0, 0, 0, 0, 0, 0, 0],
+        TypeExpr::Record { src, fields } => [
+            TypeExprKind::RECORD,
+            src.kind,
+            low(src.start),
+            low(src.len),
+            fields.start,
+            fields.len,
+            0,
+            0,
+        ],
+    }
+}
+
+pub fn push_type(types: &mut [u32], p: &mut [u32; 17], t: TypeExpr) -> TypeExprId
+    ensures { λ r. ⌜ ((script nodes lists : List ℕ) → Refines script 1 0 (pushType (lowType t)) (λ i. i ≡ r) kept 0 0 0 (code nodes (now (types .entry)) lists (parserOf (now (p .entry)))) (code nodes (now (types .exit)) lists (parserOf (now (p .exit))))) ⌝ }
+{
+    if !going(p) {
+        return TypeExprId(0);
+    }
+    let u = get_used(p);
+    let n = u.types;
+    let at = 8 * n as usize;
+    if 65536 <= n {
+        return TypeExprId(0);
+    }
+    if types.len() < at + 8 {
+        return TypeExprId(0);
+    }
+    set_used(
+        p,
+        Used {
+            nodes: u.nodes,
+            values: u.values,
+            types: n + 1,
+            docs: u.docs,
+            cells: u.cells,
+            scratch: u.scratch,
+        },
+    );
+    let cells = type_cells(t);
+    put(types, at, &cells);
+    TypeExprId(n)
+}
+
+fn node_cells(n: Node) -> [u32; 16]
+    ensures { λ r. ⌜ r ≡ nodeCells (lowNode n) ⌝ }
+{
+    match n {
+        Node::Atom { id, raw } => [
+            NodeKind::ATOM,
+            id,
+            raw.kind,
+            low(raw.start),
+            low(raw.len),
+            0,
+            0,
+            0,
+            0,
+            0,
+            0,
+            0,
+            0,
+            0,
+            0,
+            0,
+        ],
+        Node::Ident { id, name } => [
+            NodeKind::IDENT,
+            id,
+            name.kind,
+            low(name.start),
+            low(name.len),
+            0,
+            0,
+            0,
+            0,
+            0,
+            0,
+            0,
+            0,
+            0,
+            0,
+            0,
+        ],
+        Node::Bin { id, op, lhs, rhs } => [
+            NodeKind::BIN,
+            id,
+            op.kind,
+            low(op.start),
+            low(op.len),
+            lhs.0,
+            rhs.0,
+            0,
+            0,
+            0,
+            0,
+            0,
+            0,
+            0,
+            0,
+            0,
+        ],
+        Node::Unary { id, op, rhs } => [
+            NodeKind::UNARY,
+            id,
+            op.kind,
+            low(op.start),
+            low(op.len),
+            rhs.0,
+            0,
+            0,
+            0,
+            0,
+            0,
+            0,
+            0,
+            0,
+            0,
+            0,
+        ],
+        Node::Let {
+            id,
+            docs,
+            name,
+            rhs,
+        } => [
+            NodeKind::LET,
+            id,
+            docs.start,
+            docs.len,
+            name.kind,
+            low(name.start),
+            low(name.len),
+            rhs.0,
+            0,
+            0,
+            0,
+            0,
+            0,
+            0,
+            0,
+            0,
+        ],
+        Node::Fn {
+            id,
+            docs,
+            name,
+            args,
+            return_type,
+            body,
+        } => [
+            NodeKind::FN,
+            id,
+            docs.start,
+            docs.len,
+            name.kind,
+            low(name.start),
+            low(name.len),
+            args.start,
+            args.len,
+            return_type.0,
+            body.start,
+            body.len,
+            0,
+            0,
+            0,
+            0,
+        ],
+        Node::Match {
+            id,
+            cases,
+            default_token,
+            default_body,
+        } => [
+            NodeKind::MATCH,
+            id,
+            cases.start,
+            cases.len,
+            default_token.kind,
+            low(default_token.start),
+            low(default_token.len),
+            default_body.start,
+            default_body.len,
+            0,
+            0,
+            0,
+            0,
+            0,
+            0,
+            0,
+        ],
+        Node::Call { id, target, args } => [
+            NodeKind::CALL,
+            id,
+            target.0,
+            args.start,
+            args.len,
+            0,
+            0,
+            0,
+            0,
+            0,
+            0,
+            0,
+            0,
+            0,
+            0,
+            0,
+        ],
+        Node::Field { id, target, name } => [
+            NodeKind::FIELD,
+            id,
+            target.0,
+            name.kind,
+            low(name.start),
+            low(name.len),
+            0,
+            0,
+            0,
+            0,
+            0,
+            0,
+            0,
+            0,
+            0,
+            0,
+        ],
+        Node::Cast { id, src, lhs, rhs } => [
+            NodeKind::CAST,
+            id,
+            src.kind,
+            low(src.start),
+            low(src.len),
+            lhs.0,
+            rhs.0,
+            0,
+            0,
+            0,
+            0,
+            0,
+            0,
+            0,
+            0,
+            0,
+        ],
+        Node::Import { id, src, pkgs } => [
+            NodeKind::IMPORT,
+            id,
+            src.kind,
+            low(src.start),
+            low(src.len),
+            pkgs.start,
+            pkgs.len,
+            0,
+            0,
+            0,
+            0,
+            0,
+            0,
+            0,
+            0,
+            0,
+        ],
+        Node::Extern {
+            id,
+            src,
+            docs,
+            name,
+            fns,
+        } => [
+            NodeKind::EXTERN,
+            id,
+            src.kind,
+            low(src.start),
+            low(src.len),
+            docs.start,
+            docs.len,
+            name.kind,
+            low(name.start),
+            low(name.len),
+            fns.start,
+            fns.len,
+            0,
+            0,
+            0,
+            0,
+        ],
+        Node::Record { id, src, fields } => [
+            NodeKind::RECORD,
+            id,
+            src.kind,
+            low(src.start),
+            low(src.len),
+            fields.start,
+            fields.len,
+            0,
+            0,
+            0,
+            0,
+            0,
+            0,
+            0,
+            0,
+            0,
+        ],
+        Node::Array { id, src, members } => [
+            NodeKind::ARRAY,
+            id,
+            src.kind,
+            low(src.start),
+            low(src.len),
+            members.start,
+            members.len,
+            0,
+            0,
+            0,
+            0,
+            0,
+            0,
+            0,
+            0,
+            0,
+        ],
+    }
+}
+
+// A record is written where the reading has not failed and the nodes have room.
+fn has_room(len: usize, p: &[u32; 17]) -> bool
+    ensures { λ r. ⌜ r ≡ hasRoom len (parserOf (now (p .entry))) ⌝ }
+{
+    if !going(p) {
+        return false;
+    }
+    let u = get_used(p);
+    let n = u.nodes;
+    if 65536 <= n {
+        return false;
+    }
+    if len < 16 * n as usize + 16 {
+        return false;
+    }
+    u.values < 4000000000
+}
+
+// `more` value numbers go with the node that no node has.
+pub fn push_node(nodes: &mut [u32], p: &mut [u32; 17], node: Node, more: u32) -> NodeId
+    requires { ⌜ more ≤ 65536 ⌝ }
+    ensures { λ r. ⌜ ((script types lists : List ℕ) (f : ℕ → Node) (rooms : ℕ) → 1 + more ≤ 40000 * rooms → lowNode node ≡ f (parserOf (now (p .entry)) .used .values) → Refines script rooms 0 (pushNodeAnd more f) (λ i. i ≡ r) kept 0 0 0 (code (now (nodes .entry)) types lists (parserOf (now (p .entry)))) (code (now (nodes .exit)) types lists (parserOf (now (p .exit))))) ⌝ }
+{
+    if !has_room(nodes.len(), p) {
+        return NodeId(0);
+    }
+    let u = get_used(p);
+    let n = u.nodes;
+    let values = u.values;
+    set_used(
+        p,
+        Used {
+            nodes: n + 1,
+            values: values + (1 + more),
+            types: u.types,
+            docs: u.docs,
+            cells: u.cells,
+            scratch: u.scratch,
+        },
+    );
+    let cells = node_cells(node);
+    put(nodes, 16 * n as usize, &cells);
+    NodeId(n)
+}
+
+// The first eight cells of a record.
+fn put_record(
+    dst: &mut [u32],
+    at: usize,
+    a: u32,
+    b: u32,
+    c: u32,
+    d: u32,
+    e: u32,
+    f: u32,
+    g: u32,
+    h: u32,
+)
+    requires { ⌜ at + 8 ≤ length (now dst) ⌝ }
+    ensures { λ r. ⌜ now (dst .exit) ≡ paste (now (dst .entry)) at (a ∷ b ∷ c ∷ d ∷ e ∷ f ∷ g ∷ h ∷ []) 8 ⌝ }
+{
+    dst[at] = a;
+    dst[at + 1] = b;
+    dst[at + 2] = c;
+    dst[at + 3] = d;
+    dst[at + 4] = e;
+    dst[at + 5] = f;
+    dst[at + 6] = g;
+    dst[at + 7] = h;
+}
+
+// A node of six cells besides its kind and its number: the frequent ones are written without a `Node`. The cells behind are zero already.
+fn push_record(
+    nodes: &mut [u32],
+    p: &mut [u32; 17],
+    kind: u32,
+    a: u32,
+    b: u32,
+    c: u32,
+    d: u32,
+    e: u32,
+    f: u32,
+) -> NodeId
+    ensures { λ r. ⌜ ((script types lists : List ℕ) (node : ℕ → Node) → nodeCells (node (parserOf (now (p .entry)) .used .values)) ≡ padded nodeWidth (kind ∷ parserOf (now (p .entry)) .used .values ∷ a ∷ b ∷ c ∷ d ∷ e ∷ f ∷ []) → Refines script 1 0 (pushNodeAnd 0 node) (λ i. i ≡ r) kept 0 0 0 (code (now (nodes .entry)) types lists (parserOf (now (p .entry)))) (code (now (nodes .exit)) types lists (parserOf (now (p .exit))))) ⌝ }
+{
+    if !has_room(nodes.len(), p) {
+        return NodeId(0);
+    }
+    let u = get_used(p);
+    let n = u.nodes;
+    let values = u.values;
+    set_used(
+        p,
+        Used {
+            nodes: n + 1,
+            values: values + 1,
+            types: u.types,
+            docs: u.docs,
+            cells: u.cells,
+            scratch: u.scratch,
+        },
+    );
+    put_record(nodes, 16 * n as usize, kind, values, a, b, c, d, e, f);
+    NodeId(n)
+}
+
+// A node of a token and two cells.
+pub fn push_token_node(
+    nodes: &mut [u32],
+    p: &mut [u32; 17],
+    kind: u32,
+    t: Token,
+    a: u32,
+    b: u32,
+) -> NodeId
+    ensures { λ r. ⌜ ((script types lists : List ℕ) (f : ℕ → Node) → nodeCells (f (parserOf (now (p .entry)) .used .values)) ≡ padded nodeWidth (kind ∷ parserOf (now (p .entry)) .used .values ∷ tokenCells (lowToken t) ++ (a ∷ b ∷ [])) → Refines script 1 0 (pushNodeAnd 0 f) (λ i. i ≡ r) kept 0 0 0 (code (now (nodes .entry)) types lists (parserOf (now (p .entry)))) (code (now (nodes .exit)) types lists (parserOf (now (p .exit))))) ⌝ }
+{
+    push_record(nodes, p, kind, t.kind, low(t.start), low(t.len), a, b, 0)
+}
+
+// A call, a field of a node, a let.
+pub fn push_call(nodes: &mut [u32], p: &mut [u32; 17], target: NodeId, args: Run) -> NodeId
+    ensures { λ r. ⌜ ((script types lists : List ℕ) → Refines script 1 0 (pushNode (λ id. N.Call id target args)) (λ i. i ≡ r) kept 0 0 0 (code (now (nodes .entry)) types lists (parserOf (now (p .entry)))) (code (now (nodes .exit)) types lists (parserOf (now (p .exit))))) ⌝ }
+{
+    push_record(
+        nodes,
+        p,
+        NodeKind::CALL,
+        target.0,
+        args.start,
+        args.len,
+        0,
+        0,
+        0,
+    )
+}
+
+pub fn push_field(nodes: &mut [u32], p: &mut [u32; 17], target: NodeId, name: Token) -> NodeId
+    ensures { λ r. ⌜ ((script types lists : List ℕ) → Refines script 1 0 (pushNode (λ id. N.Field id target (lowToken name))) (λ i. i ≡ r) kept 0 0 0 (code (now (nodes .entry)) types lists (parserOf (now (p .entry)))) (code (now (nodes .exit)) types lists (parserOf (now (p .exit))))) ⌝ }
+{
+    push_record(
+        nodes,
+        p,
+        NodeKind::FIELD,
+        target.0,
+        name.kind,
+        low(name.start),
+        low(name.len),
+        0,
+        0,
+    )
+}
+
+pub fn push_let(nodes: &mut [u32], p: &mut [u32; 17], docs: Run, name: Token, rhs: NodeId) -> NodeId
+    ensures { λ r. ⌜ ((script types lists : List ℕ) → Refines script 1 0 (pushNode (λ id. N.Let id docs (lowToken name) rhs)) (λ i. i ≡ r) kept 0 0 0 (code (now (nodes .entry)) types lists (parserOf (now (p .entry)))) (code (now (nodes .exit)) types lists (parserOf (now (p .exit))))) ⌝ }
+{
+    push_record(
+        nodes,
+        p,
+        NodeKind::LET,
+        docs.start,
+        docs.len,
+        name.kind,
+        low(name.start),
+        low(name.len),
+        rhs.0,
+    )
+}
+
+// ---- lists
+
+// Cells of a list under construction, at the far end of the list table, where they lie in reverse: they are given the last first.
+pub fn push_cells(lists: &mut [u32], p: &mut [u32; 17], cells: &[u32])
+    ensures { λ r. ⌜ ((script nodes types : List ℕ) → Pushes script (2 * length (now (cells .entry))) (reverse (now (cells .entry))) (code nodes types (now (lists .entry)) (parserOf (now (p .entry)))) (code nodes types (now (lists .exit)) (parserOf (now (p .exit))))) ⌝ }
+{
+    if !going(p) {
+        return;
+    }
+    let u = get_used(p);
+    let n = u.scratch as usize + cells.len();
+    if 65536 * 8 < n {
+        return;
+    }
+    if lists.len() < n {
+        return;
+    }
+    set_used(
+        p,
+        Used {
+            nodes: u.nodes,
+            values: u.values,
+            types: u.types,
+            docs: u.docs,
+            cells: u.cells,
+            scratch: n as u32,
+        },
+    );
+    put(lists, lists.len() - n, cells);
+}
+
+pub fn push_cell(lists: &mut [u32], p: &mut [u32; 17], v: u32)
+    ensures { λ r. ⌜ ((script nodes types : List ℕ) → Pushes script 2 (v ∷ []) (code nodes types (now (lists .entry)) (parserOf (now (p .entry)))) (code nodes types (now (lists .exit)) (parserOf (now (p .exit))))) ⌝ }
+{
+    let cells = [v];
+    push_cells(lists, p, &cells);
+}
+
+pub fn push_token(lists: &mut [u32], p: &mut [u32; 17], t: Token)
+    ensures { λ r. ⌜ ((script nodes types : List ℕ) → Pushes script 6 (tokenCells (lowToken t)) (code nodes types (now (lists .entry)) (parserOf (now (p .entry)))) (code nodes types (now (lists .exit)) (parserOf (now (p .exit))))) ⌝ }
+{
+    let cells = [low(t.len), low(t.start), t.kind];
+    push_cells(lists, p, &cells);
+}
+
+// A name, and the number of the type or node that goes with it.
+pub fn push_named(lists: &mut [u32], p: &mut [u32; 17], name: Token, id: u32)
+    ensures { λ r. ⌜ ((script nodes types : List ℕ) → Pushes script 8 (tokenCells (lowToken name) ++ (id ∷ [])) (code nodes types (now (lists .entry)) (parserOf (now (p .entry)))) (code nodes types (now (lists .exit)) (parserOf (now (p .exit))))) ⌝ }
+{
+    let cells = [id, low(name.len), low(name.start), name.kind];
+    push_cells(lists, p, &cells);
+}
+
+// The cells of a list move from the far end, where they lie in reverse, to the front.
+fn move_list(part: &mut [u32], n: usize, scratch: usize)
+    requires { ⌜ (n ≤ scratch) × (n + scratch ≤ length (now part)) ⌝ }
+    ensures { λ r. ⌜ ((top base : List ℕ) (z : ℕ) → now (part .entry) ≡ replicate z 0 ++ (reverse top ++ base) → length top ≡ n → length base + n ≡ scratch → n ≤ z → now (part .exit) ≡ top ++ (replicate z 0 ++ base)) ⌝ }
+{
+    let mut i = 0;
+    while i < n {
+        let from = part.len() - scratch + (n - 1 - i);
+        part[i] = part[from];
+        part[from] = 0;
+        i += 1;
+    }
+}
+
+// The cells above the mark become a list.
+pub fn alloc_slice(lists: &mut [u32], p: &mut [u32; 17], mark: u32, members: u32) -> Run
+    ensures { λ r. ⌜ ((script nodes types : List ℕ) → Lists script allocSlice r 0 0 0 mark members (code nodes types (now (lists .entry)) (parserOf (now (p .entry)))) (code nodes types (now (lists .exit)) (parserOf (now (p .exit))))) × (r .len ≤ 65536) ⌝ }
+{
+    let none = Run { start: 0, len: 0 };
+    if !going(p) {
+        return none;
+    }
+    if 65536 < members {
+        return none;
+    }
+    let u = get_used(p);
+    if u.scratch < mark {
+        return none;
+    }
+    let n = u.scratch - mark;
+    let cells = u.cells;
+    let at = cells as usize;
+    if lists.len() < at + n as usize + u.scratch as usize {
+        return none;
+    }
+    if 65536 * 8 < n {
+        return none;
+    }
+    if 65536 * 8 < cells {
+        return none;
+    }
+    set_used(
+        p,
+        Used {
+            nodes: u.nodes,
+            values: u.values,
+            types: u.types,
+            docs: u.docs,
+            cells: cells + n,
+            scratch: mark,
+        },
+    );
+    move_list(&mut lists[at..], n as usize, u.scratch as usize);
+    Run {
+        start: cells,
+        len: members,
+    }
+}
+
+pub fn close(
+    script: &[u8],
+    lists: &mut [u32],
+    p: &mut [u32; 17],
+    stop: u32,
+    mark: u32,
+    members: u32,
+) -> Run
+    requires { ⌜ 1 < stop ⌝ }
+    ensures { λ r. ⌜ ((nodes types : List ℕ) → Lists (now (script .entry)) (closed stop) r 1 1 8 mark members (code nodes types (now (lists .entry)) (parserOf (now (p .entry)))) (code nodes types (now (lists .exit)) (parserOf (now (p .exit))))) × (r .len ≤ 65536) ⌝ }
+{
+    expect(script, p, stop);
+    alloc_slice(lists, p, mark, members)
+}
+
+// ---- docs
+
+// A doc waits, at the far end of the type array.
+fn push_doc(types: &mut [u32], p: &mut [u32; 17], d: Token)
+    ensures { λ r. ⌜ ((script nodes lists : List ℕ) (n : ℕ) → Refines script 1 3 (keepDoc n (lowToken d)) (λ t. t ≡ continue n) kept 0 0 0 (code nodes (now (types .entry)) lists (parserOf (now (p .entry)))) (code nodes (now (types .exit)) lists (parserOf (now (p .exit))))) ⌝ }
+{
+    if !going(p) {
+        return;
+    }
+    let u = get_used(p);
+    let n = u.docs;
+    if 65536 <= n {
+        return;
+    }
+    if types.len() < 3 * n as usize + 3 {
+        return;
+    }
+    set_used(
+        p,
+        Used {
+            nodes: u.nodes,
+            values: u.values,
+            types: u.types,
+            docs: n + 1,
+            cells: u.cells,
+            scratch: u.scratch,
+        },
+    );
+    let at = types.len() - (3 * n as usize + 3);
+    let cells = [low(d.len), low(d.start), d.kind];
+    put(types, at, &cells);
+}
+
+pub fn collect_docs(script: &[u8], types: &mut [u32], p: &mut [u32; 17])
+    ensures { λ r. ⌜ ((nodes lists : List ℕ) → Refines (now (script .entry)) 0 0 collectDocs (λ n. n ≡ 0) kept 0 0 0 (code nodes (now (types .entry)) lists (parserOf (now (p .entry)))) (code nodes (now (types .exit)) lists (parserOf (now (p .exit))))) ⌝ }
+{
+    while doc_follows(p) {
+        let d = current(p);
+        advance(script, p);
+        push_doc(types, p, d);
+    }
+}
+
+// The last `n` cells of one array go into another, the last first, and are cleared.
+fn move_docs(src: &mut [u32], dst: &mut [u32], at: usize, n: usize)
+    requires { ⌜ (n ≤ length (now src)) × (at + n ≤ length (now dst)) ⌝ }
+    ensures { λ r. ⌜ ((top front cells back : List ℕ) (z : ℕ) → now (src .entry) ≡ front ++ reverse top → length top ≡ n → now (dst .entry) ≡ cells ++ (replicate z 0 ++ back) → length cells ≡ at → n ≤ z → (now (src .exit) ≡ front ++ replicate n 0) × (now (dst .exit) ≡ (cells ++ top) ++ (replicate (z - n) 0 ++ back))) ⌝ }
+{
+    let mut i = 0;
+    while i < n {
+        let from = src.len() - 1 - i;
+        dst[at + i] = src[from];
+        src[from] = 0;
+        i += 1;
+    }
+}
+
+// The docs that wait become a list.
+pub fn take_docs(types: &mut [u32], lists: &mut [u32], p: &mut [u32; 17]) -> Run
+    ensures { λ r. ⌜ ((script nodes : List ℕ) → Refines script 0 0 takeDocs (λ t. t ≡ r) kept 0 0 0 (code nodes (now (types .entry)) (now (lists .entry)) (parserOf (now (p .entry)))) (code nodes (now (types .exit)) (now (lists .exit)) (parserOf (now (p .exit))))) × (parserOf (now (p .exit)) .cur ≡ parserOf (now (p .entry)) .cur) ⌝ }
+{
+    let none = Run { start: 0, len: 0 };
+    if !going(p) {
+        return none;
+    }
+    let u = get_used(p);
+    let docs = u.docs;
+    let cells = u.cells;
+    let at = cells as usize;
+    if 65536 < docs {
+        return none;
+    }
+    if 65536 * 8 < cells {
+        return none;
+    }
+    let n = 3 * docs as usize;
+    if types.len() < n {
+        return none;
+    }
+    if lists.len() < at + n {
+        return none;
+    }
+    set_used(
+        p,
+        Used {
+            nodes: u.nodes,
+            values: u.values,
+            types: u.types,
+            docs: 0,
+            cells: cells + 3 * docs,
+            scratch: u.scratch,
+        },
+    );
+    move_docs(types, lists, at, n);
+    Run {
+        start: cells,
+        len: docs,
+    }
+}
+
+fn doc_at(types: &[u32], at: usize) -> Token
+    requires { ⌜ at + 3 ≤ length (now types) ⌝ }
+    ensures { λ r. ⌜ r ≡ tokenAt (now (types .entry)) at ⌝ }
+{
+    Token {
+        kind: types[at + 2],
+        start: wide(types[at + 1]),
+        len: wide(types[at]),
+    }
+}
+
+// The reading fails where docs wait: at the last of them where the script ends, else at the first.
+pub fn require_no_docs(types: &[u32], p: &mut [u32; 17])
+    ensures { λ r. ⌜ ((script nodes lists : List ℕ) → Refines script 0 0 noDocsWait (λ n. n ≡ 0) kept 0 0 0 (code nodes (now (types .entry)) lists (parserOf (now (p .entry)))) (code nodes (now (types .entry)) lists (parserOf (now (p .exit))))) ⌝ }
+{
+    if !going(p) {
+        return;
+    }
+    let docs = get_used(p).docs;
+    if docs == 0 {
+        return;
+    }
+    if 65536 < docs {
+        return;
+    }
+    let n = 3 * docs as usize;
+    if types.len() < n {
+        return;
+    }
+    if kind(p) == Type::EOF {
+        let last = doc_at(types, types.len() - n);
+        fail_with(p, 13, 0, last);
+        return;
+    }
+    let first = doc_at(types, types.len() - 3);
+    fail_with(p, 14, 0, first);
+}

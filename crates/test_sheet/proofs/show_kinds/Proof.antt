@@ -1,0 +1,39 @@
+-- `test_sheet::show_kinds` meets its contract.
+-- Assumes nothing.
+use native.Mathlib.Omega.{arith}
+use borrow.Author.Needs.{needs}
+use Prim.Native.Nat.{_-_}
+use Rattle.test_sheet.proofs.show_kinds.Statement.{statement}
+use Rattle.test_sheet.proofs.show_kinds.Tie as tie
+
+abbrev Inv-loop : tie.InvT-loop
+Inv-loop kind₀ kind = Unit {0}
+
+abbrev μ-loop : tie.MeasureT-loop
+μ-loop kind₀ kind = 45 - kind
+
+loop-holds : tie.Need-loop-holds Inv-loop μ-loop
+loop-holds c = tt
+
+add-kind : tie.Need-add-kind Inv-loop μ-loop
+add-kind c = omega arith
+
+loop-less : tie.Need-loop-less Inv-loop μ-loop
+loop-less c = omega arith
+
+loop-again : tie.Need-loop-again Inv-loop μ-loop
+loop-again c = tt
+
+pub show-kinds-spec : {M : Type 1} → statement M
+show-kinds-spec =
+    tie.close
+    (tie.spec
+    Inv-loop
+    μ-loop
+    loop-holds
+    (λ c κs. search needs)
+    (λ c κs. search needs)
+    add-kind
+    loop-less
+    loop-again
+    (λ c. search needs))
