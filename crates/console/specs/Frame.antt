@@ -4,10 +4,10 @@ use mathlib.Core.Path.{_≡_}
 use Prim.Native.Nat.{ℕ, _≤_}
 use lib.ListN.{length, drop}
 use Rattle.io.specs.Counts.{Counts}
-use Rattle.console.specs.declared.Number.{Number}
-use Rattle.console.specs.declared.Number.the-variants as N
-use Rattle.console.specs.declared.Frame.{Frame}
-use Rattle.console.specs.declared.Frame.the-variants as F
+use Rattle.console.specs.declared.frames.Number.{Number}
+use Rattle.console.specs.declared.frames.Number.the-variants as N
+use Rattle.console.specs.declared.frames.Frame.{Frame}
+use Rattle.console.specs.declared.frames.Frame.the-variants as F
 
 abbrev pub Within : ℕ → Number → Type 0
 Within limit (N.Value n) = n ≤ limit
