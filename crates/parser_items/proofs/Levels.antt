@@ -10,15 +10,15 @@ use borrow.Author.Tests.{ne-eqb}
 use Rattle.lex.specs.Kind.{kDoc, kImport, kExtern, kLet, kFn, kMatch}
 use Rattle.rules.specs.Tree.{State, ok}
 use Rattle.rules.specs.Combinators.{Rule, Readers, ControlFlow, break, failExpecting, byKind, choose, collectDocs, pure}
-use Rattle.rules.specs.Rules.{powers, stageOne, readers, itemByKind, parsePrefix, parseExpr, operand}
+use Rattle.rules.specs.Rules.{stageOne, readers, itemByKind, parsePrefix, parseExpr, operand}
 use Rattle.rules.specs.declared.NodeId.{NodeId}
 use Rattle.parser_state.specs.Represents.{Code, going}
 use Rattle.parser_state.specs.Refines.{kept, Refines, Refuses, deeper}
 use Rattle.parser_state.proofs.Steps.{either, at-kind, refused, then, enough, current-represents, ifKind-no}
 use Rattle.parser_state.proofs.Docs.{docs-none, require-then}
 use Rattle.parser_state.proofs.Rounds.{Again, weight, ifKind-is-no, round-out, round-start}
-use Rattle.parser_operators.specs.Tests.{beginsExpr, operandClass, operandOf, operatorNumber, leftPowers, rightPowers}
-use Rattle.parser_operators.proofs.Tables.{begins-expr, entry-past, entry-other, operand-class, powers-some}
+use Rattle.parser_operators.specs.Tests.{beginsExpr, operandClass, operandOf, operatorNumber, leftPowers}
+use Rattle.parser_operators.proofs.Tables.{begins-expr, entry-past, entry-other, operand-class, power-some}
 
 -- ---- levels
 
@@ -90,8 +90,8 @@ infix-kind zero e h = absurd (omega arith)
 infix-kind (suc zero) e h = absurd (omega arith)
 infix-kind (suc (suc k)) e h = omega arith
 
-pub right-is : (k : ℕ) {n r : ℕ} → n ≡ operatorNumber k → n < 9 → r ≡ getD rightPowers n 0 → stageOne k ≡ some (record { left = getD leftPowers n 0; right = r })
-right-is k {n} e h w = powers-some k n e h ∙ ap (λ (q : ℕ). powers (getD leftPowers n 0) q) (sym w)
+pub left-is : (k : ℕ) {n left : ℕ} → n ≡ operatorNumber k → n < 9 → left ≡ getD leftPowers n 0 → stageOne k ≡ some left
+left-is k {n} e h w = power-some k n e h ∙ ap some (sym w)
 
 -- ---- loops
 

@@ -10,12 +10,12 @@ use parser_operators::cast;
 use parser_operators::field_access;
 use parser_operators::ident;
 use parser_operators::infix_follows;
+use parser_operators::left_power;
 use parser_operators::match_node;
 use parser_operators::operand_class;
 use parser_operators::operator;
 use parser_operators::postfix_follows;
 use parser_operators::push_case;
-use parser_operators::right_power;
 use parser_state::advance;
 use parser_state::close;
 use parser_state::collect_docs;
@@ -44,10 +44,10 @@ use rules::NodeKind;
 use rules::Run;
 ghost use mathlib.Core.Path.{_≡_};
 ghost use mathlib.Core.Bool.{true};
-ghost use Prim.Native.Nat.{ℕ, _<_};
+ghost use Prim.Native.Nat.{_<_};
 ghost use Rattle.lex.specs.Kind.{kCurlyRight, kBraketRight};
 ghost use Rattle.rules.specs.Combinators.{listUntil, byKind};
-ghost use Rattle.rules.specs.Rules.{nodeMember, itemByKind, parseLet, parseFn, parseBody, parseMatch, nextCase, field, recordLiteral, arrayLiteral, group, unary, operand, call, postfixStep, postfix, binary, infixStep, infixes, stageOne};
+ghost use Rattle.rules.specs.Rules.{nodeMember, itemByKind, parseLet, parseFn, parseBody, parseMatch, nextCase, field, recordLiteral, arrayLiteral, group, unary, operand, call, postfixStep, postfix, binary, infixStep, infixes, prefixPower, stageOne};
 ghost use Rattle.parser_state.specs.Represents.{parserOf, code, lowToken};
 ghost use Rattle.parser_state.specs.Refines.{ReadsNode, ReadsStep, LoopsNode, ReadsList, ReadsMember, deeper, memberFollows};
 ghost use Rattle.parser_state.proofs.Rounds.{Again};
@@ -580,7 +580,7 @@ fn climb(
     if 9 <= n {
         return lhs;
     }
-    binary(script, nodes, types, lists, p, lhs, right_power(n), levels)
+    binary(script, nodes, types, lists, p, lhs, left_power(n), levels)
 }
 
 fn binary(
@@ -590,14 +590,14 @@ fn binary(
     lists: &mut [u32],
     p: &mut [u32; 17],
     lhs: NodeId,
-    right: u32,
+    left: u32,
     levels: usize,
 ) -> NodeId
-    requires { ⌜ 1 < parserOf (now p) .cur .kind ⌝ }
-    ensures { λ r. ⌜ ((left : ℕ) → ReadsStep (now (script .entry)) (binary (deeper (now (script .entry)) levels) lhs (record { left = left; right = right })) (code (now (nodes .entry)) (now (types .entry)) (now (lists .entry)) (parserOf (now (p .entry)))) (code (now (nodes .exit)) (now (types .exit)) (now (lists .exit)) (parserOf (now (p .exit)))) r) ⌝ }
+    requires { ⌜ (1 < parserOf (now p) .cur .kind) × (left < prefixPower) ⌝ }
+    ensures { λ r. ⌜ ReadsStep (now (script .entry)) (binary (deeper (now (script .entry)) levels) lhs left) (code (now (nodes .entry)) (now (types .entry)) (now (lists .entry)) (parserOf (now (p .entry)))) (code (now (nodes .exit)) (now (types .exit)) (now (lists .exit)) (parserOf (now (p .exit)))) r ⌝ }
 {
     let op = current(p);
     advance(script, p);
-    let rhs = expr(script, nodes, types, lists, p, right, levels);
+    let rhs = expr(script, nodes, types, lists, p, left + 1, levels);
     push_token_node(nodes, p, NodeKind::BIN, op, lhs.0, rhs.0)
 }

@@ -10,7 +10,7 @@ use Rattle.lex.specs.Kind.{kDot, kBraceLeft, kAs}
 use Rattle.lex.specs.declared.tok.Token.{Token}
 use Rattle.rules.specs.Tree.{State, ok}
 use Rattle.rules.specs.Combinators.{Rule, Readers, _>>=_, pure, cur, current, ControlFlow, break}
-use Rattle.rules.specs.Rules.{Powers, stageOne, breaksOff, callable, call, callStep, postfixStep, binary, signStep, infixStep}
+use Rattle.rules.specs.Rules.{stageOne, breaksOff, callable, call, callStep, postfixStep, binary, signStep, infixStep}
 use Rattle.rules.specs.declared.NodeId.{NodeId}
 use Rattle.parser_state.specs.Represents.{Code, isGoing, Represents}
 use Rattle.parser_state.specs.Refines.{Ends, kept, Refines}
@@ -76,27 +76,27 @@ module _ (d : Readers) {script : List ℕ} {s : Code} (x : NodeId) where
 -- ---- an infix
 
 -- a step at an infix sign, by what is told of it
-abbrev signBy : Readers → NodeId → ℕ → Bool → Option Powers → Rule (ControlFlow NodeId)
+abbrev signBy : Readers → NodeId → ℕ → Bool → Option ℕ → Rule (ControlFlow NodeId)
 signBy d x least b none = pure (break x)
-signBy d x least b (some p) = elim b [ true ↦ pure (break x) | false ↦ elim (ltb (p .left) least) [ true ↦ pure (break x) | false ↦ binary d x p ] ]
+signBy d x least b (some p) = elim b [ true ↦ pure (break x) | false ↦ elim (ltb p least) [ true ↦ pure (break x) | false ↦ binary d x p ] ]
 
 sign-by : (d : Readers) (script : List ℕ) (least : ℕ) (x : NodeId) (t : Token) → signStep d stageOne script least x t ≡ signBy d x least (breaksOff script t) (stageOne (t .kind))
 sign-by d script least x t = go (stageOne (t .kind))
   where
-    go : (o : Option Powers) → elim o as (λ _. Rule (ControlFlow NodeId)) [ none ↦ pure (break x) | some p ↦ elim (breaksOff script t) [ true ↦ pure (break x) | false ↦ elim (ltb (p .left) least) [ true ↦ pure (break x) | false ↦ binary d x p ] ] ] ≡ signBy d x least (breaksOff script t) o
+    go : (o : Option ℕ) → elim o as (λ _. Rule (ControlFlow NodeId)) [ none ↦ pure (break x) | some p ↦ elim (breaksOff script t) [ true ↦ pure (break x) | false ↦ elim (ltb p least) [ true ↦ pure (break x) | false ↦ binary d x p ] ] ] ≡ signBy d x least (breaksOff script t) o
     go none = refl
     go (some p) = refl
 
-sign-when : (d : Readers) (x : NodeId) (least : ℕ) (b : Bool) (p : Powers) → signFollows b least (some p) ≡ true → signBy d x least b (some p) ≡ binary d x p
+sign-when : (d : Readers) (x : NodeId) (least : ℕ) (b : Bool) (p : ℕ) → signFollows b least (some p) ≡ true → signBy d x least b (some p) ≡ binary d x p
 unfolding signFollows
 sign-when d x least true p e = absurd (true≢false e refl)
-sign-when d x least false p e = ap (λ (c : Bool). elim c as (λ _. Rule (ControlFlow NodeId)) [ true ↦ pure (break x) | false ↦ binary d x p ]) (not-true (ltb (p .left) least) e)
+sign-when d x least false p e = ap (λ (c : Bool). elim c as (λ _. Rule (ControlFlow NodeId)) [ true ↦ pure (break x) | false ↦ binary d x p ]) (not-true (ltb p least) e)
 
-sign-not : (d : Readers) (x : NodeId) (least : ℕ) (b : Bool) (o : Option Powers) → signFollows b least o ≡ false → signBy d x least b o ≡ pure (break x)
+sign-not : (d : Readers) (x : NodeId) (least : ℕ) (b : Bool) (o : Option ℕ) → signFollows b least o ≡ false → signBy d x least b o ≡ pure (break x)
 unfolding signFollows
 sign-not d x least b none e = refl
 sign-not d x least true (some p) e = refl
-sign-not d x least false (some p) e = ap (λ (c : Bool). elim c as (λ _. Rule (ControlFlow NodeId)) [ true ↦ pure (break x) | false ↦ binary d x p ]) (not-false (ltb (p .left) least) e)
+sign-not d x least false (some p) e = ap (λ (c : Bool). elim c as (λ _. Rule (ControlFlow NodeId)) [ true ↦ pure (break x) | false ↦ binary d x p ]) (not-false (ltb p least) e)
 
 infix-going : (g c sign : Bool) → infixBy g c sign ≡ true → g ≡ true
 unfolding infixBy
@@ -121,17 +121,17 @@ module _ (script : List ℕ) (p : Parser) (least : ℕ) where
   sign-follows : infixFollows script p least ≡ true → (p .cur .kind ≡ kAs → ⊥) → signFollows (breaksOff script (p .cur)) least (stageOne (p .cur .kind)) ≡ true
   sign-follows e f = sign-of (isGoing (p .status)) (eqb (p .cur .kind) kAs) (signFollows (breaksOff script (p .cur)) least (stageOne (p .cur .kind))) e (borrow.Author.Tests.ne-eqb _ _ f)
 
-  -- a sign that goes on has powers
+  -- a sign that goes on has a power
   pub no-sign : infixFollows script p least ≡ true → (p .cur .kind ≡ kAs → ⊥) → stageOne (p .cur .kind) ≡ none → ⊥
   unfolding signFollows
-  no-sign e f n = true≢false (subst (λ (o : Option Powers). signFollows (breaksOff script (p .cur)) least o ≡ true) n (sign-follows e f)) refl
+  no-sign e f n = true≢false (subst (λ (o : Option ℕ). signFollows (breaksOff script (p .cur)) least o ≡ true) n (sign-follows e f)) refl
 
-module _ (d : Readers) {script : List ℕ} {Q : ControlFlow NodeId → Type 0} {s s′ : Code} (least : ℕ) (x : NodeId) (o : Powers) where
+module _ (d : Readers) {script : List ℕ} {Q : ControlFlow NodeId → Type 0} {s s′ : Code} (least : ℕ) (x : NodeId) (o : ℕ) where
   pub infix-sign : infixFollows script (s .parser) least ≡ true → (s .parser .cur .kind ≡ kAs → ⊥) → stageOne (s .parser .cur .kind) ≡ some o → Refines script 0 0 (binary d x o) Q kept 1 0 0 s s′
       → Refines script 0 0 (infixStep d stageOne script least x) Q kept 1 0 0 s s′
   infix-sign e f w p =
       let same : signStep d stageOne script least x (s .parser .cur) ≡ binary d x o = sign-by d script least x (s .parser .cur) ∙ ap (signBy d x least (breaksOff script (s .parser .cur))) w
-      ∙ sign-when d x least (breaksOff script (s .parser .cur)) o (subst (λ (q : Option Powers). signFollows (breaksOff script (s .parser .cur)) least q ≡ true) w (sign-follows script (s .parser) least e f)) in
+      ∙ sign-when d x least (breaksOff script (s .parser .cur)) o (subst (λ (q : Option ℕ). signFollows (breaksOff script (s .parser .cur)) least q ≡ true) w (sign-follows script (s .parser) least e f)) in
       let q : Refines script 0 0 (signStep d stageOne script least x (s .parser .cur)) Q kept 1 0 0 s s′ = subst (λ (y : Rule (ControlFlow NodeId)). Refines script 0 0 y Q kept 1 0 0 s s′) (sym same) p in
       ifKind-no _ _ (seq (signStep d stageOne script least x) looks q) f
 

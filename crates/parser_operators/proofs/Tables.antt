@@ -1,21 +1,21 @@
 -- Tables by kind, as the code keeps them.
 use mathlib.Core.Path.{_≡_, refl, sym, ap, subst, _∙_}
 use mathlib.Core.Bool.{Bool, true, false, not, _&&_, _||_}
-use mathlib.Core.Option.{Option, none}
-use mathlib.Core.List.{List, [], _∷_}
-use Prim.Native.Nat.{ℕ, _≤_, _<_}
+use mathlib.Core.Option.{Option, none, some}
+use mathlib.Core.List.{List, [], _∷_, map}
+use Prim.Native.Nat.{ℕ, zero, suc, _≤_, _<_}
 use native.Mathlib.Omega.{arith}
 use lib.Dec.{T, eqb, ltb, leb, leb→le}
-use lib.ListN.{getD}
+use lib.ListN.{length, getD}
 use borrow.Author.Tests.{eqb-true, eq-eqb, ne-eqb, ltb-true, ltb-false, lt-ltb, le-ltb, le-leb, lt-leb}
 use Rattle.lex.specs.Kind.{kDoc, kMatch}
 use Rattle.rules.specs.Combinators.{Rule, Readers, choose}
-use Rattle.rules.specs.Rules.{Powers, stageOne, operandByKind, powers}
+use Rattle.rules.specs.Rules.{stageOne, rightPower, prefixPower, operandByKind}
 use Rattle.parser_state.specs.Represents.{Code}
 use Rattle.parser_state.specs.Refines.{Refines}
 use Rattle.parser_state.specs.declared.Parser.{Parser}
 use Rattle.parser_state.proofs.Steps.{either, true≢false}
-use Rattle.parser_operators.specs.Tests.{operandClasses, operandClass, operandOf, operatorNumbers, operatorNumber, powersAt, leftPowers, rightPowers, beginsExpr, signFollows, infixBy}
+use Rattle.parser_operators.specs.Tests.{operandClasses, operandClass, operandOf, operatorNumbers, operatorNumber, powerAt, leftPowers, beginsExpr, signFollows, infixBy}
 
 -- ---- one entry after the other
 
@@ -45,6 +45,16 @@ choose-above [] other n k t h = past-all k other
 choose-above (x ∷ xs) other n k t h =
     let w = both (ltb (x .0) n) (below n xs) t in
     past (x .1) other xs (λ e. omega (arith, leb→le _ n (w .0))) ∙ choose-above xs other n k (w .1) h
+
+-- all entries lie below a number
+abbrev allBelow : ℕ → List ℕ → Bool
+allBelow m [] = true
+allBelow m (x ∷ xs) = ltb x m && allBelow m xs
+
+entry-below : (m : ℕ) (xs : List ℕ) (n : ℕ) → n < length xs → T (allBelow m xs) → getD xs n 0 < m
+entry-below m [] n h t = absurd (omega arith)
+entry-below m (x ∷ xs) zero h t = leb→le _ m (both (ltb x m) (allBelow m xs) t .0)
+entry-below m (x ∷ xs) (suc n) h t = entry-below m xs n (omega arith) (both (ltb x m) (allBelow m xs) t .1)
 
 -- a table of what a function gives
 abbrev pub mapped : {A B : Type 0} → (A → B) → List (ℕ × A) → List (ℕ × B)
@@ -80,24 +90,32 @@ begins-expr p e = either (eqb (p .used .docs) 0)
 
 -- ---- infix signs
 
-pub operator-powers : (k : ℕ) → stageOne k ≡ powersAt (operatorNumber k)
-unfolding stageOne operatorNumber powersAt choose
-operator-powers k = sym (choose-map powersAt operatorNumbers 9 k)
+-- the two powers of the nine signs by their numbers, computed; NotEqual, the last, is not read by stage one
+pub powers-table : map {B = ℕ × ℕ} (λ left. (left, rightPower left)) leftPowers ≡ (1, 2) ∷ (1, 2) ∷ (3, 4) ∷ (3, 4) ∷ (3, 4) ∷ (0, 1) ∷ (0, 1) ∷ (0, 1) ∷ (0, 1) ∷ []
+powers-table = refl
+
+-- a left power is below that of a prefix sign
+pub left-below : {n left : ℕ} → n < 9 → left ≡ getD leftPowers n 0 → left < prefixPower
+left-below {n} h e = rw e (entry-below prefixPower leftPowers n h tt)
+
+pub operator-power : (k : ℕ) → stageOne k ≡ powerAt (operatorNumber k)
+unfolding stageOne operatorNumber powerAt choose
+operator-power k = sym (choose-map powerAt operatorNumbers 9 k)
 
 module _ (k n : ℕ) (e : n ≡ operatorNumber k) where
-  by-number : {b : Bool} → ltb n 9 ≡ b → stageOne k ≡ elim b as (λ _. Option Powers) [ true ↦ powers (getD leftPowers n 0) (getD rightPowers n 0) | false ↦ none ]
-  unfolding powersAt
-  by-number f = operator-powers k ∙ ap powersAt (sym e) ∙ ap (λ (b : Bool). elim b as (λ _. Option Powers) [ true ↦ powers (getD leftPowers n 0) (getD rightPowers n 0) | false ↦ none ]) f
+  by-number : {b : Bool} → ltb n 9 ≡ b → stageOne k ≡ elim b as (λ _. Option ℕ) [ true ↦ some (getD leftPowers n 0) | false ↦ none ]
+  unfolding powerAt
+  by-number f = operator-power k ∙ ap powerAt (sym e) ∙ ap (λ (b : Bool). elim b as (λ _. Option ℕ) [ true ↦ some (getD leftPowers n 0) | false ↦ none ]) f
 
-  pub powers-some : n < 9 → stageOne k ≡ powers (getD leftPowers n 0) (getD rightPowers n 0)
-  powers-some h = by-number (lt-ltb n 9 h)
+  pub power-some : n < 9 → stageOne k ≡ some (getD leftPowers n 0)
+  power-some h = by-number (lt-ltb n 9 h)
 
-  pub no-powers : 9 ≤ n → stageOne k ≡ none
-  no-powers h = by-number (le-ltb n 9 h)
+  pub no-power : 9 ≤ n → stageOne k ≡ none
+  no-power h = by-number (le-ltb n 9 h)
 
-pub powers-none : (breaks : Bool) (least k : ℕ) {n : ℕ} → n ≡ operatorNumber k → 9 ≤ n → false ≡ signFollows breaks least (stageOne k)
+pub power-none : (breaks : Bool) (least k : ℕ) {n : ℕ} → n ≡ operatorNumber k → 9 ≤ n → false ≡ signFollows breaks least (stageOne k)
 unfolding signFollows
-powers-none breaks least k e h = rw (no-powers k _ e h, signFollows) refl
+power-none breaks least k e h = rw (no-power k _ e h, signFollows) refl
 
 pub infix-when : {going cast sign r : Bool} → going ≡ true → cast ≡ false → r ≡ sign → r ≡ infixBy going cast sign
 unfolding infixBy

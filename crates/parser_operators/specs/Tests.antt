@@ -7,7 +7,7 @@ use lib.Dec.{eqb, ltb}
 use lib.ListN.{getD}
 use Rattle.lex.specs.Kind.{kPlus, kMinus, kAsteriks, kSlash, kPercent, kDoubleEqual, kLessThan, kGreaterThan, kDot, kBraceLeft, kBraketLeft, kCurlyLeft, kS, kD, kI, kIdent, kDoc, kMatch, kAs, kTrue, kFalse}
 use Rattle.rules.specs.Combinators.{Rule, Readers, choose, fail}
-use Rattle.rules.specs.Rules.{Powers, powers, stageOne, breaksOff, recordLiteral, arrayLiteral, atom, ident, group, unary}
+use Rattle.rules.specs.Rules.{stageOne, breaksOff, recordLiteral, arrayLiteral, atom, ident, group, unary}
 use Rattle.rules.specs.declared.NodeId.{NodeId}
 use Rattle.parser_state.specs.Represents.{isGoing}
 use Rattle.parser_state.specs.declared.Parser.{Parser}
@@ -32,14 +32,12 @@ operatorNumbers = (kPlus, 0) ∷ (kMinus, 1) ∷ (kAsteriks, 2) ∷ (kSlash, 3) 
 unfoldable pub operatorNumber : ℕ → ℕ
 operatorNumber = choose operatorNumbers 9
 
+-- the power on the left of each sign, by its number
 abbrev pub leftPowers : List ℕ
 leftPowers = 1 ∷ 1 ∷ 3 ∷ 3 ∷ 3 ∷ 0 ∷ 0 ∷ 0 ∷ 0 ∷ []
 
-abbrev pub rightPowers : List ℕ
-rightPowers = 2 ∷ 2 ∷ 4 ∷ 4 ∷ 4 ∷ 1 ∷ 1 ∷ 1 ∷ 1 ∷ []
-
-unfoldable pub powersAt : ℕ → Option Powers
-powersAt n = elim (ltb n 9) [ true ↦ powers (getD leftPowers n 0) (getD rightPowers n 0) | false ↦ none ]
+unfoldable pub powerAt : ℕ → Option ℕ
+powerAt n = elim (ltb n 9) [ true ↦ some (getD leftPowers n 0) | false ↦ none ]
 
 -- ---- items
 
@@ -63,11 +61,11 @@ postfixBy true false true calls = calls
 abbrev pub postfixFollows : List ℕ → Parser → NodeId → Bool
 postfixFollows nodes p n = postfixBy (isGoing (p .status)) (eqb (p .cur .kind) kDot) (eqb (p .cur .kind) kBraceLeft) (callAt nodes n)
 
--- an infix sign goes on that has the powers `o`
-unfoldable pub signFollows : Bool → ℕ → Option Powers → Bool
+-- an infix sign goes on that has the power `o` on its left
+unfoldable pub signFollows : Bool → ℕ → Option ℕ → Bool
 signFollows breaks least none = false
 signFollows true least (some p) = false
-signFollows false least (some p) = not (ltb (p .left) least)
+signFollows false least (some p) = not (ltb p least)
 
 unfoldable pub infixBy : Bool → Bool → Bool → Bool
 infixBy false cast sign = false

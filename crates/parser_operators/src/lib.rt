@@ -29,15 +29,14 @@ ghost use Rattle.rules.specs.declared.Node.the-variants as N;
 ghost use Rattle.rules.specs.Rules.{atom, ident, fieldAccess, cast, breaksOff};
 ghost use Rattle.parser_state.specs.Represents.{parserOf, code, lowToken};
 ghost use Rattle.parser_state.specs.Refines.{Refines, kept, ReadsNode, ReadsStep, Pushes, deeper};
-ghost use Rattle.parser_operators.specs.Tests.{operandClass, operatorNumber, leftPowers, rightPowers, beginsExpr, callAt, postfixFollows, infixFollows};
+ghost use Rattle.parser_operators.specs.Tests.{operandClass, operatorNumber, leftPowers, beginsExpr, callAt, postfixFollows, infixFollows};
 ghost use Rattle.parser_operators.specs.Matches.{defaultOf, matchNode};
 
 // ---- tables
 
-// Left and right binding powers of `+` `-` `*` `/` `%` `==` `<` `>` `!=`, by their numbers.
+// The binding powers on the left of `+` `-` `*` `/` `%` `==` `<` `>` `!=`, by their numbers. The one
+// on the right is the left one plus 1 (`binary`).
 const LEFT_POWERS: [u32; 9] = [1, 1, 3, 3, 3, 0, 0, 0, 0];
-
-const RIGHT_POWERS: [u32; 9] = [2, 2, 4, 4, 4, 1, 1, 1, 1];
 
 // The power of a prefix sign.
 pub const PREFIX_POWER: u32 = 5;
@@ -114,18 +113,11 @@ pub fn operator(kind: u32) -> u32
     9
 }
 
-fn left_power(n: u32) -> u32
+pub fn left_power(n: u32) -> u32
     requires { ⌜ n < 9 ⌝ }
     ensures { λ r. ⌜ r ≡ getD leftPowers n 0 ⌝ }
 {
     LEFT_POWERS[n as usize]
-}
-
-pub fn right_power(n: u32) -> u32
-    requires { ⌜ n < 9 ⌝ }
-    ensures { λ r. ⌜ r ≡ getD rightPowers n 0 ⌝ }
-{
-    RIGHT_POWERS[n as usize]
 }
 
 // ---- whether an item is an expression, and a loop over an expression goes on

@@ -15,7 +15,7 @@ use Rattle.lex.specs.declared.tok.Token.{Token}
 use Rattle.lex.proofs.Laws.{cases}
 use Rattle.rules.specs.Tree.{State, Result, ok, err, Tree}
 use Rattle.rules.specs.Combinators.{Rule, _>>=_, pure, current, rest, advance, struck, byKind, ifKind, choose, expect, expectIdent, withArena, withDocs, pushNodeAnd, allocSlice, ControlFlow, continue, break, loop, docStep, collectDocs, takeDocs, Readers}
-use Rattle.rules.specs.Rules.{Powers, powers, atom, ident, breaksOff, requireNoDocs, readers, itemByKind, plainItem, group, unary, operand, postfix, postfixStep, signStep, infixStep, binary, infixes, parseExpr, parseLet, parsePrefix}
+use Rattle.rules.specs.Rules.{atom, ident, breaksOff, requireNoDocs, readers, itemByKind, plainItem, group, unary, operand, postfix, postfixStep, signStep, infixStep, binary, infixes, parseExpr, parseLet, parsePrefix}
 use Rattle.rules.specs.Parse.{Reading, read, ended, begin, root, parseRoots, parse}
 use Rattle.rules.specs.declared.NodeId.{NodeId}
 use Rattle.rules.specs.declared.Node.{Node}
@@ -143,13 +143,13 @@ collectDocs-leaves s h e = break-leaves docStep 0 s h (λ n s′ q. kind-no kDoc
 
 -- ---- what stops an expression
 
-module _ (power : ℕ → Option Powers) where
+module _ (power : ℕ → Option ℕ) where
   -- a token of the kind ends an expression that is read from the power `least` on
   pub record Stops (least kind : ℕ) : Type 0 where
     pub noDot : eqb kind kDot ≡ false
     pub noCall : eqb kind kBraceLeft ≡ false
     pub noCast : eqb kind kAs ≡ false
-    pub weaker : (p : Powers) → power kind ≡ some p → p .left < least
+    pub weaker : (p : ℕ) → power kind ≡ some p → p < least
 
   module _ (script : List ℕ) (d : Readers) {t : Token} {l : List Token} where
     postfix-stops : (x : NodeId) (s : State) → Left (t ∷ l) s → eqb (t .kind) kDot ≡ false
@@ -161,16 +161,16 @@ module _ (power : ℕ → Option Powers) where
         (pure-ok _ s′ (out q))))
 
     sign-stops : (Inv : NodeId → State → Type 0) (least : ℕ) (b : NodeId) (s : State) → Left (t ∷ l) s
-        → ((p : Powers) → power (t .kind) ≡ some p → p .left < least)
+        → ((p : ℕ) → power (t .kind) ≡ some p → p < least)
         → Breaks Inv (t ∷ l) s (signStep d power script least b t s)
     sign-stops Inv least b s h w = go (power (t .kind)) refl
       where
-        go : (o : Option Powers) → power (t .kind) ≡ o
+        go : (o : Option ℕ) → power (t .kind) ≡ o
             → Breaks Inv (t ∷ l) s ((elim o as (λ o′. Rule (ControlFlow NodeId)) [
               | none ↦ pure (break b)
               | some p ↦ elim (breaksOff script t) as (λ t′. Rule (ControlFlow NodeId)) [
                 | true ↦ pure (break b)
-                | false ↦ elim (ltb (p .left) least) as (λ t′. Rule (ControlFlow NodeId)) [ true ↦ pure (break b) | false ↦ binary d b p ]
+                | false ↦ elim (ltb p least) as (λ t′. Rule (ControlFlow NodeId)) [ true ↦ pure (break b) | false ↦ binary d b p ]
               ]
             ]) s)
         go none e = pure-ok _ s (out h)
@@ -201,17 +201,16 @@ module _ (power : ℕ → Option Powers) where
 
   -- ---- operands
 
-  module _ (plus : power kPlus ≡ powers 1 2) (close : power kBraceRight ≡ none) (script : List ℕ) where
+  module _ (plus : power kPlus ≡ some 1) (close : power kBraceRight ≡ none) (script : List ℕ) where
     stops-plus : Stops 5 kPlus
     stops-plus = record {
       noDot = refl;
       noCall = refl;
       noCast = refl;
-      weaker = λ p e. let z : p .left ≡ 1 = left-of p
-          (sym plus ∙ e) in omega arith;
+      weaker = λ p e. let z : p ≡ 1 = left-of p (sym plus ∙ e) in omega arith;
     }
       where
-        left-of : (p : Powers) → powers 1 2 ≡ some p → p .left ≡ 1
+        left-of : (p : ℕ) → some 1 ≡ some p → p ≡ 1
         left-of p e = cc
 
     none-stops : (least kind : ℕ) → eqb kind kDot ≡ false → eqb kind kBraceLeft ≡ false → eqb kind kAs ≡ false
@@ -236,7 +235,7 @@ module _ (power : ℕ → Option Powers) where
       infix-sign = rw k p
 
       plus-binary : (x : NodeId) (s : State) → Left (t ∷ l) s
-          → Breaks Inv (c ∷ m) s (binary d x (record { left = 1; right = 2 }) s)
+          → Breaks Inv (c ∷ m) s (binary d x 1 s)
       unfolding binary
       plus-binary x s h =
           bind-ok _ _ s (advance-leaves h (omega arith)) (λ op s₁ h₁.
@@ -253,12 +252,12 @@ module _ (power : ℕ → Option Powers) where
       plus-sign : (x : NodeId) (s : State) → Left (t ∷ l) s → Breaks Inv (c ∷ m) s (signStep d power script 0 x t s)
       plus-sign x s h = go (power (t .kind)) (ap power k ∙ plus) (breaksOff script t) infix-sign
         where
-          go : (o : Option Powers) → o ≡ powers 1 2 → (b : Bool) → b ≡ false
+          go : (o : Option ℕ) → o ≡ some 1 → (b : Bool) → b ≡ false
               → Breaks Inv (c ∷ m) s ((elim o as (λ o′. Rule (ControlFlow NodeId)) [
                 | none ↦ pure (break x)
                 | some p ↦ elim b as (λ t′. Rule (ControlFlow NodeId)) [
                   | true ↦ pure (break x)
-                  | false ↦ elim (ltb (p .left) 0) as (λ t′. Rule (ControlFlow NodeId)) [ true ↦ pure (break x) | false ↦ binary d x p ]
+                  | false ↦ elim (ltb p 0) as (λ t′. Rule (ControlFlow NodeId)) [ true ↦ pure (break x) | false ↦ binary d x p ]
                 ]
               ]) s)
           go o e b f = rw (e, f) (plus-binary x s h)

@@ -13,7 +13,6 @@ use Rattle.lex.specs.Lex.{cut, tokensFrom}
 use Rattle.lex.proofs.Laws.{cases, agree}
 use Rattle.rules.specs.Tree.{Tree}
 use Rattle.rules.specs.declared.Counts.{Counts}
-use Rattle.rules.specs.Rules.{Powers}
 use Rattle.rules.specs.Parse.{parse}
 use Rattle.rules.specs.Promise.{maxBytes, outcome, promised}
 use Rattle.text.specs.Text.{bytes, digits, number as decimal}
@@ -185,7 +184,7 @@ sheet-plain seed lines = lines-plain 0 (expressions lines seed)
 -- ---- strict reading
 
 -- whatever the number of lines
-pub sheet-reads : (power : ℕ → Option Powers) → Signs power → (seed lines : ℕ)
+pub sheet-reads : (power : ℕ → Option ℕ) → Signs power → (seed lines : ℕ)
     → ReadAs (parse power (sheet seed lines)) lines
 unfolding sheet cut tokensFrom
 sheet-reads power s seed lines =

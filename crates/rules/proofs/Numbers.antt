@@ -11,7 +11,7 @@ use Rattle.lex.specs.declared.diagnostic.Diagnostic.{Diagnostic}
 use Rattle.rules.specs.Tree.{Arena, Result, ok, err}
 use Rattle.rules.specs.Combinators as R
 use Rattle.rules.specs.Combinators.{ControlFlow, continue}
-use Rattle.rules.specs.Rules.{Powers, readers, maxLevels}
+use Rattle.rules.specs.Rules.{readers, maxLevels}
 use Rattle.rules.specs.Parse.{Reading, read, ended, begin, synchronizeRoot, Gathered, merged, recover, parse, parseRoots, parseCollect, parseRootsCollect}
 use Rattle.rules.specs.declared.NodeId.{NodeId}
 use Rattle.lex.specs.declared.tok.Token.{Token}
@@ -29,7 +29,7 @@ any = record { token = λ l m p. p; node = λ l m x values p. p; type = λ l m x
 abbrev pub IsError : Diagnostic → Type 0
 IsError e = (10 ≤ e .number) × (e .number ≤ 23)
 
-module _ (power : ℕ → Option Powers) (script : List ℕ) where
+module _ (power : ℕ → Option ℕ) (script : List ℕ) where
   root : Preserves Any (readers power script maxLevels .prefix)
   root = Pr.all-preserve Any any power script maxLevels .prefix
 

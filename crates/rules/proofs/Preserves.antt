@@ -14,7 +14,7 @@ use Rattle.rules.specs.Tree.{Arena, Notes, State, Result, ok, err}
 use Rattle.rules.specs.Combinators as R
 use Rattle.rules.specs.Combinators.{Rule, current, rest, Readers, ControlFlow, continue, break}
 use Rattle.rules.specs.Rules as Q
-use Rattle.rules.specs.Rules.{Powers, Cases}
+use Rattle.rules.specs.Rules.{Cases}
 use Rattle.rules.specs.declared.Run.{Run}
 use Rattle.rules.specs.declared.NodeId.{NodeId}
 use Rattle.rules.specs.declared.Node.{Node}
@@ -406,24 +406,24 @@ module _ (P : List Token → Arena → Type 0) (steps : StepsPreserve P) where
     unfolding Q.cast
     cast-preserves n = bind advance-preserves (λ src. bind (deep .type) (λ t. bind (pushNode-preserves 0 _) (λ m. value _)))
 
-    binary-preserves : (n : NodeId) (p : Powers) → Preserves P (Q.binary d n p)
+    binary-preserves : (n : NodeId) (p : ℕ) → Preserves P (Q.binary d n p)
     unfolding Q.binary
-    binary-preserves n p = bind advance-preserves (λ op. bind (deep .expr (p .right)) (λ rhs. bind (pushNode-preserves 0 _) (λ m. value _)))
+    binary-preserves n p = bind advance-preserves (λ op. bind (deep .expr (Q.rightPower p)) (λ rhs. bind (pushNode-preserves 0 _) (λ m. value _)))
 
-    module _ (power : ℕ → Option Powers) (script : List ℕ) where
+    module _ (power : ℕ → Option ℕ) (script : List ℕ) where
       signStep-preserves : (least : ℕ) (n : NodeId) (t : Token) → Preserves P (Q.signStep d power script least n t)
       signStep-preserves least n t = by-power (power (t .kind))
         where
-          by-least : (p : Powers) (b : Bool) → Preserves P {A = ControlFlow NodeId} (elim b as (λ b′. Rule (ControlFlow NodeId)) [ true ↦ R.pure (break n) | false ↦ Q.binary d n p ])
+          by-least : (p : ℕ) (b : Bool) → Preserves P {A = ControlFlow NodeId} (elim b as (λ b′. Rule (ControlFlow NodeId)) [ true ↦ R.pure (break n) | false ↦ Q.binary d n p ])
           by-least p true = value _
           by-least p false = binary-preserves n p
 
-          by-sign : (p : Powers) (b : Bool) → Preserves P {A = ControlFlow NodeId} (elim b as (λ b′. Rule (ControlFlow NodeId)) [ true ↦ R.pure (break n) | false ↦ elim (ltb (p .left) least) as (λ b′. Rule (ControlFlow NodeId)) [ true ↦ R.pure (break n) | false ↦ Q.binary d n p ] ])
+          by-sign : (p : ℕ) (b : Bool) → Preserves P {A = ControlFlow NodeId} (elim b as (λ b′. Rule (ControlFlow NodeId)) [ true ↦ R.pure (break n) | false ↦ elim (ltb p least) as (λ b′. Rule (ControlFlow NodeId)) [ true ↦ R.pure (break n) | false ↦ Q.binary d n p ] ])
           by-sign p true = value _
-          by-sign p false = by-least p (ltb (p .left) least)
+          by-sign p false = by-least p (ltb p least)
 
-          by-power : (o : Option Powers)
-              → Preserves P {A = ControlFlow NodeId} (elim o as (λ o′. Rule (ControlFlow NodeId)) [ none ↦ R.pure (break n) | some p ↦ elim (Q.breaksOff script t) as (λ b′. Rule (ControlFlow NodeId)) [ true ↦ R.pure (break n) | false ↦ elim (ltb (p .left) least) as (λ b′. Rule (ControlFlow NodeId)) [ true ↦ R.pure (break n) | false ↦ Q.binary d n p ] ] ])
+          by-power : (o : Option ℕ)
+              → Preserves P {A = ControlFlow NodeId} (elim o as (λ o′. Rule (ControlFlow NodeId)) [ none ↦ R.pure (break n) | some p ↦ elim (Q.breaksOff script t) as (λ b′. Rule (ControlFlow NodeId)) [ true ↦ R.pure (break n) | false ↦ elim (ltb p least) as (λ b′. Rule (ControlFlow NodeId)) [ true ↦ R.pure (break n) | false ↦ Q.binary d n p ] ] ])
           by-power none = value _
           by-power (some p) = by-sign p (Q.breaksOff script t)
 
@@ -437,7 +437,7 @@ module _ (P : List Token → Arena → Type 0) (steps : StepsPreserve P) where
 
   -- ---- levels
 
-  pub all-preserve : (power : ℕ → Option Powers) (script : List ℕ) (l : ℕ) → AllPreserve P (Q.readers power script l)
+  pub all-preserve : (power : ℕ → Option ℕ) (script : List ℕ) (l : ℕ) → AllPreserve P (Q.readers power script l)
   unfolding Q.readers
   all-preserve power script zero = record { prefix = too-deep; expr = λ least. too-deep; type = too-deep }
     where
@@ -447,5 +447,5 @@ module _ (P : List Token → Arena → Type 0) (steps : StepsPreserve P) where
       let deep : AllPreserve P (Q.readers power script l) = all-preserve power script l in
       record { prefix = parsePrefix-preserves _ deep; expr = parseExpr-preserves _ deep power script; type = parseType-preserves _ deep }
 
-  pub readers-preserve : (power : ℕ → Option Powers) (script : List ℕ) (l : ℕ) → ReadersPreserve P (Q.readers power script l)
+  pub readers-preserve : (power : ℕ → Option ℕ) (script : List ℕ) (l : ℕ) → ReadersPreserve P (Q.readers power script l)
   readers-preserve power script l = states-preserved P (all-preserve power script l)

@@ -10,7 +10,6 @@ use lib.ListN.{length}
 use Rattle.lex.specs.Lex.{Occurrence}
 use Rattle.lex.specs.declared.diagnostic.Diagnostic.{Diagnostic}
 use Rattle.rules.specs.Tree.{Arena, Tree, ok, err}
-use Rattle.rules.specs.Rules.{Powers}
 use Rattle.rules.specs.Parse.{read, begin, parse, parseCollect, parseRootsCollect}
 use Rattle.rules.specs.Shape.{map₁, map₂, andThen, Decoder, decoded, chain, number, token, run, listAt}
 use Rattle.rules.specs.declared.Run.{Run}
@@ -145,7 +144,7 @@ allArguments (x ∷ xs) = argumentsOf x + allArguments xs
 -- the root failed, and the error is kept with the tokens taken before that state. So it is in the
 -- Rust: parse_roots_collect pushes the error and calls synchronize_root. No tree comes of 10, and
 -- no list here.
-unfoldable pub resynchronisings : (ℕ → Option Powers) → List ℕ → List ℕ
+unfoldable pub resynchronisings : (ℕ → Option ℕ) → List ℕ → List ℕ
 resynchronisings power script = elim (parseRootsCollect power script (begin script)) [ ok g s ↦ map (λ (e : Occurrence). e .after) (g .errors) | err e s ↦ [] ]
 
 -- each number is above the one before it
@@ -196,7 +195,7 @@ pub record Law (script : List ℕ) (tree : Tree) (begun : List ℕ) : Type 0 whe
   pub takes : Rising begun
 
 -- 'for both modes .., for every returned tree', `power` having the infix signs
-pub record TreeLaw (power : ℕ → Option Powers) : Type 0 where
+pub record TreeLaw (power : ℕ → Option ℕ) : Type 0 where
   -- strict mode never resynchronises
   pub strict : (script : List ℕ) (tree : Tree) (es : List Diagnostic) → parse power script ≡ read tree es → Law script tree []
   pub collecting : (script : List ℕ) (tree : Tree) (es : List Diagnostic) → parseCollect power script ≡ read tree es → Law script tree (resynchronisings power script)

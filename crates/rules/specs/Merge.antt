@@ -11,7 +11,6 @@ use Rattle.lex.specs.Kind.{kEof, kImport, kExtern, kLet, kFn, kMatch}
 use Rattle.lex.specs.Lex.{cut, tokensOf, faultsOf}
 use Rattle.rules.specs.Tree.{Arena, Tree, ok, err}
 use Rattle.rules.specs.Combinators.{current, choose}
-use Rattle.rules.specs.Rules.{Powers}
 use Rattle.rules.specs.Parse.{read, begin, parse, parseRoots}
 use Rattle.rules.specs.declared.Run.{Run}
 use Rattle.rules.specs.declared.NodeId.{NodeId}
@@ -210,7 +209,7 @@ joined s₁ s₂ = s₁ ++ (10 ∷ s₂)
 unfoldable pub beginsItem : ℕ → Bool
 beginsItem = choose ((kEof, true) ∷ (kImport, true) ∷ (kExtern, true) ∷ (kLet, true) ∷ (kFn, true) ∷ (kMatch, true) ∷ []) false
 
-module _ (power : ℕ → Option Powers) where
+module _ (power : ℕ → Option ℕ) where
   -- the docs that wait at the end of a strict reading
   unfoldable pub docsAtEnd : List ℕ → List Token
   docsAtEnd script = elim (parseRoots power script (begin script)) [ ok roots s ↦ s .docs | err e s ↦ s .docs ]

@@ -10,7 +10,7 @@ use Rattle.lex.specs.Lex.{Occurrence, cut, tokensOf, faultsOf}
 use Rattle.lex.specs.declared.diagnostic.Diagnostic.{Diagnostic}
 use Rattle.rules.specs.Tree.{emptyArena, State, Result, ok, err, Tree}
 use Rattle.rules.specs.Combinators.{Rule, _>>=_, _>>_, pure, advance, byKind, ifKind, choose, withDocs, ControlFlow, continue, break, loop}
-use Rattle.rules.specs.Rules.{Powers, readers, maxLevels}
+use Rattle.rules.specs.Rules.{readers, maxLevels}
 use Rattle.rules.specs.declared.NodeId.{NodeId}
 
 -- how a reading ends: with a tree and the errors gathered, or at an error
@@ -48,7 +48,7 @@ merged (suc n) (f ∷ fs) [] = f .diagnostic ∷ merged n fs []
 merged (suc n) [] (e ∷ es) = e .diagnostic ∷ merged n [] es
 merged (suc n) (f ∷ fs) (e ∷ es) = elim (leb (f .after) (e .after)) [ true ↦ f .diagnostic ∷ merged n fs (e ∷ es) | false ↦ e .diagnostic ∷ merged n (f ∷ fs) es ]
 
-module _ (power : ℕ → Option Powers) (script : List ℕ) where
+module _ (power : ℕ → Option ℕ) (script : List ℕ) where
   abbrev pub root : Rule NodeId
   root = readers power script maxLevels .prefix
 

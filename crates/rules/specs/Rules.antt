@@ -19,20 +19,16 @@ use Rattle.rules.specs.declared.TypeExpr.the-variants as T
 
 -- ---- powers
 
--- the powers of an infix sign on its left and right
-pub record Powers : Type 0 where
-  pub left : ℕ
-  pub right : ℕ
-
-abbrev pub powers : ℕ → ℕ → Option Powers
-powers l r = some (record { left = l; right = r })
-
--- the infix signs of stage one: NotEqual is none of them
-unfoldable pub stageOne : ℕ → Option Powers
+-- the infix signs of stage one, each with the power on its left: NotEqual is none of them
+unfoldable pub stageOne : ℕ → Option ℕ
 stageOne = choose
-    ((kPlus, powers 1 2) ∷ (kMinus, powers 1 2) ∷ (kAsteriks, powers 3 4) ∷ (kSlash, powers 3 4) ∷ (kPercent, powers 3 4) ∷
-    (kDoubleEqual, powers 0 1) ∷ (kLessThan, powers 0 1) ∷ (kGreaterThan, powers 0 1) ∷ [])
+    ((kPlus, some 1) ∷ (kMinus, some 1) ∷ (kAsteriks, some 3) ∷ (kSlash, some 3) ∷ (kPercent, some 3) ∷
+    (kDoubleEqual, some 0) ∷ (kLessThan, some 0) ∷ (kGreaterThan, some 0) ∷ [])
     none
+
+-- the power on the right of an infix sign, by the one on its left
+abbrev pub rightPower : ℕ → ℕ
+rightPower left = left + 1
 
 abbrev pub prefixPower : ℕ
 prefixPower = 5
@@ -384,31 +380,32 @@ module _ (deeper : Readers) where
     n ← pushNode (λ id. N.Cast id src lhs t)
     pure (continue n)
 
-  unfoldable pub binary : NodeId → Powers → Rule (ControlFlow NodeId)
-  binary lhs p = do
+  -- an infix sign that has the power `left` on its left, and its right side
+  unfoldable pub binary : NodeId → ℕ → Rule (ControlFlow NodeId)
+  binary lhs left = do
     op ← advance
-    rhs ← deeper .expr (p .right)
+    rhs ← deeper .expr (rightPower left)
     n ← pushNode (λ id. N.Bin id op lhs rhs)
     pure (continue n)
 
-  -- `power` has the infix signs
-  abbrev pub signStep : (ℕ → Option Powers) → List ℕ → ℕ → NodeId → Token → Rule (ControlFlow NodeId)
+  -- `power` has the infix signs, each with the power on its left
+  abbrev pub signStep : (ℕ → Option ℕ) → List ℕ → ℕ → NodeId → Token → Rule (ControlFlow NodeId)
   signStep power script least lhs t =
       elim (power (t .kind)) [
         | none ↦ pure (break lhs)
-        | some p ↦ elim (breaksOff script t) [
+        | some left ↦ elim (breaksOff script t) [
           | true ↦ pure (break lhs)
-          | false ↦ elim (ltb (p .left) least) [ true ↦ pure (break lhs) | false ↦ binary lhs p ]
+          | false ↦ elim (ltb left least) [ true ↦ pure (break lhs) | false ↦ binary lhs left ]
         ]
       ]
 
-  abbrev pub infixStep : (ℕ → Option Powers) → List ℕ → ℕ → NodeId → Rule (ControlFlow NodeId)
+  abbrev pub infixStep : (ℕ → Option ℕ) → List ℕ → ℕ → NodeId → Rule (ControlFlow NodeId)
   infixStep power script least lhs = ifKind kAs (cast lhs) (cur >>= signStep power script least lhs)
 
-  unfoldable pub infixes : (ℕ → Option Powers) → List ℕ → ℕ → NodeId → Rule NodeId
+  unfoldable pub infixes : (ℕ → Option ℕ) → List ℕ → ℕ → NodeId → Rule NodeId
   infixes power script least = loop (infixStep power script least)
 
-  unfoldable pub parseExpr : (ℕ → Option Powers) → List ℕ → ℕ → Rule NodeId
+  unfoldable pub parseExpr : (ℕ → Option ℕ) → List ℕ → ℕ → Rule NodeId
   parseExpr power script least = do
     x ← operand
     y ← postfix x
@@ -417,7 +414,7 @@ module _ (deeper : Readers) where
 -- ---- levels
 
 -- the readers with so many levels left; a read below the last would stand too deep
-unfoldable pub readers : (ℕ → Option Powers) → List ℕ → ℕ → Readers
+unfoldable pub readers : (ℕ → Option ℕ) → List ℕ → ℕ → Readers
 readers power script zero = record { prefix = fail 10; expr = λ least. fail 10; type = fail 10 }
 readers power script (suc l) =
     let d = readers power script l in

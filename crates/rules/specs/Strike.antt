@@ -5,7 +5,6 @@ use mathlib.Core.Option.{Option}
 use mathlib.Core.List.{List, [], _∷_, map}
 use Prim.Native.Nat.{ℕ}
 use lib.Dec.{eqb}
-use Rattle.rules.specs.Rules.{Powers}
 use Rattle.lex.specs.Kind.{kEof, kImport, kDoc}
 use Rattle.lex.specs.Lex.{cut, tokensOf}
 use Rattle.rules.specs.Tree.{Notes, ok, err, Tree}
@@ -38,7 +37,7 @@ noDocBeforeImportOrEof (t ∷ (u ∷ ts)) = elim (eqb (t .kind) kDoc) [
 ]
 
 -- `power` has the infix signs: `stageOne`, or more
-module _ (power : ℕ → Option Powers) where
+module _ (power : ℕ → Option ℕ) where
   -- the notes of a strict reading
   unfoldable pub notesOf : List ℕ → Notes
   notesOf script = elim (parseRoots power script (begin script)) [ ok roots s ↦ s .notes | err e s ↦ s .notes ]

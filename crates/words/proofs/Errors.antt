@@ -16,7 +16,7 @@ use Rattle.rules.specs.Tree.{Notes, State, Result, ok, err}
 use Rattle.rules.specs.Combinators as R
 use Rattle.rules.specs.Combinators.{Rule, current, rest, Readers, ControlFlow, continue, break}
 use Rattle.rules.specs.Rules as Q
-use Rattle.rules.specs.Rules.{Powers, Cases, lastOf}
+use Rattle.rules.specs.Rules.{Cases, lastOf}
 use Rattle.rules.specs.declared.Run.{Run}
 use Rattle.rules.specs.declared.NodeId.{NodeId}
 use Rattle.rules.specs.declared.Node.{Node}
@@ -435,24 +435,24 @@ module _ (d : Readers) (deep : ReadersWorded d) where
   unfolding Q.cast
   cast-worded n = bind advance-worded (λ src. bind (deep .type) (λ t. bind (pushNode-worded 0 _) (λ m. value _)))
 
-  binary-worded : (n : NodeId) (p : Powers) → Worded (Q.binary d n p)
+  binary-worded : (n : NodeId) (p : ℕ) → Worded (Q.binary d n p)
   unfolding Q.binary
   binary-worded n p = bind advance-worded (λ op. bind (deep .expr _) (λ rhs. bind (pushNode-worded 0 _) (λ m. value _)))
 
-  module _ (power : ℕ → Option Powers) (script : List ℕ) where
+  module _ (power : ℕ → Option ℕ) (script : List ℕ) where
     signStep-worded : (least : ℕ) (n : NodeId) (t : Token) → Worded (Q.signStep d power script least n t)
     signStep-worded least n t = by-power (power (t .kind))
       where
-        by-least : (p : Powers) (b : Bool) → Worded {A = ControlFlow NodeId} (elim b as (λ b′. Rule (ControlFlow NodeId)) [ true ↦ R.pure (break n) | false ↦ Q.binary d n p ])
+        by-least : (p : ℕ) (b : Bool) → Worded {A = ControlFlow NodeId} (elim b as (λ b′. Rule (ControlFlow NodeId)) [ true ↦ R.pure (break n) | false ↦ Q.binary d n p ])
         by-least p true = value _
         by-least p false = binary-worded n p
 
-        by-sign : (p : Powers) (b : Bool) → Worded {A = ControlFlow NodeId} (elim b as (λ b′. Rule (ControlFlow NodeId)) [ true ↦ R.pure (break n) | false ↦ elim (ltb (p .left) least) as (λ b′. Rule (ControlFlow NodeId)) [ true ↦ R.pure (break n) | false ↦ Q.binary d n p ] ])
+        by-sign : (p : ℕ) (b : Bool) → Worded {A = ControlFlow NodeId} (elim b as (λ b′. Rule (ControlFlow NodeId)) [ true ↦ R.pure (break n) | false ↦ elim (ltb p least) as (λ b′. Rule (ControlFlow NodeId)) [ true ↦ R.pure (break n) | false ↦ Q.binary d n p ] ])
         by-sign p true = value _
-        by-sign p false = by-least p (ltb (p .left) least)
+        by-sign p false = by-least p (ltb p least)
 
-        by-power : (o : Option Powers)
-            → Worded {A = ControlFlow NodeId} (elim o as (λ o′. Rule (ControlFlow NodeId)) [ none ↦ R.pure (break n) | some p ↦ elim (Q.breaksOff script t) as (λ b′. Rule (ControlFlow NodeId)) [ true ↦ R.pure (break n) | false ↦ elim (ltb (p .left) least) as (λ b′. Rule (ControlFlow NodeId)) [ true ↦ R.pure (break n) | false ↦ Q.binary d n p ] ] ])
+        by-power : (o : Option ℕ)
+            → Worded {A = ControlFlow NodeId} (elim o as (λ o′. Rule (ControlFlow NodeId)) [ none ↦ R.pure (break n) | some p ↦ elim (Q.breaksOff script t) as (λ b′. Rule (ControlFlow NodeId)) [ true ↦ R.pure (break n) | false ↦ elim (ltb p least) as (λ b′. Rule (ControlFlow NodeId)) [ true ↦ R.pure (break n) | false ↦ Q.binary d n p ] ] ])
         by-power none = value _
         by-power (some p) = by-sign p (Q.breaksOff script t)
 
@@ -466,7 +466,7 @@ module _ (d : Readers) (deep : ReadersWorded d) where
 
 -- ---- levels
 
-pub readers-worded : (power : ℕ → Option Powers) (script : List ℕ) (l : ℕ) → ReadersWorded (Q.readers power script l)
+pub readers-worded : (power : ℕ → Option ℕ) (script : List ℕ) (l : ℕ) → ReadersWorded (Q.readers power script l)
 unfolding Q.readers
 readers-worded power script zero = record { prefix = failure 10 refl; expr = λ least. failure 10 refl; type = failure 10 refl }
 readers-worded power script (suc l) =

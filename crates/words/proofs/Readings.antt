@@ -17,7 +17,7 @@ use Rattle.lex.specs.declared.diagnostic.Diagnostic.{Diagnostic}
 use Rattle.rules.specs.Tree.{State, Result, ok, err, Tree}
 use Rattle.rules.specs.Combinators as R
 use Rattle.rules.specs.Combinators.{Rule, withDocs, ControlFlow, continue, break}
-use Rattle.rules.specs.Rules.{Powers, readers, maxLevels}
+use Rattle.rules.specs.Rules.{readers, maxLevels}
 use Rattle.rules.specs.Parse.{Reading, read, ended, begin, synchronizeRoot, Gathered, merged, parse, parseRoots, recover, parseCollect, parseRootsCollect}
 use Rattle.rules.specs.Layout.{diagnosticCells, zeros}
 use Rattle.rules.specs.Promise.{Arrays, Outcome, outcome, holding, maxBytes, tooShort, promised}
@@ -42,7 +42,7 @@ begin-known script = record { left = tokens-known script; docs = tt }
 
 -- ---- strict
 
-module _ (power : ℕ → Option Powers) (script : List ℕ) where
+module _ (power : ℕ → Option ℕ) (script : List ℕ) where
   roots-worded : Worded (parseRoots power script)
   unfolding parseRoots
   roots-worded = repeat (λ roots. branch _ (value _) (bind (readers-worded power script maxLevels .prefix) (λ n. value _))) []
@@ -100,7 +100,7 @@ data Gathers : Result Gathered → Type 0 where
   gathered : {g : Gathered} {s : State} → AllWorded (g .errors) → Gathers (ok g s)
   stopped : {e : Diagnostic} {s : State} → hasWords e ≡ true → Gathers (err e s)
 
-module _ (power : ℕ → Option Powers) (script : List ℕ) where
+module _ (power : ℕ → Option ℕ) (script : List ℕ) where
   recover-turns : (g : Gathered) (e : Diagnostic) (s : State) → AllWorded (g .errors) → hasWords e ≡ true → Known s → Turns (recover power script g e s)
   unfolding recover R._>>_ R.pure
   recover-turns g e s h w q = go (eqb (e .number) 10)
@@ -241,7 +241,7 @@ module _ (how : List ℕ → Reading) (script : List ℕ) (l : Arrays)
       by-length true = refused-described 1
       by-length false = by-arrays (tooShort script l)
 
-module _ (power : ℕ → Option Powers) (script : List ℕ) (l : Arrays) where
+module _ (power : ℕ → Option ℕ) (script : List ℕ) (l : Arrays) where
   pub strict-described : Described (promised (parse power) script l)
   strict-described = promised-described (parse power) script l (parse-words power script) (parse-gathers power script)
 

@@ -4,7 +4,7 @@ use mathlib.Core.Path.{refl, sym, _∙_}
 use borrow.Author.Tests.{not-true, not-false, eq-eqb, ne-eqb}
 use Rattle.lex.specs.Kind.{kAs}
 use Rattle.parser_operators.specs.Tests.{infixBy, signFollows}
-use Rattle.parser_operators.proofs.Tables.{powers-none, powers-some, infix-when, least-test}
+use Rattle.parser_operators.proofs.Tables.{power-none, power-some, infix-when, least-test}
 use Rattle.parser_operators.proofs.infix_follows.Statement.{statement}
 use Rattle.parser_operators.proofs.infix_follows.Tie as tie
 
@@ -32,7 +32,7 @@ returns-3 c =
     let if2 = c .before .before .if2 in
     let operator = c .before .operator in
     let if3 = c .if3 in
-    infix-when (sym (going .ensures) ∙ not-false _ (if1 .left)) (rw (← current .ensures) (ne-eqb _ kAs (if2 .left))) (rw (← current .ensures) (powers-none _ _ _ (operator .ensures) (if3 .taken)))
+    infix-when (sym (going .ensures) ∙ not-false _ (if1 .left)) (rw (← current .ensures) (ne-eqb _ kAs (if2 .left))) (rw (← current .ensures) (power-none _ _ _ (operator .ensures) (if3 .taken)))
 
 returns-4 : tie.Need-returns-4
 unfolding signFollows
@@ -45,7 +45,7 @@ returns-4 c =
     let if3 = c .before .before .if3 in
     let breaks-off = c .before .breaks-off in
     let if4 = c .if4 in
-    infix-when (sym (going .ensures) ∙ not-false _ (if1 .left)) (rw (← current .ensures) (ne-eqb _ kAs (if2 .left))) (rw (← current .ensures, powers-some _ _ (operator .ensures) (if3 .left), sym (breaks-off .ensures) ∙ if4 .taken, signFollows) refl)
+    infix-when (sym (going .ensures) ∙ not-false _ (if1 .left)) (rw (← current .ensures) (ne-eqb _ kAs (if2 .left))) (rw (← current .ensures, power-some _ _ (operator .ensures) (if3 .left), sym (breaks-off .ensures) ∙ if4 .taken, signFollows) refl)
 
 returns-5 : tie.Need-returns-5
 unfolding signFollows
@@ -59,7 +59,7 @@ returns-5 c =
     let breaks-off = c .before .before .breaks-off in
     let if4 = c .before .if4 in
     let left-power = c .left-power in
-    infix-when (sym (going .ensures) ∙ not-false _ (if1 .left)) (rw (← current .ensures) (ne-eqb _ kAs (if2 .left))) (rw (← current .ensures, powers-some _ _ (operator .ensures) (if3 .left), sym (breaks-off .ensures) ∙ if4 .left, signFollows) (least-test _ (left-power .ensures)))
+    infix-when (sym (going .ensures) ∙ not-false _ (if1 .left)) (rw (← current .ensures) (ne-eqb _ kAs (if2 .left))) (rw (← current .ensures, power-some _ _ (operator .ensures) (if3 .left), sym (breaks-off .ensures) ∙ if4 .left, signFollows) (least-test _ (left-power .ensures)))
 
 pub infix-follows-spec : {M : Type 1} → statement M
 infix-follows-spec =

@@ -16,7 +16,7 @@ use Rattle.rules.specs.Tree.{Notes, State, Result, ok, err, Tree}
 use Rattle.rules.specs.Combinators as R
 use Rattle.rules.specs.Combinators.{Rule, current, Readers, ControlFlow, continue, break, tokenCells, runCells, withDocs}
 use Rattle.rules.specs.Rules as Q
-use Rattle.rules.specs.Rules.{Powers, Cases, readers, maxLevels}
+use Rattle.rules.specs.Rules.{Cases, readers, maxLevels}
 use Rattle.rules.specs.Parse.{Reading, read, ended, begin, parse, parseRoots, synchronizeRoot, Gathered, merged, recover, parseCollect, parseRootsCollect}
 use Rattle.rules.specs.declared.Run.{Run}
 use Rattle.rules.specs.declared.NodeId.{NodeId}
@@ -469,11 +469,11 @@ module _ (d : Readers) (deep : ReadersPay d) where
       bind-ok _ _ s₂ (pushNode-pays 0 _ s₂ q₂) (λ m s₃ q₃.
       pure-ok _ s₃ (cheaper q₃ (omega arith)))))
 
-  binary-pays : {b c : ℕ} (n : NodeId) (p : Powers) (s : State) → Paid b c s → ¬ (current (s .left) .kind ≡ kEof) → Pays b (λ m. c) (Q.binary d n p s)
+  binary-pays : {b c : ℕ} (n : NodeId) (p : ℕ) (s : State) → Paid b c s → ¬ (current (s .left) .kind ≡ kEof) → Pays b (λ m. c) (Q.binary d n p s)
   unfolding Q.binary
   binary-pays n p s q e =
       bind-ok _ _ s (advance-pays s q e) (λ op s₁ q₁.
-      bind-ok _ _ s₁ (deep .expr (p .right) s₁ q₁) (λ rhs s₂ q₂.
+      bind-ok _ _ s₁ (deep .expr (Q.rightPower p) s₁ q₁) (λ rhs s₂ q₂.
       bind-ok _ _ s₂ (pushNode-pays 0 _ s₂ q₂) (λ m s₃ q₃.
       pure-ok _ s₃ (cheaper q₃ (omega arith)))))
 
@@ -493,23 +493,23 @@ module _ (d : Readers) (deep : ReadersPay d) where
       called lhs false s₁ q₁ e = pure-ok _ s₁ q₁
 
   -- Eof is no infix sign
-  module _ (power : ℕ → Option Powers) (eof : power kEof ≡ none) (script : List ℕ) where
+  module _ (power : ℕ → Option ℕ) (eof : power kEof ≡ none) (script : List ℕ) where
     infixes-pays : {b c : ℕ} (least : ℕ) (n : NodeId) (s : State) → Paid b c s → Pays b (λ m. c) (Q.infixes d power script least n s)
     unfolding Q.infixes
     infixes-pays {b} {c} least n s q = loop-ok (λ m s₁. Paid b c s₁) _
         (λ lhs s₁ q₁. ifKind-ok kAs _ _ s₁ (λ e. cast-pays lhs s₁ q₁ (omega arith)) (cur-ok _ s₁ (by-power lhs s₁ q₁ (power (current (s₁ .left) .kind)) refl)))
         n s q
       where
-        by-least : (lhs : NodeId) (p : Powers) (s₁ : State) → Paid b c s₁ → ¬ (current (s₁ .left) .kind ≡ kEof) → (z : Bool) → Pays b (λ m. c) (elim z as (λ z′. Rule (ControlFlow NodeId)) [ true ↦ R.pure (break lhs) | false ↦ Q.binary d lhs p ] s₁)
+        by-least : (lhs : NodeId) (p : ℕ) (s₁ : State) → Paid b c s₁ → ¬ (current (s₁ .left) .kind ≡ kEof) → (z : Bool) → Pays b (λ m. c) (elim z as (λ z′. Rule (ControlFlow NodeId)) [ true ↦ R.pure (break lhs) | false ↦ Q.binary d lhs p ] s₁)
         by-least lhs p s₁ q₁ e true = pure-ok _ s₁ q₁
         by-least lhs p s₁ q₁ e false = binary-pays lhs p s₁ q₁ e
 
-        by-sign : (lhs : NodeId) (p : Powers) (s₁ : State) → Paid b c s₁ → ¬ (current (s₁ .left) .kind ≡ kEof) → (z : Bool) → Pays b (λ m. c) (elim z as (λ z′. Rule (ControlFlow NodeId)) [ true ↦ R.pure (break lhs) | false ↦ elim (ltb (p .left) least) as (λ z′. Rule (ControlFlow NodeId)) [ true ↦ R.pure (break lhs) | false ↦ Q.binary d lhs p ] ] s₁)
+        by-sign : (lhs : NodeId) (p : ℕ) (s₁ : State) → Paid b c s₁ → ¬ (current (s₁ .left) .kind ≡ kEof) → (z : Bool) → Pays b (λ m. c) (elim z as (λ z′. Rule (ControlFlow NodeId)) [ true ↦ R.pure (break lhs) | false ↦ elim (ltb p least) as (λ z′. Rule (ControlFlow NodeId)) [ true ↦ R.pure (break lhs) | false ↦ Q.binary d lhs p ] ] s₁)
         by-sign lhs p s₁ q₁ e true = pure-ok _ s₁ q₁
-        by-sign lhs p s₁ q₁ e false = by-least lhs p s₁ q₁ e (ltb (p .left) least)
+        by-sign lhs p s₁ q₁ e false = by-least lhs p s₁ q₁ e (ltb p least)
 
-        by-power : (lhs : NodeId) (s₁ : State) → Paid b c s₁ → (o : Option Powers) → power (current (s₁ .left) .kind) ≡ o
-            → Pays b (λ m. c) (elim o as (λ o′. Rule (ControlFlow NodeId)) [ none ↦ R.pure (break lhs) | some p ↦ elim (Q.breaksOff script (current (s₁ .left))) as (λ z′. Rule (ControlFlow NodeId)) [ true ↦ R.pure (break lhs) | false ↦ elim (ltb (p .left) least) as (λ z′. Rule (ControlFlow NodeId)) [ true ↦ R.pure (break lhs) | false ↦ Q.binary d lhs p ] ] ] s₁)
+        by-power : (lhs : NodeId) (s₁ : State) → Paid b c s₁ → (o : Option ℕ) → power (current (s₁ .left) .kind) ≡ o
+            → Pays b (λ m. c) (elim o as (λ o′. Rule (ControlFlow NodeId)) [ none ↦ R.pure (break lhs) | some p ↦ elim (Q.breaksOff script (current (s₁ .left))) as (λ z′. Rule (ControlFlow NodeId)) [ true ↦ R.pure (break lhs) | false ↦ elim (ltb p least) as (λ z′. Rule (ControlFlow NodeId)) [ true ↦ R.pure (break lhs) | false ↦ Q.binary d lhs p ] ] ] s₁)
         by-power lhs s₁ q₁ none e = pure-ok _ s₁ q₁
         by-power lhs s₁ q₁ (some p) e = by-sign lhs p s₁ q₁ (λ z. none≢some p (sym eof ∙ ap power (sym z) ∙ e)) (Q.breaksOff script (current (s₁ .left)))
 
@@ -522,7 +522,7 @@ module _ (d : Readers) (deep : ReadersPay d) where
 
 -- ---- levels
 
-pub readers-pay : (power : ℕ → Option Powers) → power kEof ≡ none → (script : List ℕ) (l : ℕ) → ReadersPay (readers power script l)
+pub readers-pay : (power : ℕ → Option ℕ) → power kEof ≡ none → (script : List ℕ) (l : ℕ) → ReadersPay (readers power script l)
 unfolding readers
 readers-pay power eof script zero = record { prefix = λ s q. fail-ok 10 0 s (broke q); expr = λ least s q. fail-ok 10 0 s (broke q); type = λ s q. fail-ok 10 0 s (broke q) }
 readers-pay power eof script (suc l) =
@@ -546,7 +546,7 @@ synchronizeRoot-pays {E} {b} s q = loop-ok (λ n s′. Paid b 0 s′) _
     (other-ok _ _ s₁ (then-ok _ _ s₁ (advance-pays s₁ q₁ (not-kind _ _ n₁)) (λ x s₂ q₂. pure-ok _ s₂ (broke q₂)))))))))))))
     0 (withDocs [] s) (record { ended = q .ended; paid = omega (arith, q .paid) })
 
-module _ (power : ℕ → Option Powers) (eof : power kEof ≡ none) (script : List ℕ) where
+module _ (power : ℕ → Option ℕ) (eof : power kEof ≡ none) (script : List ℕ) where
   -- eight for each token of the script
   abbrev all : ℕ
   all = 8 * length (begin script .left)

@@ -15,7 +15,7 @@ use Rattle.lex.specs.declared.tok.Token.{Token}
 use Rattle.rules.specs.Tree.{State, Result, ok, err, Tree}
 use Rattle.rules.specs.Combinators as R
 use Rattle.rules.specs.Combinators.{current, withDocs, ControlFlow, continue}
-use Rattle.rules.specs.Rules.{Powers, readers, maxLevels}
+use Rattle.rules.specs.Rules.{readers, maxLevels}
 use Rattle.rules.specs.Parse.{Reading, read, ended, begin, synchronizeRoot, Gathered, merged, recover, parseCollect, parseRootsCollect}
 use Rattle.rules.specs.declared.NodeId.{NodeId}
 use Rattle.rules.proofs.Results.{not-kind, Ends, holds, fails, weaken, ifKind-else, table-ok, entry-ok, entry-else, other-ok, then-ok, pure-ok, Turned, again, out, loop-out}
@@ -182,7 +182,7 @@ module _ (script : List ℕ) where
 
 -- ---- the roots
 
-module _ (power : ℕ → Option Powers) (eof : power kEof ≡ none) (script : List ℕ) where
+module _ (power : ℕ → Option ℕ) (eof : power kEof ≡ none) (script : List ℕ) where
   root-ends : (l : ℕ) {b : Budget} {t c : ℕ} (s : State) → Accounted b t c s → Ends (λ n s′. Accounted (budget s) 1 0 s′) (Fails s) (readers power script (suc l) .prefix s)
   unfolding readers
   root-ends l s q = parsePrefix-ends _ (readers-take power eof script l) s (restart q) (λ s′ z. later z) (λ s′ z d k. waits z d k) (λ d n. stays d n)

@@ -13,7 +13,7 @@ use Rattle.rules.specs.Tree.{Notes, State, Result, ok, err}
 use Rattle.rules.specs.Combinators as R
 use Rattle.rules.specs.Combinators.{Rule, current, Readers, ControlFlow, break}
 use Rattle.rules.specs.Rules as Q
-use Rattle.rules.specs.Rules.{Powers, Cases}
+use Rattle.rules.specs.Rules.{Cases}
 use Rattle.rules.specs.declared.Run.{Run}
 use Rattle.rules.specs.declared.NodeId.{NodeId}
 use Rattle.rules.specs.declared.TypeExprId.{TypeExprId}
@@ -399,11 +399,11 @@ module _ (d : Readers) (deep : ReadersTake d) where
       bind-ok _ _ s₂ (pushNode-counts {t′ = suc t} {c′ = c} 0 _ s₂ q₂ (omega arith)) (λ m s₃ q₃.
       pure-ok _ s₃ q₃)))
 
-  binary-takes : {b : Budget} {t c : ℕ} (n : NodeId) (p : Powers) (s : State) → Accounted b t c s → ¬ (current (s .left) .kind ≡ kEof) → Takes b t c (Q.binary d n p s)
+  binary-takes : {b : Budget} {t c : ℕ} (n : NodeId) (p : ℕ) (s : State) → Accounted b t c s → ¬ (current (s .left) .kind ≡ kEof) → Takes b t c (Q.binary d n p s)
   unfolding Q.binary
   binary-takes {t} {c} n p s q e =
       bind-ok _ _ s (advance-counts s q e) (λ op s₁ q₁.
-      bind-ok _ _ s₁ (expr-takes (p .right) s₁ q₁) (λ rhs s₂ q₂.
+      bind-ok _ _ s₁ (expr-takes (Q.rightPower p) s₁ q₁) (λ rhs s₂ q₂.
       bind-ok _ _ s₂ (pushNode-counts {t′ = suc t} {c′ = c} 0 _ s₂ q₂ (omega arith)) (λ m s₃ q₃.
       pure-ok _ s₃ q₃)))
 
@@ -423,23 +423,23 @@ module _ (d : Readers) (deep : ReadersTake d) where
       called lhs false s₁ q₁ e = pure-ok _ s₁ q₁
 
   -- Eof is no infix sign
-  module _ (power : ℕ → Option Powers) (eof : power kEof ≡ none) (script : List ℕ) where
+  module _ (power : ℕ → Option ℕ) (eof : power kEof ≡ none) (script : List ℕ) where
     infixes-counts : {b : Budget} {t c : ℕ} (least : ℕ) (n : NodeId) (s : State) → Accounted b t c s → Counts b t (λ m. c) (Q.infixes d power script least n s)
     unfolding Q.infixes
     infixes-counts {b} {t} {c} least n s q = loop-ok (λ m s₁. Accounted b t c s₁) _
         (λ lhs s₁ q₁. ifKind-ok kAs _ _ s₁ (λ e. relax (cast-takes lhs s₁ q₁ (omega arith)) (omega arith)) (cur-ok _ s₁ (by-power lhs s₁ q₁ (power (current (s₁ .left) .kind)) refl)))
         n s q
       where
-        by-least : (lhs : NodeId) (p : Powers) (s₁ : State) → Accounted b t c s₁ → ¬ (current (s₁ .left) .kind ≡ kEof) → (z : Bool) → Counts b t (λ m. c) (elim z as (λ z′. Rule (ControlFlow NodeId)) [ true ↦ R.pure (break lhs) | false ↦ Q.binary d lhs p ] s₁)
+        by-least : (lhs : NodeId) (p : ℕ) (s₁ : State) → Accounted b t c s₁ → ¬ (current (s₁ .left) .kind ≡ kEof) → (z : Bool) → Counts b t (λ m. c) (elim z as (λ z′. Rule (ControlFlow NodeId)) [ true ↦ R.pure (break lhs) | false ↦ Q.binary d lhs p ] s₁)
         by-least lhs p s₁ q₁ e true = pure-ok _ s₁ q₁
         by-least lhs p s₁ q₁ e false = relax (binary-takes lhs p s₁ q₁ e) (omega arith)
 
-        by-sign : (lhs : NodeId) (p : Powers) (s₁ : State) → Accounted b t c s₁ → ¬ (current (s₁ .left) .kind ≡ kEof) → (z : Bool) → Counts b t (λ m. c) (elim z as (λ z′. Rule (ControlFlow NodeId)) [ true ↦ R.pure (break lhs) | false ↦ elim (ltb (p .left) least) as (λ z′. Rule (ControlFlow NodeId)) [ true ↦ R.pure (break lhs) | false ↦ Q.binary d lhs p ] ] s₁)
+        by-sign : (lhs : NodeId) (p : ℕ) (s₁ : State) → Accounted b t c s₁ → ¬ (current (s₁ .left) .kind ≡ kEof) → (z : Bool) → Counts b t (λ m. c) (elim z as (λ z′. Rule (ControlFlow NodeId)) [ true ↦ R.pure (break lhs) | false ↦ elim (ltb p least) as (λ z′. Rule (ControlFlow NodeId)) [ true ↦ R.pure (break lhs) | false ↦ Q.binary d lhs p ] ] s₁)
         by-sign lhs p s₁ q₁ e true = pure-ok _ s₁ q₁
-        by-sign lhs p s₁ q₁ e false = by-least lhs p s₁ q₁ e (ltb (p .left) least)
+        by-sign lhs p s₁ q₁ e false = by-least lhs p s₁ q₁ e (ltb p least)
 
-        by-power : (lhs : NodeId) (s₁ : State) → Accounted b t c s₁ → (o : Option Powers) → power (current (s₁ .left) .kind) ≡ o
-            → Counts b t (λ m. c) (elim o as (λ o′. Rule (ControlFlow NodeId)) [ none ↦ R.pure (break lhs) | some p ↦ elim (Q.breaksOff script (current (s₁ .left))) as (λ z′. Rule (ControlFlow NodeId)) [ true ↦ R.pure (break lhs) | false ↦ elim (ltb (p .left) least) as (λ z′. Rule (ControlFlow NodeId)) [ true ↦ R.pure (break lhs) | false ↦ Q.binary d lhs p ] ] ] s₁)
+        by-power : (lhs : NodeId) (s₁ : State) → Accounted b t c s₁ → (o : Option ℕ) → power (current (s₁ .left) .kind) ≡ o
+            → Counts b t (λ m. c) (elim o as (λ o′. Rule (ControlFlow NodeId)) [ none ↦ R.pure (break lhs) | some p ↦ elim (Q.breaksOff script (current (s₁ .left))) as (λ z′. Rule (ControlFlow NodeId)) [ true ↦ R.pure (break lhs) | false ↦ elim (ltb p least) as (λ z′. Rule (ControlFlow NodeId)) [ true ↦ R.pure (break lhs) | false ↦ Q.binary d lhs p ] ] ] s₁)
         by-power lhs s₁ q₁ none e = pure-ok _ s₁ q₁
         by-power lhs s₁ q₁ (some p) e = by-sign lhs p s₁ q₁ (λ z. none≢some p (sym eof ∙ ap power (sym z) ∙ e)) (Q.breaksOff script (current (s₁ .left)))
 
@@ -452,7 +452,7 @@ module _ (d : Readers) (deep : ReadersTake d) where
 
 -- ---- levels
 
-pub readers-take : (power : ℕ → Option Powers) → power kEof ≡ none → (script : List ℕ) (l : ℕ) → ReadersTake (Q.readers power script l)
+pub readers-take : (power : ℕ → Option ℕ) → power kEof ≡ none → (script : List ℕ) (l : ℕ) → ReadersTake (Q.readers power script l)
 unfolding Q.readers
 readers-take power eof script zero = record { prefix = λ s q. fail-ok 10 0 s (forget q); expr = λ least s q. fail-ok 10 0 s here; type = λ s q. fail-ok 10 0 s (forget q) }
 readers-take power eof script (suc l) =

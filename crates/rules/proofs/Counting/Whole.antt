@@ -13,7 +13,7 @@ use Rattle.lex.specs.declared.diagnostic.Diagnostic.{Diagnostic}
 use Rattle.lex.specs.declared.tok.Token.{Token}
 use Rattle.rules.specs.Tree.{State, Result, ok, err, Tree}
 use Rattle.rules.specs.Combinators.{current}
-use Rattle.rules.specs.Rules.{Powers, maxLevels}
+use Rattle.rules.specs.Rules.{maxLevels}
 use Rattle.rules.specs.Parse.{Reading, read, ended, begin, parse, parseRoots}
 use Rattle.rules.proofs.Results.{Ends, holds, fails, weaken-both, ifKind-ok, bind-ok, pure-ok, again, out, loop-out}
 use Rattle.rules.proofs.Counting.Step.{WellEnded, not-empty, pending, budget, Accounted, start, forget, restart, onward}
@@ -73,7 +73,7 @@ read-tree t u es fs e = cc
 pub ended≢read : {P : Type 0} (e : Diagnostic) (t : Tree) (es : List Diagnostic) → ended e ≡ read t es → P
 ended≢read e t es p = let z : _≡_ {A = ℕ} 0 1 = cc in absurd (omega arith)
 
-module _ (power : ℕ → Option Powers) (eof : power kEof ≡ none) (script : List ℕ) where
+module _ (power : ℕ → Option ℕ) (eof : power kEof ≡ none) (script : List ℕ) where
   -- the roots go to the end: the turns of their loop do not run out
   pub parseRoots-ends : Ends (Finished script) (Reached script) (parseRoots power script (begin script))
   unfolding parseRoots

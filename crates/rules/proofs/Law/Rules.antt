@@ -13,7 +13,7 @@ use Rattle.rules.specs.Tree.{Arena, Notes, State, Result, ok, err}
 use Rattle.rules.specs.Combinators as R
 use Rattle.rules.specs.Combinators.{Rule, current, Readers, ControlFlow, break, tokenCells, runCells}
 use Rattle.rules.specs.Rules as Q
-use Rattle.rules.specs.Rules.{Powers, Cases}
+use Rattle.rules.specs.Rules.{Cases}
 use Rattle.rules.specs.Shape.{map₁, map₂, andThen, decoded, chain, number, token, run}
 use Rattle.rules.specs.Law.{Child, aNode, aType, listed, nodeIn, typeIn, fieldIn, paramIn, caseIn, fnIn, childrenOf, innerOf, times, argumentsOf}
 use Rattle.rules.specs.declared.Run.{Run}
@@ -442,11 +442,11 @@ module _ (r : Child) where
           bind-ok _ _ s₂ (pushNode-holds 0 _ (nodeChild n ∷ typeChild t ∷ []) s₂ q₂ (omega arith) (λ id. refl) (λ id. refl)) (λ m s₃ q₃.
           pure-ok _ s₃ q₃)))
 
-      binary-holds : (n : NodeId) (p : Powers) (s : State) → Held r b (nodeChild n ∷ hs) s → Gives r flowChild b hs (Q.binary d n p s)
+      binary-holds : (n : NodeId) (p : ℕ) (s : State) → Held r b (nodeChild n ∷ hs) s → Gives r flowChild b hs (Q.binary d n p s)
       unfolding Q.binary childrenOf times argumentsOf
       binary-holds n p s q =
           bind-ok _ _ s (advance-holds s q) (λ op s₁ q₁.
-          bind-ok _ _ s₁ (deep .expr (p .right) s₁ q₁) (λ rhs s₂ q₂.
+          bind-ok _ _ s₁ (deep .expr (Q.rightPower p) s₁ q₁) (λ rhs s₂ q₂.
           bind-ok _ _ s₂ (pushNode-holds 0 _ (nodeChild n ∷ nodeChild rhs ∷ []) s₂ q₂ (omega arith) (λ id. refl) (λ id. refl)) (λ m s₃ q₃.
           pure-ok _ s₃ q₃)))
 
@@ -465,23 +465,23 @@ module _ (r : Child) where
           called lhs true s₁ q₁ = call-holds lhs s₁ q₁
           called lhs false s₁ q₁ = pure-ok _ s₁ q₁
 
-      module _ (power : ℕ → Option Powers) (script : List ℕ) where
+      module _ (power : ℕ → Option ℕ) (script : List ℕ) where
         infixes-holds : (least : ℕ) (n : NodeId) (s : State) → Held r b (nodeChild n ∷ hs) s → Gives r nodeChild b hs (Q.infixes d power script least n s)
         unfolding Q.infixes
         infixes-holds least n s q = loop-ok (λ m s₁. Held r b (nodeChild m ∷ hs) s₁) _
             (λ lhs s₁ q₁. ifKind-ok kAs _ _ s₁ (λ e. cast-holds lhs s₁ q₁) (cur-ok _ s₁ (by-power lhs s₁ q₁ (power (current (s₁ .left) .kind)))))
             n s q
           where
-            by-least : (lhs : NodeId) (p : Powers) (s₁ : State) → Held r b (nodeChild lhs ∷ hs) s₁ → (z : Bool) → Gives r flowChild b hs (elim z as (λ z′. Rule (ControlFlow NodeId)) [ true ↦ R.pure (break lhs) | false ↦ Q.binary d lhs p ] s₁)
+            by-least : (lhs : NodeId) (p : ℕ) (s₁ : State) → Held r b (nodeChild lhs ∷ hs) s₁ → (z : Bool) → Gives r flowChild b hs (elim z as (λ z′. Rule (ControlFlow NodeId)) [ true ↦ R.pure (break lhs) | false ↦ Q.binary d lhs p ] s₁)
             by-least lhs p s₁ q₁ true = pure-ok _ s₁ q₁
             by-least lhs p s₁ q₁ false = binary-holds lhs p s₁ q₁
 
-            by-sign : (lhs : NodeId) (p : Powers) (s₁ : State) → Held r b (nodeChild lhs ∷ hs) s₁ → (z : Bool) → Gives r flowChild b hs (elim z as (λ z′. Rule (ControlFlow NodeId)) [ true ↦ R.pure (break lhs) | false ↦ elim (ltb (p .left) least) as (λ z′. Rule (ControlFlow NodeId)) [ true ↦ R.pure (break lhs) | false ↦ Q.binary d lhs p ] ] s₁)
+            by-sign : (lhs : NodeId) (p : ℕ) (s₁ : State) → Held r b (nodeChild lhs ∷ hs) s₁ → (z : Bool) → Gives r flowChild b hs (elim z as (λ z′. Rule (ControlFlow NodeId)) [ true ↦ R.pure (break lhs) | false ↦ elim (ltb p least) as (λ z′. Rule (ControlFlow NodeId)) [ true ↦ R.pure (break lhs) | false ↦ Q.binary d lhs p ] ] s₁)
             by-sign lhs p s₁ q₁ true = pure-ok _ s₁ q₁
-            by-sign lhs p s₁ q₁ false = by-least lhs p s₁ q₁ (ltb (p .left) least)
+            by-sign lhs p s₁ q₁ false = by-least lhs p s₁ q₁ (ltb p least)
 
-            by-power : (lhs : NodeId) (s₁ : State) → Held r b (nodeChild lhs ∷ hs) s₁ → (o : Option Powers)
-                → Gives r flowChild b hs (elim o as (λ o′. Rule (ControlFlow NodeId)) [ none ↦ R.pure (break lhs) | some p ↦ elim (Q.breaksOff script (current (s₁ .left))) as (λ z′. Rule (ControlFlow NodeId)) [ true ↦ R.pure (break lhs) | false ↦ elim (ltb (p .left) least) as (λ z′. Rule (ControlFlow NodeId)) [ true ↦ R.pure (break lhs) | false ↦ Q.binary d lhs p ] ] ] s₁)
+            by-power : (lhs : NodeId) (s₁ : State) → Held r b (nodeChild lhs ∷ hs) s₁ → (o : Option ℕ)
+                → Gives r flowChild b hs (elim o as (λ o′. Rule (ControlFlow NodeId)) [ none ↦ R.pure (break lhs) | some p ↦ elim (Q.breaksOff script (current (s₁ .left))) as (λ z′. Rule (ControlFlow NodeId)) [ true ↦ R.pure (break lhs) | false ↦ elim (ltb p least) as (λ z′. Rule (ControlFlow NodeId)) [ true ↦ R.pure (break lhs) | false ↦ Q.binary d lhs p ] ] ] s₁)
             by-power lhs s₁ q₁ none = pure-ok _ s₁ q₁
             by-power lhs s₁ q₁ (some p) = by-sign lhs p s₁ q₁ (Q.breaksOff script (current (s₁ .left)))
 
@@ -494,7 +494,7 @@ module _ (r : Child) where
 
   -- ---- levels
 
-  pub readers-hold : (power : ℕ → Option Powers) (script : List ℕ) (l : ℕ) → ReadersHold (Q.readers power script l)
+  pub readers-hold : (power : ℕ → Option ℕ) (script : List ℕ) (l : ℕ) → ReadersHold (Q.readers power script l)
   unfolding Q.readers
   readers-hold power script zero = record { prefix = λ s q. fail-ok 10 0 s (drop q); expr = λ least s q. fail-ok 10 0 s (drop q); type = λ s q. fail-ok 10 0 s (drop q) }
   readers-hold power script (suc l) =

@@ -10,7 +10,6 @@ use native.Mathlib.Omega.{arith}
 use Rattle.lex.specs.Kind.{kEof}
 use Rattle.lex.specs.declared.diagnostic.Diagnostic.{Diagnostic}
 use Rattle.rules.specs.Tree.{Arena, Tree}
-use Rattle.rules.specs.Rules.{Powers}
 use Rattle.rules.specs.Parse.{read, parse, parseCollect}
 use Rattle.rules.specs.Layout.{nodeWidth}
 use Rattle.rules.specs.Shape.{TypeShape, Shape, map₁, map₂, andThen, lookup, tabulate, typeIn, nodeIn, typeAt, nodeAt, shapeOf}
@@ -235,7 +234,7 @@ module _ (script : List ℕ) (t : Tree) where
   back-there ys e z = let r = right-back ys z in (r .0, back-and-there (parentOf (t .arena)) 0 (length (t .arena .nodes)) ys e (r .1))
 
 -- both modes
-module _ (power : ℕ → Option Powers) (eof : power kEof ≡ none) (script : List ℕ) (tree : Tree) where
+module _ (power : ℕ → Option ℕ) (eof : power kEof ≡ none) (script : List ℕ) (tree : Tree) where
   pub strict-moves : parse power script ≡ read tree [] → turnedAway script tree ≡ 0
   strict-moves e = not-turned-away script tree (parse-law power eof script tree e .once) (allShaped power eof script tree e) (shaped power eof script tree e)
 

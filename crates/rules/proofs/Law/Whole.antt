@@ -13,7 +13,7 @@ use Rattle.lex.specs.declared.diagnostic.Diagnostic.{Diagnostic}
 use Rattle.rules.specs.Tree.{Arena, State, Result, ok, err, Tree}
 use Rattle.rules.specs.Combinators as R
 use Rattle.rules.specs.Combinators.{withDocs, ControlFlow, continue}
-use Rattle.rules.specs.Rules.{Powers, readers, maxLevels, stageOne}
+use Rattle.rules.specs.Rules.{readers, maxLevels, stageOne}
 use Rattle.rules.specs.Parse.{Reading, read, ended, begin, synchronizeRoot, Gathered, merged, recover, parse, parseRoots, parseCollect, parseRootsCollect}
 use Rattle.rules.specs.Promise.{maxBytes, Arrays, tooShort, holding, Outcome, outcome, promised, numbersOf}
 use Rattle.rules.specs.declared.Parsed.the-variants as P
@@ -48,7 +48,7 @@ module _ (r : Child) where
   unfolding begin times allArguments
   begin-held script = record { byNodes = 0; byTypes = 0; nodes = named[]; types = named[]; owned = omega arith; values = refl; more = []; grown = refl }
 
-  module _ (power : ℕ → Option Powers) (script : List ℕ) where
+  module _ (power : ℕ → Option ℕ) (script : List ℕ) where
     parseRoots-holds : Ends (λ roots s. RootsHeld r roots (s .arena)) (λ s. Unit {0}) (parseRoots power script (begin script))
     unfolding parseRoots
     parseRoots-holds = loop-ok (λ roots s. RootsHeld r roots (s .arena)) _
@@ -191,7 +191,7 @@ ascending-rises {n} (asc-snoc {es} e a l) =
     (subst Rising p (rising-snoc (afters es) (e .after) (z .0) (z .1)), subst (λ (ns : List ℕ). LastBelow ns n) p (last-snoc (afters es) (e .after) n l))
 
 -- from the beginning of one resynchronising to the beginning of the next at least one token is taken
-pub resynchronisings-rise : (power : ℕ → Option Powers) → power kEof ≡ none → (script : List ℕ) → Rising (resynchronisings power script)
+pub resynchronisings-rise : (power : ℕ → Option ℕ) → power kEof ≡ none → (script : List ℕ) → Rising (resynchronisings power script)
 unfolding resynchronisings
 resynchronisings-rise power eof script = go (parseRootsCollect power script (begin script)) (parseRootsCollect-ends power eof script)
   where
@@ -253,7 +253,7 @@ module _ (tree : Tree) (q : (r : Child) → RootsHeld r (tree .roots) (tree .are
       often : (c : Child) → times c (total (aNode 0) .all) ≤ made c (length (tree .arena .nodes)) (length (tree .arena .types))
       often c = subst (λ (l : List Child). times c l ≤ made c (length (tree .arena .nodes)) (length (tree .arena .types))) (some-inj _ _ (sym (total c .found) ∙ total (aNode 0) .found)) (total c .often)
 
-module _ (power : ℕ → Option Powers) (eof : power kEof ≡ none) (script : List ℕ) (tree : Tree) where
+module _ (power : ℕ → Option ℕ) (eof : power kEof ≡ none) (script : List ℕ) (tree : Tree) where
   pub parse-law : parse power script ≡ read tree [] → Law script tree []
   unfolding parse
   parse-law e = law tree (λ r. go r (parseRoots power script (begin script)) (parseRoots-holds r power script) e) script [] (parse-bounded power eof script tree e) tt
@@ -277,7 +277,7 @@ module _ (power : ℕ → Option Powers) (eof : power kEof ≡ none) (script : L
 -- ---- what is delivered
 
 -- strict mode gathers nothing
-pub parse-errors : (power : ℕ → Option Powers) (script : List ℕ) (tree : Tree) (es : List Diagnostic) → parse power script ≡ read tree es → es ≡ []
+pub parse-errors : (power : ℕ → Option ℕ) (script : List ℕ) (tree : Tree) (es : List Diagnostic) → parse power script ≡ read tree es → es ≡ []
 unfolding parse
 parse-errors power script tree es e = go (parseRoots power script (begin script)) e
   where
@@ -286,7 +286,7 @@ parse-errors power script tree es e = go (parseRoots power script (begin script)
     go (err x s) h = ended≢read x tree es h
 
 -- Eof is no infix sign
-pub treeLaw : (power : ℕ → Option Powers) → power kEof ≡ none → TreeLaw power
+pub treeLaw : (power : ℕ → Option ℕ) → power kEof ≡ none → TreeLaw power
 treeLaw power eof = record {
   strict = λ script tree es e. parse-law power eof script tree (e ∙ ap (read tree) (parse-errors power script tree es e));
   collecting = λ script tree es e. parseCollect-law power eof script tree es e;
@@ -326,7 +326,7 @@ module _ (how : List ℕ → Reading) (script begun : List ℕ) (lawful : (tree 
       by-length false e = by-room (tooShort script l) e
 
 -- both modes, whatever is lent
-module _ {power : ℕ → Option Powers} (laws : TreeLaw power) (script : List ℕ) (l : Arrays) where
+module _ {power : ℕ → Option ℕ} (laws : TreeLaw power) (script : List ℕ) (l : Arrays) where
   pub strict-delivered : numbersOf (promised (parse power) script l .answer) .number ≡ 0 → Delivered script [] l (promised (parse power) script l)
   strict-delivered = delivered (parse power) script [] (laws .strict script) (parse-error power script) l
 

@@ -17,7 +17,7 @@ use Rattle.rules.specs.Tree.{Notes, State, Result, ok, err}
 use Rattle.rules.specs.Combinators as R
 use Rattle.rules.specs.Combinators.{Rule, current, Readers, ControlFlow, continue, break, tokenCells, runCells}
 use Rattle.rules.specs.Rules as Q
-use Rattle.rules.specs.Rules.{Powers, Cases, isCallableTarget}
+use Rattle.rules.specs.Rules.{Cases, isCallableTarget}
 use Rattle.rules.specs.Merge.{Offsets, behind, movedBy, movedToken, movedRun, movedNodeId, movedTypeId, movedNode, movedType, added, nodeNumber, tokenRoles, typedRoles, fieldRoles, caseRoles, fnRoles, Held, split, heldByFn, heldByFns, heldByNode, heldByType, beginsItem}
 use Rattle.rules.specs.declared.Run.{Run}
 use Rattle.rules.specs.declared.NodeId.{NodeId}
@@ -566,11 +566,11 @@ module _ (S : Setting) where
         bind-match _ _ _ _ s₂ t₂ (pushNode-match S [] 0 0 _ _ s₂ t₂ (z .1 .beside) refl (λ v j. N.Cast (by S .values + v) (y .0 j) (e j) (z .0 j)) (λ v cs. refl)) (λ m m′ s₃ t₃ w.
         pure-match _ _ s₃ t₃ (goes-on (w .0) (record { at = z .1 .at; less = omega (arith, y .1 .less, z .1 .less); beside = w .1 })))))
 
-    binary-match : {ws : List Held} {n : ℕ} (p : Powers) (a b : NodeId) → NodeIs S a b → (s t : State) → Beside S ws n s t → ¬ (current (s .left) .kind ≡ kEof) → Matches (GoesOn ws n) (Q.binary d a p s) (Q.binary d′ b p t)
+    binary-match : {ws : List Held} {n : ℕ} (p : ℕ) (a b : NodeId) → NodeIs S a b → (s t : State) → Beside S ws n s t → ¬ (current (s .left) .kind ≡ kEof) → Matches (GoesOn ws n) (Q.binary d a p s) (Q.binary d′ b p t)
     unfolding Q.binary movedNode heldByNode
     binary-match {ws} p a b e s t q k =
         bind-match _ _ _ _ s t (advance-match S s t q k) (λ x x′ s₁ t₁ y.
-        bind-match _ _ _ _ s₁ t₁ (deep .expr (p .right) ws _ s₁ t₁ (y .1 .beside)) (λ r r′ s₂ t₂ z.
+        bind-match _ _ _ _ s₁ t₁ (deep .expr (Q.rightPower p) ws _ s₁ t₁ (y .1 .beside)) (λ r r′ s₂ t₂ z.
         bind-match _ _ _ _ s₂ t₂ (pushNode-match S [] 0 0 _ _ s₂ t₂ (z .1 .beside) refl (λ v j. N.Bin (by S .values + v) (y .0 j) (e j) (z .0 j)) (λ v cs. refl)) (λ m m′ s₃ t₃ w.
         pure-match _ _ s₃ t₃ (goes-on (w .0) (record { at = z .1 .at; less = omega (arith, y .1 .less, z .1 .less); beside = w .1 })))))
 
@@ -603,7 +603,7 @@ module _ (S : Setting) where
         called m x x′ f h false true g s₂ t₂ w k = false≢true (sym g)
 
     -- what begins an item is no infix sign
-    module _ (power : ℕ → Option Powers) (no-sign : (k : ℕ) → beginsItem k ≡ true → power k ≡ none) where
+    module _ (power : ℕ → Option ℕ) (no-sign : (k : ℕ) → beginsItem k ≡ true → power k ≡ none) where
       infixes-match : {ws : List Held} {n : ℕ} (least : ℕ) (a b : NodeId) → NodeIs S a b → (s t : State) → Beside S ws n s t → Matches (After S (NodeIs S) ws n) (Q.infixes d power (S .σ) least a s) (Q.infixes d′ power (S .τ) least b t)
       unfolding Q.infixes beginsItem R.choose
       infixes-match {ws} {n} least a b e s t q = loop-match (Node-at ws n) (After S (NodeIs S) ws n) Never _ _
@@ -611,40 +611,40 @@ module _ (S : Setting) where
           cur-match _ _ s₁ t₁ (sign m x x′ (z .0) (z .2) s₁ t₁ (z .1) (front S (z .1)))))
           (length (q .tokens)) a b s t (e, sharp S q, q .few) (inside-first S q) (inside-second S q)
         where
-          by-least : (m : ℕ) (x x′ : NodeId) → NodeIs S x x′ → m ≤ n → (p : Powers) (s₁ t₁ : State) → Beside S ws m s₁ t₁ → ¬ (current (s₁ .left) .kind ≡ kEof) → (z : Bool)
+          by-least : (m : ℕ) (x x′ : NodeId) → NodeIs S x x′ → m ≤ n → (p : ℕ) (s₁ t₁ : State) → Beside S ws m s₁ t₁ → ¬ (current (s₁ .left) .kind ≡ kEof) → (z : Bool)
               → Match (Turn (Node-at ws n) (After S (NodeIs S) ws n) m) (TurnDoomed Never) ((elim z as (λ z′. Rule (ControlFlow NodeId)) [ true ↦ R.pure (break x) | false ↦ Q.binary d x p ]) s₁) ((elim z as (λ z′. Rule (ControlFlow NodeId)) [ true ↦ R.pure (break x′) | false ↦ Q.binary d′ x′ p ]) t₁)
           by-least m x x′ f h p s₁ t₁ w k true = pure-match _ _ s₁ t₁ (out (f, raise S w h))
           by-least m x x′ f h p s₁ t₁ w k false = turns h (binary-match p x x′ f s₁ t₁ w k)
 
-          by-break : (m : ℕ) (x x′ : NodeId) → NodeIs S x x′ → m ≤ n → (p : Powers) (s₁ t₁ : State) → Beside S ws m s₁ t₁ → ¬ (current (s₁ .left) .kind ≡ kEof) → (z : Bool)
+          by-break : (m : ℕ) (x x′ : NodeId) → NodeIs S x x′ → m ≤ n → (p : ℕ) (s₁ t₁ : State) → Beside S ws m s₁ t₁ → ¬ (current (s₁ .left) .kind ≡ kEof) → (z : Bool)
               → Match (Turn (Node-at ws n) (After S (NodeIs S) ws n) m) (TurnDoomed Never)
-              ((elim z as (λ z′. Rule (ControlFlow NodeId)) [ true ↦ R.pure (break x) | false ↦ elim (ltb (p .left) least) as (λ z′. Rule (ControlFlow NodeId)) [ true ↦ R.pure (break x) | false ↦ Q.binary d x p ] ]) s₁)
-              ((elim z as (λ z′. Rule (ControlFlow NodeId)) [ true ↦ R.pure (break x′) | false ↦ elim (ltb (p .left) least) as (λ z′. Rule (ControlFlow NodeId)) [ true ↦ R.pure (break x′) | false ↦ Q.binary d′ x′ p ] ]) t₁)
+              ((elim z as (λ z′. Rule (ControlFlow NodeId)) [ true ↦ R.pure (break x) | false ↦ elim (ltb p least) as (λ z′. Rule (ControlFlow NodeId)) [ true ↦ R.pure (break x) | false ↦ Q.binary d x p ] ]) s₁)
+              ((elim z as (λ z′. Rule (ControlFlow NodeId)) [ true ↦ R.pure (break x′) | false ↦ elim (ltb p least) as (λ z′. Rule (ControlFlow NodeId)) [ true ↦ R.pure (break x′) | false ↦ Q.binary d′ x′ p ] ]) t₁)
           by-break m x x′ f h p s₁ t₁ w k true = pure-match _ _ s₁ t₁ (out (f, raise S w h))
-          by-break m x x′ f h p s₁ t₁ w k false = by-least m x x′ f h p s₁ t₁ w k (ltb (p .left) least)
+          by-break m x x′ f h p s₁ t₁ w k false = by-least m x x′ f h p s₁ t₁ w k (ltb p least)
 
-          by-power : (m : ℕ) (x x′ : NodeId) → NodeIs S x x′ → m ≤ n → (s₁ t₁ : State) → Beside S ws m s₁ t₁ → ¬ (current (s₁ .left) .kind ≡ kEof) → (z : Bool) (o : Option Powers)
+          by-power : (m : ℕ) (x x′ : NodeId) → NodeIs S x x′ → m ≤ n → (s₁ t₁ : State) → Beside S ws m s₁ t₁ → ¬ (current (s₁ .left) .kind ≡ kEof) → (z : Bool) (o : Option ℕ)
               → Match (Turn (Node-at ws n) (After S (NodeIs S) ws n) m) (TurnDoomed Never)
-              ((elim o as (λ o′. Rule (ControlFlow NodeId)) [ none ↦ R.pure (break x) | some p ↦ elim z as (λ z′. Rule (ControlFlow NodeId)) [ true ↦ R.pure (break x) | false ↦ elim (ltb (p .left) least) as (λ z′. Rule (ControlFlow NodeId)) [ true ↦ R.pure (break x) | false ↦ Q.binary d x p ] ] ]) s₁)
-              ((elim o as (λ o′. Rule (ControlFlow NodeId)) [ none ↦ R.pure (break x′) | some p ↦ elim z as (λ z′. Rule (ControlFlow NodeId)) [ true ↦ R.pure (break x′) | false ↦ elim (ltb (p .left) least) as (λ z′. Rule (ControlFlow NodeId)) [ true ↦ R.pure (break x′) | false ↦ Q.binary d′ x′ p ] ] ]) t₁)
+              ((elim o as (λ o′. Rule (ControlFlow NodeId)) [ none ↦ R.pure (break x) | some p ↦ elim z as (λ z′. Rule (ControlFlow NodeId)) [ true ↦ R.pure (break x) | false ↦ elim (ltb p least) as (λ z′. Rule (ControlFlow NodeId)) [ true ↦ R.pure (break x) | false ↦ Q.binary d x p ] ] ]) s₁)
+              ((elim o as (λ o′. Rule (ControlFlow NodeId)) [ none ↦ R.pure (break x′) | some p ↦ elim z as (λ z′. Rule (ControlFlow NodeId)) [ true ↦ R.pure (break x′) | false ↦ elim (ltb p least) as (λ z′. Rule (ControlFlow NodeId)) [ true ↦ R.pure (break x′) | false ↦ Q.binary d′ x′ p ] ] ]) t₁)
           by-power m x x′ f h s₁ t₁ w k z none = pure-match _ _ s₁ t₁ (out (f, raise S w h))
           by-power m x x′ f h s₁ t₁ w k z (some p) = by-break m x x′ f h p s₁ t₁ w k z
 
-          neither : (m : ℕ) (x x′ : NodeId) → NodeIs S x x′ → m ≤ n → (s₁ t₁ : State) → Beside S ws m s₁ t₁ → (z z′ : Bool) (o o′ : Option Powers) → o ≡ none → o′ ≡ none
+          neither : (m : ℕ) (x x′ : NodeId) → NodeIs S x x′ → m ≤ n → (s₁ t₁ : State) → Beside S ws m s₁ t₁ → (z z′ : Bool) (o o′ : Option ℕ) → o ≡ none → o′ ≡ none
               → Match (Turn (Node-at ws n) (After S (NodeIs S) ws n) m) (TurnDoomed Never)
-              ((elim o as (λ o′. Rule (ControlFlow NodeId)) [ none ↦ R.pure (break x) | some p ↦ elim z as (λ z′. Rule (ControlFlow NodeId)) [ true ↦ R.pure (break x) | false ↦ elim (ltb (p .left) least) as (λ z′. Rule (ControlFlow NodeId)) [ true ↦ R.pure (break x) | false ↦ Q.binary d x p ] ] ]) s₁)
-              ((elim o′ as (λ o′. Rule (ControlFlow NodeId)) [ none ↦ R.pure (break x′) | some p ↦ elim z′ as (λ z′. Rule (ControlFlow NodeId)) [ true ↦ R.pure (break x′) | false ↦ elim (ltb (p .left) least) as (λ z′. Rule (ControlFlow NodeId)) [ true ↦ R.pure (break x′) | false ↦ Q.binary d′ x′ p ] ] ]) t₁)
+              ((elim o as (λ o′. Rule (ControlFlow NodeId)) [ none ↦ R.pure (break x) | some p ↦ elim z as (λ z′. Rule (ControlFlow NodeId)) [ true ↦ R.pure (break x) | false ↦ elim (ltb p least) as (λ z′. Rule (ControlFlow NodeId)) [ true ↦ R.pure (break x) | false ↦ Q.binary d x p ] ] ]) s₁)
+              ((elim o′ as (λ o′. Rule (ControlFlow NodeId)) [ none ↦ R.pure (break x′) | some p ↦ elim z′ as (λ z′. Rule (ControlFlow NodeId)) [ true ↦ R.pure (break x′) | false ↦ elim (ltb p least) as (λ z′. Rule (ControlFlow NodeId)) [ true ↦ R.pure (break x′) | false ↦ Q.binary d′ x′ p ] ] ]) t₁)
           neither m x x′ f h s₁ t₁ w z z′ none none g g′ = pure-match _ _ s₁ t₁ (out (f, raise S w h))
           neither m x x′ f h s₁ t₁ w z z′ none (some p) g g′ = none≢some p (sym g′)
           neither m x x′ f h s₁ t₁ w z z′ (some p) o′ g g′ = none≢some p (sym g)
 
           sign : (m : ℕ) (x x′ : NodeId) → NodeIs S x x′ → m ≤ n → (s₁ t₁ : State) → Beside S ws m s₁ t₁ → Front S ws s₁ t₁ → Match (Turn (Node-at ws n) (After S (NodeIs S) ws n) m) (TurnDoomed Never) (Q.signStep d power (S .σ) least x (current (s₁ .left)) s₁) (Q.signStep d′ power (S .τ) least x′ (current (t₁ .left)) t₁)
           sign m x x′ f h s₁ t₁ w (inside g i) =
-              subst (λ (o : Option Powers). Match (Turn (Node-at ws n) (After S (NodeIs S) ws n) m) (TurnDoomed Never) (Q.signStep d power (S .σ) least x (current (s₁ .left)) s₁)
-              ((elim o as (λ o′. Rule (ControlFlow NodeId)) [ none ↦ R.pure (break x′) | some p ↦ elim (Q.breaksOff (S .τ) (current (t₁ .left))) as (λ z′. Rule (ControlFlow NodeId)) [ true ↦ R.pure (break x′) | false ↦ elim (ltb (p .left) least) as (λ z′. Rule (ControlFlow NodeId)) [ true ↦ R.pure (break x′) | false ↦ Q.binary d′ x′ p ] ] ]) t₁))
+              subst (λ (o : Option ℕ). Match (Turn (Node-at ws n) (After S (NodeIs S) ws n) m) (TurnDoomed Never) (Q.signStep d power (S .σ) least x (current (s₁ .left)) s₁)
+              ((elim o as (λ o′. Rule (ControlFlow NodeId)) [ none ↦ R.pure (break x′) | some p ↦ elim (Q.breaksOff (S .τ) (current (t₁ .left))) as (λ z′. Rule (ControlFlow NodeId)) [ true ↦ R.pure (break x′) | false ↦ elim (ltb p least) as (λ z′. Rule (ControlFlow NodeId)) [ true ↦ R.pure (break x′) | false ↦ Q.binary d′ x′ p ] ] ]) t₁))
               (ap power (sym (same-kind S _ _ g)))
               (subst (λ (z : Bool). Match (Turn (Node-at ws n) (After S (NodeIs S) ws n) m) (TurnDoomed Never) (Q.signStep d power (S .σ) least x (current (s₁ .left)) s₁)
-              ((elim (power (current (s₁ .left) .kind)) as (λ o′. Rule (ControlFlow NodeId)) [ none ↦ R.pure (break x′) | some p ↦ elim z as (λ z′. Rule (ControlFlow NodeId)) [ true ↦ R.pure (break x′) | false ↦ elim (ltb (p .left) least) as (λ z′. Rule (ControlFlow NodeId)) [ true ↦ R.pure (break x′) | false ↦ Q.binary d′ x′ p ] ] ]) t₁))
+              ((elim (power (current (s₁ .left) .kind)) as (λ o′. Rule (ControlFlow NodeId)) [ none ↦ R.pure (break x′) | some p ↦ elim z as (λ z′. Rule (ControlFlow NodeId)) [ true ↦ R.pure (break x′) | false ↦ elim (ltb p least) as (λ z′. Rule (ControlFlow NodeId)) [ true ↦ R.pure (break x′) | false ↦ Q.binary d′ x′ p ] ] ]) t₁))
               (sym (ap (Q.breaksOff (S .τ)) g ∙ i .1)) (by-power m x x′ f h s₁ t₁ w (i .0) (Q.breaksOff (S .σ) (current (s₁ .left))) (power (current (s₁ .left) .kind))))
           sign m x x′ f h s₁ t₁ w (atEnd g i z) = neither m x x′ f h s₁ t₁ w (Q.breaksOff (S .σ) (current (s₁ .left))) (Q.breaksOff (S .τ) (current (t₁ .left))) (power (current (s₁ .left) .kind)) (power (current (t₁ .left) .kind)) (ap power g ∙ no-sign kEof eof-begins) (ap (λ (c : Token). power (c .kind)) i ∙ no-sign (S .u .kind) (S .begins))
 
@@ -657,7 +657,7 @@ module _ (S : Setting) where
 
   -- ---- levels
 
-  pub readers-match : (power : ℕ → Option Powers) → ((k : ℕ) → beginsItem k ≡ true → power k ≡ none) → (l : ℕ) → ReadersMatch (Q.readers power (S .σ) l) (Q.readers power (S .τ) l)
+  pub readers-match : (power : ℕ → Option ℕ) → ((k : ℕ) → beginsItem k ≡ true → power k ≡ none) → (l : ℕ) → ReadersMatch (Q.readers power (S .σ) l) (Q.readers power (S .τ) l)
   unfolding Q.readers
   readers-match power no-sign zero = record { prefix = λ ws n s t q. fail-match 10 0 s _; expr = λ least ws n s t q. fail-match 10 0 s _; type = λ ws n s t q. fail-match 10 0 s _ }
   readers-match power no-sign (suc l) =

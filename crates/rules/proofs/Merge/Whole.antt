@@ -21,7 +21,7 @@ use Rattle.lex.proofs.Steps.{Forward, cut-ind}
 use Rattle.rules.specs.Tree.{Arena, emptyArena, State, Result, ok, err, Tree}
 use Rattle.rules.specs.Combinators as R
 use Rattle.rules.specs.Combinators.{Rule, current, choose, ControlFlow, continue, break, iterate, loop}
-use Rattle.rules.specs.Rules.{Powers, breaksOff, stageOne, maxLevels}
+use Rattle.rules.specs.Rules.{breaksOff, stageOne, maxLevels}
 use Rattle.rules.specs.Parse.{Reading, read, ended, begin, parse, parseRoots, root}
 use Rattle.rules.specs.Merge.{Offsets, behind, movedBy, movedToken, movedRun, movedNodeId, movedTypeId, movedNode, movedType, Role, fixed, position, nodeNumber, typeNumber, place, value, added, Held, mergedArena, mergedTree, joined, beginsItem, docsAtEnd, Joinable, Joins}
 use Rattle.rules.specs.declared.Run.{Run}
@@ -248,7 +248,7 @@ ok-inj a b s t e = (cc, cc)
 err≢ok : {A P : Type 0} (x : Diagnostic) (s : State) (a : A) (t : State) → err x s ≡ ok a t → P
 err≢ok x s a t e = let z : _≡_ {A = ℕ} 0 1 = cc in absurd (omega arith)
 
-module _ (power : ℕ → Option Powers) (unsigned : (k : ℕ) → beginsItem k ≡ true → power k ≡ none) where
+module _ (power : ℕ → Option ℕ) (unsigned : (k : ℕ) → beginsItem k ≡ true → power k ≡ none) where
   -- a turn of the loop over roots
   abbrev rootTurn : List ℕ → List ℕ → Rule (ControlFlow (List ℕ))
   rootTurn script roots = R.ifKind kEof (R.pure (break roots)) (R._>>=_ (root power script) (λ n. R.pure (continue (roots ++ (n .0 ∷ [])))))

@@ -13,7 +13,7 @@ use Rattle.lex.specs.declared.tok.Token.{Token}
 use Rattle.rules.specs.Tree.{Arena, State, Result, ok, err, Tree}
 use Rattle.rules.specs.Combinators as R
 use Rattle.rules.specs.Combinators.{rest, withDocs, ControlFlow, continue}
-use Rattle.rules.specs.Rules.{Powers, readers, maxLevels}
+use Rattle.rules.specs.Rules.{readers, maxLevels}
 use Rattle.rules.specs.Parse.{Reading, read, ended, begin, synchronizeRoot, Gathered, merged, recover, parseCollect, parseRootsCollect}
 use Rattle.rules.specs.Shape.{Shape, Shapes, noShape, shape, nodeAt, shapeOf}
 use Rattle.rules.specs.declared.NodeId.{NodeId}
@@ -82,7 +82,7 @@ module _ (script : List ℕ) where
     pub are : Are (nodeAt script (s .arena)) roots values
     pub invariant : Invariant script s
 
-  module _ (power : ℕ → Option Powers) (eof : power kEof ≡ none) where
+  module _ (power : ℕ → Option ℕ) (eof : power kEof ≡ none) where
     abbrev Shaped : Gathered → State → Type 0
     Shaped g s = RootsShaped (g .roots) s
 
@@ -107,7 +107,7 @@ module _ (script : List ℕ) where
     unfolding parseRootsCollect
     parseRootsCollect-shaped = loop-ok Shaped (turn power eof script) turn-shaped (record { roots = []; errors = [] }) (begin script) (record { values = []; are = are[]; invariant = begin-invariant script })
 
-module _ (power : ℕ → Option Powers) (eof : power kEof ≡ none) (script : List ℕ) (tree : Tree) where
+module _ (power : ℕ → Option ℕ) (eof : power kEof ≡ none) (script : List ℕ) (tree : Tree) where
   -- every tree that collecting mode returns has a shape
   pub shapedCollect : (es : List Diagnostic) → parseCollect power script ≡ read tree es → (σs : Shapes) × (shapeOf script tree ≡ some σs)
   unfolding parseCollect shapeOf

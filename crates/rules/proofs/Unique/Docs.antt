@@ -16,7 +16,7 @@ use Rattle.rules.specs.Tree.{Notes, State, Result, ok, err, Tree}
 use Rattle.rules.specs.Combinators as R
 use Rattle.rules.specs.Combinators.{Rule, current, rest, Readers, ControlFlow, break, withDocs}
 use Rattle.rules.specs.Rules as Q
-use Rattle.rules.specs.Rules.{Powers, Cases, readers, stageOne, maxLevels}
+use Rattle.rules.specs.Rules.{Cases, readers, stageOne, maxLevels}
 use Rattle.rules.specs.Parse.{Reading, read, ended, begin, parse, parseRoots}
 use Rattle.rules.specs.Strike.{noDocBeforeImport, noDocBeforeImportOrEof}
 use Rattle.rules.specs.declared.Run.{Run}
@@ -479,11 +479,11 @@ module _ (r : Readers) (deep : ReadersKeep r) where
       bind-ok _ _ s₂ (pushNode-keeps 0 _ s₂ d₂) (λ p s₃ d₃.
       pure-ok _ s₃ d₃)))
 
-  binary-keeps : (n : NodeId) (p : Powers) → KeepsAt (Q.binary r n p)
+  binary-keeps : (n : NodeId) (p : ℕ) → KeepsAt (Q.binary r n p)
   unfolding Q.binary
   binary-keeps n p s m d =
       bind-ok _ _ s (advance-keeps s m d) (λ op s₁ d₁.
-      bind-ok _ _ s₁ (deep .expr (p .right) s₁ d₁) (λ rhs s₂ d₂.
+      bind-ok _ _ s₁ (deep .expr (Q.rightPower p) s₁ d₁) (λ rhs s₂ d₂.
       bind-ok _ _ s₂ (pushNode-keeps 0 _ s₂ d₂) (λ q s₃ d₃.
       pure-ok _ s₃ d₃)))
 
@@ -503,23 +503,23 @@ module _ (r : Readers) (deep : ReadersKeep r) where
       called lhs false s₁ d₁ e = pure-ok _ s₁ d₁
 
   -- Doc is no infix sign
-  module _ (power : ℕ → Option Powers) (doc : power kDoc ≡ none) (script : List ℕ) where
+  module _ (power : ℕ → Option ℕ) (doc : power kDoc ≡ none) (script : List ℕ) where
     infixes-keeps : (least : ℕ) (n : NodeId) → Keeps (Q.infixes r power script least n)
     unfolding Q.infixes
     infixes-keeps least n s d = loop-ok (λ m s₁. DocLast (s₁ .left)) _
         (λ lhs s₁ d₁. ifKind-ok kAs _ _ s₁ (λ e. cast-keeps lhs s₁ (omega arith) d₁) (cur-ok _ s₁ (by-power lhs s₁ d₁ (power (current (s₁ .left) .kind)) refl)))
         n s d
       where
-        by-least : (lhs : NodeId) (p : Powers) (s₁ : State) → DocLast (s₁ .left) → ¬ (current (s₁ .left) .kind ≡ kDoc) → (z : Bool) → Leaves (elim z as (λ z′. Rule (ControlFlow NodeId)) [ true ↦ R.pure (break lhs) | false ↦ Q.binary r lhs p ] s₁)
+        by-least : (lhs : NodeId) (p : ℕ) (s₁ : State) → DocLast (s₁ .left) → ¬ (current (s₁ .left) .kind ≡ kDoc) → (z : Bool) → Leaves (elim z as (λ z′. Rule (ControlFlow NodeId)) [ true ↦ R.pure (break lhs) | false ↦ Q.binary r lhs p ] s₁)
         by-least lhs p s₁ d₁ e true = pure-ok _ s₁ d₁
         by-least lhs p s₁ d₁ e false = binary-keeps lhs p s₁ e d₁
 
-        by-sign : (lhs : NodeId) (p : Powers) (s₁ : State) → DocLast (s₁ .left) → ¬ (current (s₁ .left) .kind ≡ kDoc) → (z : Bool) → Leaves (elim z as (λ z′. Rule (ControlFlow NodeId)) [ true ↦ R.pure (break lhs) | false ↦ elim (ltb (p .left) least) as (λ z′. Rule (ControlFlow NodeId)) [ true ↦ R.pure (break lhs) | false ↦ Q.binary r lhs p ] ] s₁)
+        by-sign : (lhs : NodeId) (p : ℕ) (s₁ : State) → DocLast (s₁ .left) → ¬ (current (s₁ .left) .kind ≡ kDoc) → (z : Bool) → Leaves (elim z as (λ z′. Rule (ControlFlow NodeId)) [ true ↦ R.pure (break lhs) | false ↦ elim (ltb p least) as (λ z′. Rule (ControlFlow NodeId)) [ true ↦ R.pure (break lhs) | false ↦ Q.binary r lhs p ] ] s₁)
         by-sign lhs p s₁ d₁ e true = pure-ok _ s₁ d₁
-        by-sign lhs p s₁ d₁ e false = by-least lhs p s₁ d₁ e (ltb (p .left) least)
+        by-sign lhs p s₁ d₁ e false = by-least lhs p s₁ d₁ e (ltb p least)
 
-        by-power : (lhs : NodeId) (s₁ : State) → DocLast (s₁ .left) → (o : Option Powers) → power (current (s₁ .left) .kind) ≡ o
-            → Leaves (elim o as (λ o′. Rule (ControlFlow NodeId)) [ none ↦ R.pure (break lhs) | some p ↦ elim (Q.breaksOff script (current (s₁ .left))) as (λ z′. Rule (ControlFlow NodeId)) [ true ↦ R.pure (break lhs) | false ↦ elim (ltb (p .left) least) as (λ z′. Rule (ControlFlow NodeId)) [ true ↦ R.pure (break lhs) | false ↦ Q.binary r lhs p ] ] ] s₁)
+        by-power : (lhs : NodeId) (s₁ : State) → DocLast (s₁ .left) → (o : Option ℕ) → power (current (s₁ .left) .kind) ≡ o
+            → Leaves (elim o as (λ o′. Rule (ControlFlow NodeId)) [ none ↦ R.pure (break lhs) | some p ↦ elim (Q.breaksOff script (current (s₁ .left))) as (λ z′. Rule (ControlFlow NodeId)) [ true ↦ R.pure (break lhs) | false ↦ elim (ltb p least) as (λ z′. Rule (ControlFlow NodeId)) [ true ↦ R.pure (break lhs) | false ↦ Q.binary r lhs p ] ] ] s₁)
         by-power lhs s₁ d₁ none e = pure-ok _ s₁ d₁
         by-power lhs s₁ d₁ (some p) e = by-sign lhs p s₁ d₁ (λ z. none≢some p (sym doc ∙ ap power (sym z) ∙ e)) (Q.breaksOff script (current (s₁ .left)))
 
@@ -532,7 +532,7 @@ module _ (r : Readers) (deep : ReadersKeep r) where
 
 -- ---- levels, and the roots
 
-module _ (power : ℕ → Option Powers) (doc : power kDoc ≡ none) (script : List ℕ) where
+module _ (power : ℕ → Option ℕ) (doc : power kDoc ≡ none) (script : List ℕ) where
   readers-keep : (l : ℕ) → ReadersKeep (readers power script l)
   unfolding readers
   readers-keep zero = record { prefix = λ s d. fail-ok 10 0 s tt; expr = λ least s d. fail-ok 10 0 s tt; type = λ s d. fail-ok 10 0 s tt }

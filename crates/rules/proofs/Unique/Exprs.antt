@@ -5,7 +5,6 @@ use mathlib.Core.Option.{Option, none, some}
 use mathlib.Core.List.{List, [], _∷_, _++_, append-assoc}
 use Prim.Native.Nat.{ℕ}
 use lib.Dec.{eqb, eqb→eq, ltb}
-use Rattle.rules.specs.Rules.{Powers}
 use Rattle.lex.specs.Kind.{kEof, kBraceLeft, kBraceRight, kPlus, kMinus, kColon, kDot, kBraketLeft, kBraketRight, kCurlyLeft, kCurlyRight, kS, kD, kI, kIdent, kAs, kTrue, kFalse}
 use Rattle.rules.specs.Tree.{Arena, State}
 use Rattle.rules.specs.Combinators as R
@@ -150,11 +149,11 @@ module _ (script : List ℕ) (d : Readers) (deep : ReadersOk script d) where
         bind-ok _ _ s₂ (node-end script s₂ 0 _ (S.cast (w src) (q .shape) (d₂ .shape)) (q .consumed ▷ (d₁ .consumed ▷ d₂ .consumed)) (λ id. rw (d₁ .isWellFormed, (d₁ .consumed ▷ d₂ .consumed) .grows .nodes _ _ (q .is), d₂ .is)) refl) (λ m s₃ z.
         pure-ok _ s₃ z)))
 
-    binary-ok : (n : NodeId) (left : Powers) (s : State) → NodeDone script s₀ n s → (k : ℕ) → current (s .left) .kind ≡ k → eqb k kEof ≡ false → Holds script Goes (Q.binary d n left s)
+    binary-ok : (n : NodeId) (left : ℕ) (s : State) → NodeDone script s₀ n s → (k : ℕ) → current (s .left) .kind ≡ k → eqb k kEof ≡ false → Holds script Goes (Q.binary d n left s)
     unfolding Q.binary nodeShape S.w print map₁ map₂ map₃
     binary-ok n left s q k e ne =
         bind-ok _ _ s (advance-ok script k s (q .consumed .invariant) e ne) (λ op s₁ d₁.
-        bind-ok _ _ s₁ (deep .expr (left .right) s₁ (d₁ .consumed .invariant)) (λ rhs s₂ d₂.
+        bind-ok _ _ s₁ (deep .expr (Q.rightPower left) s₁ (d₁ .consumed .invariant)) (λ rhs s₂ d₂.
         bind-ok _ _ s₂ (node-end script s₂ 0 _ (S.bin (w op) (q .shape) (d₂ .shape)) (q .consumed ▷ (d₁ .consumed ▷ d₂ .consumed)) (λ id. rw (d₁ .isWellFormed, (d₁ .consumed ▷ d₂ .consumed) .grows .nodes _ _ (q .is), d₂ .is)) refl) (λ m s₃ z.
         pure-ok _ s₃ z)))
 
@@ -171,8 +170,8 @@ module _ (script : List ℕ) (d : Readers) (deep : ReadersOk script d) where
         called lhs s₁ r e false = pure-ok _ s₁ r
 
     -- Eof is no infix sign
-    module _ (power : ℕ → Option Powers) (eof : power kEof ≡ none) where
-      notEof : (k : ℕ) (left : Powers) → power k ≡ some left → eqb k kEof ≡ false
+    module _ (power : ℕ → Option ℕ) (eof : power kEof ≡ none) where
+      notEof : (k : ℕ) (left : ℕ) → power k ≡ some left → eqb k kEof ≡ false
       notEof k left e = go (eqb k kEof) refl
         where
           go : (b : Bool) → eqb k kEof ≡ b → b ≡ false
@@ -186,19 +185,19 @@ module _ (script : List ℕ) (d : Readers) (deep : ReadersOk script d) where
           (cur-ok _ s₁ (go lhs s₁ r (power (current (s₁ .left) .kind)) refl)))
           n s q
         where
-          go₃ : (lhs : NodeId) (s₁ : State) → NodeDone script s₀ lhs s₁ → (left : Powers) → power (current (s₁ .left) .kind) ≡ some left → (b : Bool) → Holds script Goes (elim b as (λ b′. Rule (ControlFlow NodeId)) [ true ↦ R.pure (break lhs) | false ↦ Q.binary d lhs left ] s₁)
+          go₃ : (lhs : NodeId) (s₁ : State) → NodeDone script s₀ lhs s₁ → (left : ℕ) → power (current (s₁ .left) .kind) ≡ some left → (b : Bool) → Holds script Goes (elim b as (λ b′. Rule (ControlFlow NodeId)) [ true ↦ R.pure (break lhs) | false ↦ Q.binary d lhs left ] s₁)
           go₃ lhs s₁ r left e true = pure-ok _ s₁ r
           go₃ lhs s₁ r left e false = binary-ok lhs left s₁ r (current (s₁ .left) .kind) refl (notEof _ left e)
 
-          go₂ : (lhs : NodeId) (s₁ : State) → NodeDone script s₀ lhs s₁ → (left : Powers) → power (current (s₁ .left) .kind) ≡ some left → (b : Bool) → Holds script Goes (elim b as (λ b′. Rule (ControlFlow NodeId)) [ true ↦ R.pure (break lhs) | false ↦ elim (ltb (left .left) least) as (λ b′. Rule (ControlFlow NodeId)) [ true ↦ R.pure (break lhs) | false ↦ Q.binary d lhs left ] ] s₁)
+          go₂ : (lhs : NodeId) (s₁ : State) → NodeDone script s₀ lhs s₁ → (left : ℕ) → power (current (s₁ .left) .kind) ≡ some left → (b : Bool) → Holds script Goes (elim b as (λ b′. Rule (ControlFlow NodeId)) [ true ↦ R.pure (break lhs) | false ↦ elim (ltb left least) as (λ b′. Rule (ControlFlow NodeId)) [ true ↦ R.pure (break lhs) | false ↦ Q.binary d lhs left ] ] s₁)
           go₂ lhs s₁ r left e true = pure-ok _ s₁ r
-          go₂ lhs s₁ r left e false = go₃ lhs s₁ r left e (ltb (left .left) least)
+          go₂ lhs s₁ r left e false = go₃ lhs s₁ r left e (ltb left least)
 
-          go : (lhs : NodeId) (s₁ : State) → NodeDone script s₀ lhs s₁ → (o : Option Powers) → power (current (s₁ .left) .kind) ≡ o → Holds script Goes (elim o as (λ o′. Rule (ControlFlow NodeId)) [ none ↦ R.pure (break lhs) | some left ↦ elim (Q.breaksOff script (current (s₁ .left))) as (λ b′. Rule (ControlFlow NodeId)) [ true ↦ R.pure (break lhs) | false ↦ elim (ltb (left .left) least) as (λ b′. Rule (ControlFlow NodeId)) [ true ↦ R.pure (break lhs) | false ↦ Q.binary d lhs left ] ] ] s₁)
+          go : (lhs : NodeId) (s₁ : State) → NodeDone script s₀ lhs s₁ → (o : Option ℕ) → power (current (s₁ .left) .kind) ≡ o → Holds script Goes (elim o as (λ o′. Rule (ControlFlow NodeId)) [ none ↦ R.pure (break lhs) | some left ↦ elim (Q.breaksOff script (current (s₁ .left))) as (λ b′. Rule (ControlFlow NodeId)) [ true ↦ R.pure (break lhs) | false ↦ elim (ltb left least) as (λ b′. Rule (ControlFlow NodeId)) [ true ↦ R.pure (break lhs) | false ↦ Q.binary d lhs left ] ] ] s₁)
           go lhs s₁ r none e = pure-ok _ s₁ r
           go lhs s₁ r (some left) e = go₂ lhs s₁ r left e (Q.breaksOff script (current (s₁ .left)))
 
-  pub parseExpr-ok : (power : ℕ → Option Powers) (eof : power kEof ≡ none) (least : ℕ) (s : State) → Invariant script s → Holds script (NodeDone script s) (Q.parseExpr d power script least s)
+  pub parseExpr-ok : (power : ℕ → Option ℕ) (eof : power kEof ≡ none) (least : ℕ) (s : State) → Invariant script s → Holds script (NodeDone script s) (Q.parseExpr d power script least s)
   unfolding Q.parseExpr
   parseExpr-ok power eof least s c =
       bind-ok _ _ s (operand-ok s c) (λ x s₁ q.

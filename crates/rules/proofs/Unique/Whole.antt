@@ -13,7 +13,7 @@ use Rattle.rules.specs.Tree.{Notes, State, Result, ok, err, Tree}
 use Rattle.rules.specs.Combinators as R
 use Rattle.rules.specs.Combinators.{current}
 use Rattle.rules.specs.Rules as Q
-use Rattle.rules.specs.Rules.{Powers, readers, stageOne}
+use Rattle.rules.specs.Rules.{readers, stageOne}
 use Rattle.rules.specs.Parse.{Reading, read, ended, begin, parse, parseRoots}
 use Rattle.rules.specs.Shape.{Word, wordOf, Shape, Shapes, noShape, shape, map₁, map₂, nodeAt, shapesOf, shapeOf}
 use Rattle.rules.specs.Strike.{keep, notesOf, strike, Plain, UniqueReading}
@@ -31,7 +31,7 @@ use Rattle.rules.specs.declared.NodeId.{NodeId}
 
 -- ---- the knot
 
-pub readers-ok : (power : ℕ → Option Powers) → power kEof ≡ none → (script : List ℕ) (l : ℕ) → ReadersOk script (readers power script l)
+pub readers-ok : (power : ℕ → Option ℕ) → power kEof ≡ none → (script : List ℕ) (l : ℕ) → ReadersOk script (readers power script l)
 unfolding readers
 readers-ok power eof script zero = record { prefix = λ s c. fail-ok 10 0 s (c .allShaped); expr = λ least s c. fail-ok 10 0 s (c .allShaped); type = λ s c. fail-ok 10 0 s (c .allShaped) }
 readers-ok power eof script (suc l) =
@@ -92,7 +92,7 @@ module _ (script : List ℕ) where
   unfolding begin
   begin-invariant = record { docs = λ D. refl; tokensOk = tokens-ok script (NoDocBeforeImport script) (tokensOf (cut script)) (cut-ended script) (λ D. D); docsWellFormed = tt; allShaped = record { nodes = λ i h. absurd (omega arith); types = λ j h. absurd (omega arith) } }
 
-  module _ (power : ℕ → Option Powers) (eof : power kEof ≡ none) where
+  module _ (power : ℕ → Option ℕ) (eof : power kEof ≡ none) where
     roots-ok : Holds script (RootsDone script (begin script)) (parseRoots power script (begin script))
     unfolding parseRoots fold print
     roots-ok = loop-ok (RootsDone script (begin script)) _
@@ -147,7 +147,7 @@ module _ (script : List ℕ) where
         omega (arith, ap length (d .marks), d .even, ap length (d .left), length-append (d .taken) (s .left), ap length (z .1))
     marks-in r (fails {e = x} u) e = ended≢read x tree [] e
 
-module _ (power : ℕ → Option Powers) (eof : power kEof ≡ none) (script : List ℕ) (tree : Tree) where
+module _ (power : ℕ → Option ℕ) (eof : power kEof ≡ none) (script : List ℕ) (tree : Tree) where
   -- every tree that strict mode returns has a shape
   pub shaped : parse power script ≡ read tree [] → (σs : Shapes) × (shapeOf script tree ≡ some σs)
   unfolding parse
@@ -169,7 +169,7 @@ module _ (power : ℕ → Option Powers) (eof : power kEof ≡ none) (script : L
   marked e = marks-in script tree (parseRoots power script (begin script)) (parseRoots-ok script power eof) e
 
 -- demand 3, for every set of infix signs without Eof
-pub unique : (power : ℕ → Option Powers) → power kEof ≡ none → UniqueReading power
+pub unique : (power : ℕ → Option ℕ) → power kEof ≡ none → UniqueReading power
 unique power eof s₁ s₂ t₁ t₂ p q e = strike-print power eof s₁ t₁ p ∙ ap printed e ∙ sym (strike-print power eof s₂ t₂ q)
 
 -- demand 3

@@ -25,12 +25,13 @@ returns t c =
     let advance = c .before .before .before .before .before .before .before .before .before .before .before .before .before .before .before .before .advance in
     let expr = c .before .before .before .before .before .before .before .before .before .before .before .expr in
     let push-token-node = c .before .before .push-token-node in
-    λ left. enough (read _ (advance .ensures _ _ _) (current .ensures) (seq _ (expr .ensures) (seq _ (push-token-node .ensures _ _ _ _ refl) done))) tt
+    enough (read _ (advance .ensures _ _ _) (current .ensures) (seq _ (expr .ensures) (seq _ (push-token-node .ensures _ _ _ _ refl) done))) tt
 
 pub binary-meets : {M : Type 1} (t : ℕ) → lts.Closed (claims t) (binary-at t) binary.Post M
 binary-meets t = lts.spec (claims t) (binary-at t) binary.Post
     (λ c κs. search needs)  -- current-requires
     (λ c κs. search needs)  -- advance-requires
+    (λ c. search needs)  -- add-expr
     (λ c κs. (omega (arith, c .before .before .before .before .before .before .before .before .before .before .before .before .pre .0), search needs))  -- expr-requires
     (λ c κs. search needs)  -- push-token-node-requires
     (λ c. omega (arith, c .before .before .push-token-node .kept, c .before .before .before .before .before .before .before .before .before .before .before .expr .kept))  -- same-length
