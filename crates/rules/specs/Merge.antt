@@ -11,6 +11,8 @@ use Rattle.lex.specs.Kind.{kEof, kImport, kExtern, kLet, kFn, kMatch}
 use Rattle.lex.specs.Lex.{cut, tokensOf, faultsOf}
 use Rattle.rules.specs.Tree.{Arena, Tree, ok, err}
 use Rattle.rules.specs.Combinators.{current, choose}
+use Rattle.rules.specs.Schema as S
+use Rattle.rules.specs.Schema.{Field, Members, memberSchema}
 use Rattle.rules.specs.Parse.{read, begin, parse, parseRoots}
 use Rattle.rules.specs.declared.Run.{Run}
 use Rattle.rules.specs.declared.NodeId.{NodeId}
@@ -106,19 +108,34 @@ tokenRoles = fixed ∷ position ∷ fixed ∷ []
 abbrev pub runRoles : List Role
 runRoles = place ∷ fixed ∷ []
 
+-- the cells of fields, as the schema has them
+abbrev pub cellRoles : Field → List Role
+cellRoles S.value = value ∷ []
+cellRoles S.token = tokenRoles
+cellRoles S.node = nodeNumber ∷ []
+cellRoles S.type = typeNumber ∷ []
+cellRoles (S.list m) = runRoles
+
+abbrev pub rolesOfFields : List Field → List Role
+rolesOfFields [] = []
+rolesOfFields (f ∷ fs) = cellRoles f ++ rolesOfFields fs
+
+abbrev pub memberRoles : Members → List Role
+memberRoles m = rolesOfFields (memberSchema m)
+
 -- and of a member of each list whose members are not nodes alone
 
 abbrev pub typedRoles : List Role
-typedRoles = tokenRoles ++ (typeNumber ∷ [])
+typedRoles = memberRoles S.params
 
 abbrev pub fieldRoles : List Role
-fieldRoles = tokenRoles ++ (nodeNumber ∷ [])
+fieldRoles = memberRoles S.fields
 
 abbrev pub caseRoles : List Role
-caseRoles = tokenRoles ++ (nodeNumber ∷ runRoles)
+caseRoles = memberRoles S.cases
 
 abbrev pub fnRoles : List Role
-fnRoles = runRoles ++ tokenRoles ++ runRoles ++ (typeNumber ∷ [])
+fnRoles = memberRoles S.fns
 
 -- a list that a record holds, with the cells of its members
 pub record Held : Type 0 where

@@ -3,7 +3,9 @@ use mathlib.Core.List.{List, [], _∷_, _++_, map, flatten}
 use Prim.Native.Nat.{ℕ, zero, suc, _+_, _-_}
 use lib.ListN.{length, getD, take, drop, replicate}
 use Rattle.rules.specs.Layout.{nodeWidth, typeWidth}
-use Rattle.rules.specs.Merge.{Offsets, Role, fixed, nodeNumber, typeNumber, value, movedBy, tokenRoles, runRoles, typedRoles, fieldRoles, caseRoles, fnRoles, Held, split, cellAt, heldByFns}
+use Rattle.rules.specs.Schema as S
+use Rattle.rules.specs.Schema.{Field, cellCount, nodeSchema, typeSchema}
+use Rattle.rules.specs.Merge.{Offsets, Role, fixed, movedBy, tokenRoles, typedRoles, fieldRoles, caseRoles, fnRoles, rolesOfFields, Held, split, cellAt, heldByFns}
 use Rattle.rules.specs.declared.Run.{Run}
 
 -- ---- records
@@ -14,22 +16,10 @@ filled n rs = rs ++ replicate (n - length rs) fixed
 
 -- the cells of a node's record and of a type's, by kind; 0 is none
 unfoldable pub nodeRoles : List (List Role)
-nodeRoles = map (filled nodeWidth) (
-    [] ∷
-    -- Atom, Ident, Bin, Unary
-    (fixed ∷ value ∷ tokenRoles) ∷ (fixed ∷ value ∷ tokenRoles) ∷ (fixed ∷ value ∷ tokenRoles ++ (nodeNumber ∷ nodeNumber ∷ [])) ∷ (fixed ∷ value ∷ tokenRoles ++ (nodeNumber ∷ [])) ∷
-    -- Let, Fn, Match
-    (fixed ∷ value ∷ runRoles ++ tokenRoles ++ (nodeNumber ∷ [])) ∷ (fixed ∷ value ∷ runRoles ++ tokenRoles ++ runRoles ++ (typeNumber ∷ runRoles)) ∷ (fixed ∷ value ∷ runRoles ++ tokenRoles ++ runRoles) ∷
-    -- Call, Field, Cast
-    (fixed ∷ value ∷ nodeNumber ∷ runRoles) ∷ (fixed ∷ value ∷ nodeNumber ∷ tokenRoles) ∷ (fixed ∷ value ∷ tokenRoles ++ (nodeNumber ∷ typeNumber ∷ [])) ∷
-    -- Import, Extern, Record, Array
-    (fixed ∷ value ∷ tokenRoles ++ runRoles) ∷ (fixed ∷ value ∷ tokenRoles ++ runRoles ++ tokenRoles ++ runRoles) ∷ (fixed ∷ value ∷ tokenRoles ++ runRoles) ∷ (fixed ∷ value ∷ tokenRoles ++ runRoles) ∷ [])
+nodeRoles = map (λ fs. filled nodeWidth (fixed ∷ rolesOfFields fs)) nodeSchema
 
 unfoldable pub typeRoles : List (List Role)
-typeRoles = map (filled typeWidth) (
-    [] ∷
-    -- Atom, Foreign, Option, Array, Record
-    (fixed ∷ tokenRoles) ∷ (fixed ∷ tokenRoles) ∷ (fixed ∷ typeNumber ∷ []) ∷ (fixed ∷ typeNumber ∷ []) ∷ (fixed ∷ tokenRoles ++ runRoles) ∷ [])
+typeRoles = map (λ fs. filled typeWidth (fixed ∷ rolesOfFields fs)) typeSchema
 
 -- so many records of an array
 unfoldable pub movedRecords : Offsets → List (List Role) → ℕ → ℕ → List ℕ → List ℕ
@@ -50,18 +40,30 @@ unfoldable pub heldAt : List ℕ → List ℕ → Names → List Held
 heldAt cells cs (list member i) = record { member = member; run = runAt cs i } ∷ []
 heldAt cells cs (fns i) = record { member = fnRoles; run = runAt cs i } ∷ heldByFns (split 8 (cellAt cs (i + 1)) (drop (cellAt cs i) cells))
 
+-- a field from cell `i` on: a list of nodes is left out, since a cell of no list is a node number
+unfoldable pub namesAt : ℕ → Field → List Names
+namesAt i S.value = []
+namesAt i S.token = []
+namesAt i S.node = []
+namesAt i S.type = []
+namesAt i (S.list S.nodes) = []
+namesAt i (S.list S.fns) = fns i ∷ []
+namesAt i (S.list S.tokens) = list tokenRoles i ∷ []
+namesAt i (S.list S.params) = list typedRoles i ∷ []
+namesAt i (S.list S.fields) = list fieldRoles i ∷ []
+namesAt i (S.list S.cases) = list caseRoles i ∷ []
+
+-- fields from cell `i` on, the last first
+unfoldable pub namesFrom : ℕ → List Field → List Names
+namesFrom i [] = []
+namesFrom i (f ∷ fs) = namesFrom (i + cellCount f) fs ++ namesAt i f
+
 -- by kind; 0 is none
 unfoldable pub nodeNames : List (List Names)
-nodeNames =
-    [] ∷ [] ∷ [] ∷ [] ∷ [] ∷
-    -- Let, Fn, Match
-    (list tokenRoles 2 ∷ []) ∷ (list typedRoles 7 ∷ list tokenRoles 2 ∷ []) ∷ (list caseRoles 2 ∷ []) ∷
-    [] ∷ [] ∷ [] ∷
-    -- Import, Extern, Record
-    (list tokenRoles 5 ∷ []) ∷ (fns 10 ∷ list tokenRoles 5 ∷ []) ∷ (list fieldRoles 5 ∷ []) ∷ [] ∷ []
+nodeNames = map (namesFrom 1) nodeSchema
 
 unfoldable pub typeNames : List (List Names)
-typeNames = [] ∷ [] ∷ [] ∷ [] ∷ [] ∷ (list typedRoles 4 ∷ []) ∷ []
+typeNames = map (namesFrom 1) typeSchema
 
 -- the lists of a record, by its cells
 unfoldable pub heldByCells : List (List Names) → List ℕ → List ℕ → List Held

@@ -7,8 +7,9 @@ use lib.ListN.{length, getD}
 use lib.Seq.{take-at, drop-at}
 use Rattle.rules.specs.Combinators.{tokenCells, runCells}
 use Rattle.rules.specs.Layout.{nodeWidth, typeWidth, nodeCells, typeCells}
+use Rattle.rules.specs.Schema.{nodeSchema, typeSchema}
 use Rattle.rules.specs.Merge.{Offsets, movedToken, movedRun, movedNodeId, movedTypeId, movedNode, movedType, added, movedBy, Role, cellAt, heldByNode, heldByType}
-use Rattle.rules.specs.MergedCells.{nodeRoles, typeRoles, movedRecords, heldAt, nodeNames, typeNames, heldByCells}
+use Rattle.rules.specs.MergedCells.{nodeRoles, typeRoles, movedRecords, heldAt, namesAt, namesFrom, nodeNames, typeNames, heldByCells}
 use Rattle.rules.specs.declared.Node.{Node}
 use Rattle.rules.specs.declared.Node.the-variants as N
 use Rattle.rules.specs.declared.TypeExpr.{TypeExpr}
@@ -18,7 +19,7 @@ use Rattle.rules.specs.declared.TypeExpr.the-variants as T
 
 -- the first cell of a record is its kind
 pub node-cells : (o : Offsets) (x : Node) → nodeCells (movedNode o x) ≡ movedBy o (getD nodeRoles (getD (nodeCells x) 0 0) []) (nodeCells x)
-unfolding nodeCells tokenCells runCells movedNode movedToken movedRun movedNodeId movedTypeId movedBy added nodeRoles
+unfolding nodeCells tokenCells runCells movedNode movedToken movedRun movedNodeId movedTypeId movedBy added nodeRoles nodeSchema
 node-cells o (N.Atom id raw) = λ j. 1 ∷ (o .values + id) ∷ sym (zero-add (raw .kind)) j ∷ (o .bytes + raw .start) ∷ sym (zero-add (raw .len)) j ∷ 0 ∷ 0 ∷ 0 ∷ 0 ∷ 0 ∷ 0 ∷ 0 ∷ 0 ∷ 0 ∷ 0 ∷ 0 ∷ []
 node-cells o (N.Ident id name) = λ j. 2 ∷ (o .values + id) ∷ sym (zero-add (name .kind)) j ∷ (o .bytes + name .start) ∷ sym (zero-add (name .len)) j ∷ 0 ∷ 0 ∷ 0 ∷ 0 ∷ 0 ∷ 0 ∷ 0 ∷ 0 ∷ 0 ∷ 0 ∷ 0 ∷ []
 node-cells o (N.Bin id op lhs rhs) = λ j. 3 ∷ (o .values + id) ∷ sym (zero-add (op .kind)) j ∷ (o .bytes + op .start) ∷ sym (zero-add (op .len)) j ∷ (o .nodes + lhs .0) ∷ (o .nodes + rhs .0) ∷ 0 ∷ 0 ∷ 0 ∷ 0 ∷ 0 ∷ 0 ∷ 0 ∷ 0 ∷ 0 ∷ []
@@ -35,7 +36,7 @@ node-cells o (N.Record id src fields) = λ j. 13 ∷ (o .values + id) ∷ sym (z
 node-cells o (N.Array id src elements) = λ j. 14 ∷ (o .values + id) ∷ sym (zero-add (src .kind)) j ∷ (o .bytes + src .start) ∷ sym (zero-add (src .len)) j ∷ (o .cells + elements .start) ∷ sym (zero-add (elements .len)) j ∷ 0 ∷ 0 ∷ 0 ∷ 0 ∷ 0 ∷ 0 ∷ 0 ∷ 0 ∷ 0 ∷ []
 
 pub type-cells : (o : Offsets) (x : TypeExpr) → typeCells (movedType o x) ≡ movedBy o (getD typeRoles (getD (typeCells x) 0 0) []) (typeCells x)
-unfolding typeCells tokenCells runCells movedType movedToken movedRun movedTypeId movedBy added typeRoles
+unfolding typeCells tokenCells runCells movedType movedToken movedRun movedTypeId movedBy added typeRoles typeSchema
 type-cells o (T.Atom t) = λ j. 1 ∷ sym (zero-add (t .kind)) j ∷ (o .bytes + t .start) ∷ sym (zero-add (t .len)) j ∷ 0 ∷ 0 ∷ 0 ∷ 0 ∷ []
 type-cells o (T.Foreign t) = λ j. 2 ∷ sym (zero-add (t .kind)) j ∷ (o .bytes + t .start) ∷ sym (zero-add (t .len)) j ∷ 0 ∷ 0 ∷ 0 ∷ 0 ∷ []
 type-cells o (T.Option t) = λ j. 3 ∷ (o .types + t .0) ∷ 0 ∷ 0 ∷ 0 ∷ 0 ∷ 0 ∷ 0 ∷ []
@@ -113,7 +114,7 @@ type-records = records typeCells movedType typeRoles typeWidth type-wide type-fi
 -- ---- the lists that a record names
 
 pub node-names : (cells : List ℕ) (x : Node) → heldByCells nodeNames cells (nodeCells x) ≡ heldByNode cells x
-unfolding heldByCells heldAt nodeNames nodeCells tokenCells runCells heldByNode flatten
+unfolding heldByCells heldAt nodeNames namesFrom namesAt nodeSchema nodeCells tokenCells runCells heldByNode flatten
 node-names cells (N.Atom id raw) = refl
 node-names cells (N.Ident id name) = refl
 node-names cells (N.Bin id op lhs rhs) = refl
@@ -130,7 +131,7 @@ node-names cells (N.Record id src fields) = refl
 node-names cells (N.Array id src elements) = refl
 
 pub type-names : (cells : List ℕ) (x : TypeExpr) → heldByCells typeNames cells (typeCells x) ≡ heldByType x
-unfolding heldByCells heldAt typeNames typeCells tokenCells runCells heldByType flatten
+unfolding heldByCells heldAt typeNames namesFrom namesAt typeSchema typeCells tokenCells runCells heldByType flatten
 type-names cells (T.Atom t) = refl
 type-names cells (T.Foreign t) = refl
 type-names cells (T.Option t) = refl
