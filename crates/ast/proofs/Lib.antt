@@ -1,6 +1,7 @@
 -- The laws that the functions' proofs cite.
 pub mod Copy
 pub mod LayoutLaws
+pub mod SchemaLaws
 pub mod Tabulate
 pub mod Tokens
 pub mod Refusal

@@ -1,5 +1,6 @@
 -- The tree in lent arrays: reading its records, the lookups, spans, line and column.
 pub mod Decode
+pub mod Schema
 pub mod Tabulate
 pub mod Answer
 pub mod Span

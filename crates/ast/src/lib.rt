@@ -2,3 +2,4 @@
 pub mod diagnostic;
 pub mod layout;
 pub mod lookup;
+pub mod schema;
