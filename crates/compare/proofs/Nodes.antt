@@ -13,6 +13,7 @@ use lib.ListN.{length, getD, List·getD-eq-default}
 use borrow.Author.Tests.{leb-true, leb-false, ltb-true, ltb-false, ne-eqb}
 use Rattle.lex.proofs.Laws.{agree}
 use Rattle.rules.specs.Layout.{nodeWidth}
+use Rattle.rules.specs.Schema.{nodeSchema}
 use Rattle.rules.specs.Shape as S
 use Rattle.rules.specs.Shape.{Shape, Env, map₁, map₂, map₃, map₄, map₅, andThen, w, nodeShape}
 use Rattle.rules.specs.declared.Run.{Run}
@@ -231,7 +232,7 @@ module _ (e e′ : Env) (cs cs′ : List ℕ) where
   Each g = PartsAgree e e′ g cs 0 cs′ 0
 
   parts-of : (g : ℕ) → g ≤ 14 → (g ≡ 0 → ⊥) → Splits (Whole g) (Each g)
-  unfolding Whole Each nodeByParts nodesByParts PartsAgree PartAgrees partOf sortAt cellAt parts
+  unfolding Whole Each nodeByParts nodesByParts PartsAgree PartAgrees partOf sortAt cellAt parts nodeSchema
   parts-of g l = upTo14 (λ (n : ℕ). (n ≡ 0 → ⊥) → Splits (Whole n) (Each n))
       (λ z. absurd (z refl))
       (λ z. record { split = λ b. six (Each 1) (part₁ S.atom (λ x y q. cc) _ _ b) ok ok ok ok ok; join = λ a b c d f h. agree₁ S.atom (λ x y q. cc) a })
@@ -252,7 +253,7 @@ module _ (e e′ : Env) (cs cs′ : List ℕ) where
 
   -- in whatever order
   parts-in : {g order : ℕ} → Ordered g order → g ≤ 14 → (g ≡ 0 → ⊥) → Splits (Whole g) (Each order)
-  unfolding Whole Each nodeByParts nodesByParts PartsAgree PartAgrees partOf sortAt cellAt parts
+  unfolding Whole Each nodeByParts nodesByParts PartsAgree PartAgrees partOf sortAt cellAt parts nodeSchema
   parts-in (own {kind}) l z = parts-of kind l z
   parts-in rightLast l z = record { split = λ b. let p = parts₃ S.bin (λ x y u v o q w. ((cc, cc), cc)) _ _ _ _ _ _ b in six (Each 15) (p .0 .0) (p .0 .1) ok ok ok (p .1); join = λ a b c d f h. agree₃ S.bin (λ x y u v o q w. ((cc, cc), cc)) a b h }
   parts-in argumentsLast l z = record { split = λ b. let p = parts₂ S.call (λ x y u v q. (cc, cc)) _ _ _ _ b in six (Each 16) (p .0) ok ok ok ok (p .1); join = λ a b c d f h. agree₂ S.call (λ x y u v q. (cc, cc)) a h }
@@ -265,7 +266,7 @@ order-bound argumentsLast h = omega arith
 -- ---- the parts of a record lie in its array
 
 pub cell-small : (k : ℕ) → cellAt k ≤ 10
-unfolding cellAt parts
+unfolding cellAt parts nodeSchema
 cell-small k = go (ltb k 102) refl
   where
     go : (b : Bool) → ltb k 102 ≡ b → cellAt k ≤ 10
@@ -298,7 +299,7 @@ module _ (e e′ : Env) (xs xs′ : List ℕ) (p p′ g x : ℕ) where
 
 -- the last part is a node, or a list of fields or of nodes, where there is one
 last-kind : (g : ℕ) → g < 17 → (sortAt (6 * g + 5) ≡ 0 → ⊥) → (sortAt (6 * g + 5) ≡ 9 → ⊥) → (sortAt (6 * g + 5) ≡ 7 → ⊥) → partOf (sortAt (6 * g + 5)) ≡ someNodes
-unfolding sortAt parts partOf
+unfolding sortAt parts partOf nodeSchema
 last-kind g l = upTo16 (λ (n : ℕ). (sortAt (6 * n + 5) ≡ 0 → ⊥) → (sortAt (6 * n + 5) ≡ 9 → ⊥) → (sortAt (6 * n + 5) ≡ 7 → ⊥) → partOf (sortAt (6 * n + 5)) ≡ someNodes)
     (λ z y x. absurd (z refl)) (λ z y x. absurd (z refl)) (λ z y x. absurd (z refl)) (λ z y x. absurd (y refl)) (λ z y x. absurd (y refl)) (λ z y x. absurd (y refl)) (λ z y x. refl) (λ z y x. refl) (λ z y x. absurd (y refl)) (λ z y x. absurd (y refl)) (λ z y x. absurd (y refl)) (λ z y x. absurd (z refl)) (λ z y x. absurd (z refl)) (λ z y x. absurd (x refl)) (λ z y x. refl) (λ z y x. absurd (y refl)) (λ z y x. refl) g l
 
@@ -429,7 +430,7 @@ nothing-agrees e e′ xs o xs′ o′ = ok
 -- ---- the parts of a kind in one number
 
 part-in : (k : ℕ) → k < 102 → restOf (k / 6) (k % 6) % 256 ≡ getD parts k 0
-unfolding restOf parts
+unfolding restOf parts nodeSchema
 part-in k h = agree (λ (n : ℕ). restOf (n / 6) (n % 6) % 256) (λ (n : ℕ). getD parts n 0) 0 102 k refl h
 
 -- the part at a place is the lowest of those from there on
@@ -441,11 +442,11 @@ part-is g x h l =
 
 -- the last stands alone
 pub last-alone : (g : ℕ) → g < 17 → restOf g 0 / 1099511627776 ≡ getD parts (6 * g + 5) 0
-unfolding restOf parts
+unfolding restOf parts nodeSchema
 last-alone g h = upTo16 (λ (n : ℕ). restOf n 0 / 1099511627776 ≡ getD parts (6 * n + 5) 0) refl refl refl refl refl refl refl refl refl refl refl refl refl refl refl refl refl g h
 
 pub no-parts : (g : ℕ) → g < 17 → (g ≡ 1 → ⊥) → (g ≡ 2 → ⊥) → (g ≡ 3 → ⊥) → (g ≡ 4 → ⊥) → (g ≡ 5 → ⊥) → (g ≡ 6 → ⊥) → (g ≡ 7 → ⊥) → (g ≡ 8 → ⊥) → (g ≡ 9 → ⊥) → (g ≡ 10 → ⊥) → (g ≡ 11 → ⊥) → (g ≡ 12 → ⊥) → (g ≡ 13 → ⊥) → (g ≡ 14 → ⊥) → (g ≡ 15 → ⊥) → (g ≡ 16 → ⊥) → 0 ≡ restOf g 0
-unfolding restOf parts
+unfolding restOf parts nodeSchema
 no-parts g h a b c d e f i j k l m n o p r s = upTo16 (λ (x : ℕ). g ≡ x → 0 ≡ restOf x 0) (λ q. refl) (λ q. absurd (a q)) (λ q. absurd (b q)) (λ q. absurd (c q)) (λ q. absurd (d q)) (λ q. absurd (e q)) (λ q. absurd (f q)) (λ q. absurd (i q)) (λ q. absurd (j q)) (λ q. absurd (k q)) (λ q. absurd (l q)) (λ q. absurd (m q)) (λ q. absurd (n q)) (λ q. absurd (o q)) (λ q. absurd (p q)) (λ q. absurd (r q)) (λ q. absurd (s q)) g h refl
 
 pub rest-next : (g x : ℕ) {r : ℕ} → r ≡ restOf g x → r / 256 ≡ restOf g (x + 1)

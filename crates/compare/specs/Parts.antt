@@ -1,11 +1,13 @@
 -- The parts of a node's record, in the order in which they are compared: what each is, and in which cell it stands.
 use mathlib.Core.Option.{Option, some}
-use mathlib.Core.List.{List, [], _∷_}
+use mathlib.Core.List.{List, [], _∷_, _++_, map}
 use Prim.Native.Nat.{ℕ, zero, suc, _+_, _*_, _/_, _%_}
 use lib.Dec.{eqb}
 use lib.ListN.{getD}
+use Rattle.rules.specs.Schema.{Field, cellCount, nodeSchema}
 use Rattle.rules.specs.Shape.{Word, TypeShape, Params, FnShape, Shape, Shapes, FieldShapes, CaseShapes, Env, w, words, params, shapes, fields, cases, fns}
 use Rattle.ast.specs.Decode.{if, tokenAt, runAt}
+use Rattle.ast.specs.Schema.{sortOf}
 use Rattle.compare.specs.Agree.{Agree}
 
 pub data Part : Type 0 where
@@ -56,30 +58,40 @@ partOf k =
     if (eqb k 1) aWord (if (eqb k 2) someWords (if (eqb k 3) someParams (if (eqb k 4) aType (if (eqb k 5) someFns
     (if (eqb k 6) someNodes (if (eqb k 7) someFields (if (eqb k 8) someCases (if (eqb k 9) aNode nothing))))))))
 
--- the sort of a part and its cell in one number
-abbrev encode : ℕ → ℕ → ℕ
-encode sort cell = 16 * sort + cell
+-- the fields of a record as numbers, from cell `i` on: the sort and the cell, and 0 for what is not compared
+abbrev codes : ℕ → List Field → List ℕ
+codes i [] = []
+codes i (f ∷ fs) = if (eqb (sortOf f) 0) 0 (16 * sortOf f + i) ∷ codes (i + cellCount f) fs
+
+-- fields of a kind by their places in the schema; that at place 0 is a value, and is not compared
+abbrev fieldsOf : ℕ → List ℕ → List ℕ
+fieldsOf kind places = map (λ x. getD (codes 1 (getD nodeSchema kind [])) x 0) places
 
 -- six parts for each kind from 0 on, the last being the child, or the list of nodes or of fields, that is compared last; behind them another order for an operator, its right side last, and for a call, its arguments last
 unfoldable pub parts : List ℕ
 parts =
-    0 ∷ 0 ∷ 0 ∷ 0 ∷ 0 ∷ 0 ∷
-    encode 1 2 ∷ 0 ∷ 0 ∷ 0 ∷ 0 ∷ 0 ∷
-    encode 1 2 ∷ 0 ∷ 0 ∷ 0 ∷ 0 ∷ 0 ∷
-    encode 1 2 ∷ encode 9 6 ∷ 0 ∷ 0 ∷ 0 ∷ encode 9 5 ∷
-    encode 1 2 ∷ 0 ∷ 0 ∷ 0 ∷ 0 ∷ encode 9 5 ∷
-    encode 2 2 ∷ encode 1 4 ∷ 0 ∷ 0 ∷ 0 ∷ encode 9 7 ∷
-    encode 2 2 ∷ encode 1 4 ∷ encode 3 7 ∷ encode 4 9 ∷ 0 ∷ encode 6 10 ∷
-    encode 8 2 ∷ encode 1 4 ∷ 0 ∷ 0 ∷ 0 ∷ encode 6 7 ∷
-    encode 6 3 ∷ 0 ∷ 0 ∷ 0 ∷ 0 ∷ encode 9 2 ∷
-    encode 1 3 ∷ 0 ∷ 0 ∷ 0 ∷ 0 ∷ encode 9 2 ∷
-    encode 1 2 ∷ encode 4 6 ∷ 0 ∷ 0 ∷ 0 ∷ encode 9 5 ∷
-    encode 1 2 ∷ encode 2 5 ∷ 0 ∷ 0 ∷ 0 ∷ 0 ∷
-    encode 1 2 ∷ encode 2 5 ∷ encode 1 7 ∷ encode 5 10 ∷ 0 ∷ 0 ∷
-    encode 1 2 ∷ 0 ∷ 0 ∷ 0 ∷ 0 ∷ encode 7 5 ∷
-    encode 1 2 ∷ 0 ∷ 0 ∷ 0 ∷ 0 ∷ encode 6 5 ∷
-    encode 1 2 ∷ encode 9 5 ∷ 0 ∷ 0 ∷ 0 ∷ encode 9 6 ∷
-    encode 9 2 ∷ 0 ∷ 0 ∷ 0 ∷ 0 ∷ encode 6 3 ∷ []
+    fieldsOf 0 (0 ∷ 0 ∷ 0 ∷ 0 ∷ 0 ∷ 0 ∷ []) ++
+    -- Atom, Ident, Bin, Unary
+    fieldsOf 1 (1 ∷ 0 ∷ 0 ∷ 0 ∷ 0 ∷ 0 ∷ []) ++
+    fieldsOf 2 (1 ∷ 0 ∷ 0 ∷ 0 ∷ 0 ∷ 0 ∷ []) ++
+    fieldsOf 3 (1 ∷ 3 ∷ 0 ∷ 0 ∷ 0 ∷ 2 ∷ []) ++
+    fieldsOf 4 (1 ∷ 0 ∷ 0 ∷ 0 ∷ 0 ∷ 2 ∷ []) ++
+    -- Let, Fn, Match
+    fieldsOf 5 (1 ∷ 2 ∷ 0 ∷ 0 ∷ 0 ∷ 3 ∷ []) ++
+    fieldsOf 6 (1 ∷ 2 ∷ 3 ∷ 4 ∷ 0 ∷ 5 ∷ []) ++
+    fieldsOf 7 (1 ∷ 2 ∷ 0 ∷ 0 ∷ 0 ∷ 3 ∷ []) ++
+    -- Call, Field, Cast
+    fieldsOf 8 (2 ∷ 0 ∷ 0 ∷ 0 ∷ 0 ∷ 1 ∷ []) ++
+    fieldsOf 9 (2 ∷ 0 ∷ 0 ∷ 0 ∷ 0 ∷ 1 ∷ []) ++
+    fieldsOf 10 (1 ∷ 3 ∷ 0 ∷ 0 ∷ 0 ∷ 2 ∷ []) ++
+    -- Import, Extern, Record, Array
+    fieldsOf 11 (1 ∷ 2 ∷ 0 ∷ 0 ∷ 0 ∷ 0 ∷ []) ++
+    fieldsOf 12 (1 ∷ 2 ∷ 3 ∷ 4 ∷ 0 ∷ 0 ∷ []) ++
+    fieldsOf 13 (1 ∷ 0 ∷ 0 ∷ 0 ∷ 0 ∷ 2 ∷ []) ++
+    fieldsOf 14 (1 ∷ 0 ∷ 0 ∷ 0 ∷ 0 ∷ 2 ∷ []) ++
+    -- Bin and Call in another order
+    fieldsOf 3 (1 ∷ 2 ∷ 0 ∷ 0 ∷ 0 ∷ 3 ∷ []) ++
+    fieldsOf 8 (1 ∷ 0 ∷ 0 ∷ 0 ∷ 0 ∷ 2 ∷ [])
 
 -- the orders in which a kind's parts are compared
 pub data Ordered : ℕ → ℕ → Type 0 where

@@ -8,6 +8,7 @@ use crate::word::agree_words;
 use crate::word::formed_at;
 use ast::layout::cell;
 use ast::layout::run_at;
+use ast::schema::Sort;
 use rules::Node;
 use rules::NodeId;
 use rules::NodeKind;
@@ -19,29 +20,6 @@ ghost use Rattle.rules.specs.Shape.{shapes, fields, cases};
 ghost use Rattle.compare.specs.Agree.{Agree, Decides};
 ghost use Rattle.compare.specs.Shapes.{view, nodesBelow, envBelow};
 ghost use Rattle.compare.specs.Parts.{partOf, PartAgrees, PartsAgree, Ordered, restOf};
-
-// What a part of a record is.
-struct Sort(u64);
-
-impl Sort {
-    const TOKEN: u64 = 1;
-
-    const TOKENS: u64 = 2;
-
-    const PARAMS: u64 = 3;
-
-    const TYPE: u64 = 4;
-
-    const FNS: u64 = 5;
-
-    const NODES: u64 = 6;
-
-    const FIELDS: u64 = 7;
-
-    const CASES: u64 = 8;
-
-    const NODE: u64 = 9;
-}
 
 // The number of an order in which the parts of a node are compared: its kind, and two more.
 struct Order(u32);

@@ -1,73 +1,74 @@
 -- `compare::node::parts_of` meets its contract.
 use mathlib.Core.Path.{sym, ap}
 use Prim.Native.Nat.{ℕ}
+use Rattle.rules.specs.Schema.{nodeSchema}
 use Rattle.compare.specs.Parts.{parts, restOf}
 use Rattle.compare.proofs.Nodes.{no-parts}
 use Rattle.compare.proofs.node.parts_of.Statement.{statement}
 use Rattle.compare.proofs.node.parts_of.Tie as tie
 
 returns : tie.Need-returns
-unfolding restOf parts
+unfolding restOf parts nodeSchema
 returns c = sym (ap (λ (k : ℕ). restOf k 0) (c .if1 .taken))
 
 returns-2 : tie.Need-returns-2
-unfolding restOf parts
+unfolding restOf parts nodeSchema
 returns-2 c = sym (ap (λ (k : ℕ). restOf k 0) (c .if2 .taken))
 
 returns-3 : tie.Need-returns-3
-unfolding restOf parts
+unfolding restOf parts nodeSchema
 returns-3 c = sym (ap (λ (k : ℕ). restOf k 0) (c .if3 .taken))
 
 returns-4 : tie.Need-returns-4
-unfolding restOf parts
+unfolding restOf parts nodeSchema
 returns-4 c = sym (ap (λ (k : ℕ). restOf k 0) (c .if4 .taken))
 
 returns-5 : tie.Need-returns-5
-unfolding restOf parts
+unfolding restOf parts nodeSchema
 returns-5 c = sym (ap (λ (k : ℕ). restOf k 0) (c .if5 .taken))
 
 returns-6 : tie.Need-returns-6
-unfolding restOf parts
+unfolding restOf parts nodeSchema
 returns-6 c = sym (ap (λ (k : ℕ). restOf k 0) (c .if6 .taken))
 
 returns-7 : tie.Need-returns-7
-unfolding restOf parts
+unfolding restOf parts nodeSchema
 returns-7 c = sym (ap (λ (k : ℕ). restOf k 0) (c .if7 .taken))
 
 returns-8 : tie.Need-returns-8
-unfolding restOf parts
+unfolding restOf parts nodeSchema
 returns-8 c = sym (ap (λ (k : ℕ). restOf k 0) (c .if8 .taken))
 
 returns-9 : tie.Need-returns-9
-unfolding restOf parts
+unfolding restOf parts nodeSchema
 returns-9 c = sym (ap (λ (k : ℕ). restOf k 0) (c .if9 .taken))
 
 returns-10 : tie.Need-returns-10
-unfolding restOf parts
+unfolding restOf parts nodeSchema
 returns-10 c = sym (ap (λ (k : ℕ). restOf k 0) (c .if10 .taken))
 
 returns-11 : tie.Need-returns-11
-unfolding restOf parts
+unfolding restOf parts nodeSchema
 returns-11 c = sym (ap (λ (k : ℕ). restOf k 0) (c .if11 .taken))
 
 returns-12 : tie.Need-returns-12
-unfolding restOf parts
+unfolding restOf parts nodeSchema
 returns-12 c = sym (ap (λ (k : ℕ). restOf k 0) (c .if12 .taken))
 
 returns-13 : tie.Need-returns-13
-unfolding restOf parts
+unfolding restOf parts nodeSchema
 returns-13 c = sym (ap (λ (k : ℕ). restOf k 0) (c .if13 .taken))
 
 returns-14 : tie.Need-returns-14
-unfolding restOf parts
+unfolding restOf parts nodeSchema
 returns-14 c = sym (ap (λ (k : ℕ). restOf k 0) (c .if14 .taken))
 
 returns-15 : tie.Need-returns-15
-unfolding restOf parts
+unfolding restOf parts nodeSchema
 returns-15 c = sym (ap (λ (k : ℕ). restOf k 0) (c .if15 .taken))
 
 returns-16 : tie.Need-returns-16
-unfolding restOf parts
+unfolding restOf parts nodeSchema
 returns-16 c = sym (ap (λ (k : ℕ). restOf k 0) (c .if16 .taken))
 
 returns-17 : tie.Need-returns-17
