@@ -1,10 +1,10 @@
 -- Laws of writing a text: one text behind another, members of a loop, what a whole text leaves.
 use mathlib.Core.Path.{_≡_, refl, sym, _∙_, ap}
-use mathlib.Core.Bool.{Bool, true, false, false≢true, _&&_}
+use mathlib.Core.Bool.{Bool, true, false}
 use mathlib.Core.Option.{Option}
 use mathlib.Core.List.{List, [], _∷_, _++_}
 use Prim.Native.Nat.{ℕ, zero, suc, _+_, _-_, _*_, _<_, _≤_}
-use native.Mathlib.Nat.{suc-ne-zero}
+use native.Mathlib.Nat.{suc-ne-zero, mul-le-mul-left, mul-le-mul-right}
 use native.Mathlib.Numerals.{add-one}
 use native.Mathlib.Omega.{arith}
 use lib.Dec.{leb}
@@ -25,10 +25,13 @@ use Rattle.rules.specs.declared.Parsed.{Parsed}
 use Rattle.rules.specs.declared.Parsed.the-variants as P
 use Rattle.rules.specs.Layout.{nodeWidth, typeWidth}
 use Rattle.rules.specs.Promise.{Arrays}
-use Rattle.ast.specs.Decode.{nodeRead, typeRead, nodeAt, typeAt}
-use Rattle.text.proofs.EmitLaws.{then, nothing, by}
+use Rattle.ast.specs.Decode.{tokenAt, nodeRead, typeRead, nodeAt, typeAt}
+use Rattle.ast.specs.Schema.{membersOf}
+use Rattle.rules.specs.Schema as S
+use Rattle.rules.specs.Schema.{Members as Listed, memberWidth}
+use Rattle.text.proofs.EmitLaws.{then, nothing, by, and-left, and-right}
 use Rattle.text.specs.Text.{bytes, number}
-use Rattle.listing.specs.Text.{malformed, gap, each, listed, kindNames, kindName, token, node, typeExpr}
+use Rattle.listing.specs.Text.{malformed, gap, each, listed, tokens, ids, pairs, branches, externFns, member, list, kindNames, kindName, token, node, typeExpr}
 use Rattle.listing.specs.Listing.{line, nodeText, typeText, numbersLine, errorLine, treeText, within, diagnosticAt, textOf}
 use Rattle.text.specs.Emit.{last, put, emit, Emits}
 
@@ -88,6 +91,54 @@ module _ (width : ℕ) (cells : List ℕ) (member : ℕ → List ℕ) (r : Run) 
   module _ (n : ℕ) {x y z : List ℕ} {p q s : ℕ} where
     pub list-outside : length cells < r .start + width * r .len → Emits (gap n) x p y q → Emits malformed y q z s → Emits (gap n ++ listed width cells member r) x p z s
     list-outside h a b = then a (by (run-outside h) b)
+
+-- ---- lists by what their members are
+
+module _ (cells : List ℕ) where
+  pub list-is : (m : Listed) (r : Run) → listed (memberWidth m) cells (member cells m) r ≡ list cells m r
+  unfolding tokens ids pairs branches externFns
+  list-is S.tokens r = refl
+  list-is S.params r = refl
+  list-is S.fns r = refl
+  list-is S.nodes r = refl
+  list-is S.fields r = refl
+  list-is S.cases r = refl
+
+at-most-eight : (m : Listed) → memberWidth m ≤ 8
+at-most-eight S.tokens = omega arith
+at-most-eight S.params = omega arith
+at-most-eight S.fns = omega arith
+at-most-eight S.nodes = omega arith
+at-most-eight S.fields = omega arith
+at-most-eight S.cases = omega arith
+
+-- so many members of a list, and where one of them begins
+module _ (k w n : ℕ) (e : w ≡ memberWidth (membersOf k)) (l : n < 4294967296) where
+  pub few-cells : w * n < 34359738368
+  few-cells = let h = at-most-eight (membersOf k) in let z : w * n ≤ 8 * n = mul-le-mul-right n (omega arith) in omega arith
+
+  pub few-before : (i : ℕ) → i < n → w * i < 34359738368
+  few-before i h = let z : w * i ≤ w * n = mul-le-mul-left w (omega arith) in let y = few-cells in omega arith
+
+-- how deep lists stand in the members of a list
+abbrev pub depth : Listed → ℕ
+depth S.tokens = 0
+depth S.params = 0
+depth S.fns = 1
+depth S.nodes = 0
+depth S.fields = 0
+depth S.cases = 1
+
+module _ (cells : List ℕ) (k n : ℕ) {x y : List ℕ} {p q : ℕ} where
+  pub as-list : (r : Run) {w : ℕ} → w ≡ memberWidth (membersOf k) → Emits (gap n ++ listed w cells (member cells (membersOf k)) r) x p y q → Emits (gap n ++ list cells (membersOf k) r) x p y q
+  as-list r e = by (ap (λ (t : List ℕ). gap n ++ t) (ap (λ (w : ℕ). listed w cells (member cells (membersOf k)) r) e ∙ list-is cells (membersOf k) r))
+
+  -- a member of a list whose number is known
+  pub as-member : (m j : ℕ) → k ≡ m → Emits (gap n ++ member cells (membersOf m) j) x p y q → Emits (gap n ++ member cells (membersOf k) j) x p y q
+  as-member m j e = by (ap (λ (i : ℕ). gap n ++ member cells (membersOf i) j) (sym e))
+
+  pub as-token : (j : ℕ) → membersOf k ≡ S.tokens → Emits (gap n ++ token (tokenAt cells j)) x p y q → Emits (gap n ++ member cells (membersOf k) j) x p y q
+  as-token j e = by (ap (λ (m : Listed). gap n ++ member cells m j) (sym e))
 
 -- ---- a form of what a call answered
 
@@ -164,12 +215,6 @@ error-other e h = rw (ne-eqb _ _ h, errorLine)
 
 -- ---- the arrays of an answer
 
-third : (x y z w : Bool) → (x && (y && (z && w))) ≡ true → z ≡ true
-third true true true w e = refl
-third true true false w e = e
-third true false z w e = absurd (false≢true e)
-third false y z w e = absurd (false≢true e)
-
 module _ {p : Parsed} (a : Arrays) where
   module _ {c : Counts} {r : Bool} (tree : p ≡ P.Tree c) (right : r ≡ within c a) where
     pub tree-in : r ≡ true → treeText c (take (c .cells) (a .lists)) (nodeAt (a .nodes)) (typeAt (a .types)) (λ i. getD (a .roots) i 0) (diagnosticAt (a .diagnostics)) ≡ textOf p a
@@ -182,7 +227,7 @@ module _ {p : Parsed} (a : Arrays) where
 
     pub cells-inside : r ≡ true → c .cells ≤ length (a .lists)
     unfolding within
-    cells-inside e = leb-true _ _ (third (leb (nodeWidth * c .nodes) (length (a .nodes))) (leb (typeWidth * c .types) (length (a .types))) (leb (c .cells) (length (a .lists))) _ (sym right ∙ e))
+    cells-inside e = leb-true _ _ (and-left _ _ (and-right (leb (typeWidth * c .types) (length (a .types))) _ (and-right (leb (nodeWidth * c .nodes) (length (a .nodes))) _ (sym right ∙ e))))
 
   pub error-is : {e : Diagnostic} → p ≡ P.Error e → errorLine e ≡ textOf p a
   unfolding textOf

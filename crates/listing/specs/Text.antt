@@ -10,6 +10,8 @@ use Rattle.rules.specs.declared.Node.{Node}
 use Rattle.rules.specs.declared.Node.the-variants as N
 use Rattle.rules.specs.declared.TypeExpr.{TypeExpr}
 use Rattle.rules.specs.declared.TypeExpr.the-variants as T
+use Rattle.rules.specs.Schema as S
+use Rattle.rules.specs.Schema.{Members, memberWidth}
 use Rattle.ast.specs.Decode.{tokenAt, runAt}
 use Rattle.text.specs.Text.{bytes, number}
 
@@ -72,32 +74,49 @@ token t = (40 ∷ []) ++ (kindName (t .kind) ++ fields (number (t .start) ∷ nu
 module _ (cells : List ℕ) where
   -- docs, pkgs
   unfoldable pub tokens : Run → List ℕ
-  tokens = listed 3 cells (λ j. token (tokenAt cells j))
+  tokens = listed (memberWidth S.tokens) cells (λ j. token (tokenAt cells j))
 
   -- the nodes of a body, of arguments, of an array
   unfoldable pub ids : Run → List ℕ
-  ids = listed 1 cells (λ j. number (getD cells j 0))
+  ids = listed (memberWidth S.nodes) cells (λ j. number (getD cells j 0))
 
   -- a token and the number of a node or of a type
   unfoldable pub pair : ℕ → List ℕ
   pair j = tuple (token (tokenAt cells j)) (number (getD cells (j + 3) 0) ∷ [])
 
   unfoldable pub pairs : Run → List ℕ
-  pairs = listed 4 cells pair
+  pairs = listed (memberWidth S.params) cells pair
 
   -- `((token condition) body)`
   unfoldable pub branch : ℕ → List ℕ
   branch j = tuple (pair j) (ids (runAt cells (j + 4)) ∷ [])
 
   unfoldable pub branches : Run → List ℕ
-  branches = listed 6 cells branch
+  branches = listed (memberWidth S.cases) cells branch
 
   -- `(docs name args type)`
   unfoldable pub externFn : ℕ → List ℕ
   externFn j = tuple (tokens (runAt cells j)) (token (tokenAt cells (j + 2)) ∷ pairs (runAt cells (j + 5)) ∷ number (getD cells (j + 7) 0) ∷ [])
 
   unfoldable pub externFns : Run → List ℕ
-  externFns = listed 8 cells externFn
+  externFns = listed (memberWidth S.fns) cells externFn
+
+  -- a member from cell `j` on, and the list of a run, by what the members are
+  abbrev pub member : Members → ℕ → List ℕ
+  member S.tokens j = token (tokenAt cells j)
+  member S.params j = pair j
+  member S.fns j = externFn j
+  member S.nodes j = number (getD cells j 0)
+  member S.fields j = pair j
+  member S.cases j = branch j
+
+  abbrev pub list : Members → Run → List ℕ
+  list S.tokens r = tokens r
+  list S.params r = pairs r
+  list S.fns r = externFns r
+  list S.nodes r = ids r
+  list S.fields r = pairs r
+  list S.cases r = branches r
 
   -- ---- records
 

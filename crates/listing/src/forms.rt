@@ -5,6 +5,8 @@ use crate::emit::write_number;
 use ast::layout::cell;
 use ast::layout::run_at;
 use ast::layout::token_at;
+use ast::schema::Sort;
+use ast::schema::member_width;
 use lex::Token;
 use lex::Type;
 use rules::Run;
@@ -12,7 +14,8 @@ use text::write_byte;
 use text::write_text;
 ghost use mathlib.Core.List.{_++_};
 ghost use Prim.Native.Nat.{_+_, _<_};
-ghost use Rattle.listing.specs.Text.{gap, kindName, token, tokens, ids, pair, pairs, branch, branches, externFn, externFns};
+ghost use Rattle.ast.specs.Schema.{membersOf};
+ghost use Rattle.listing.specs.Text.{gap, kindName, token, pair, member, list};
 ghost use Rattle.text.specs.Emit.{Emits};
 
 fn write_kind(kind: u32, out: &mut [u8], at: usize) -> usize
@@ -41,50 +44,6 @@ pub(crate) fn write_token(before: usize, t: Token, out: &mut [u8], at: usize) ->
     write_byte(b')', out, e)
 }
 
-pub(crate) fn write_tokens(
-    before: usize,
-    lists: &[u32],
-    run: Run,
-    out: &mut [u8],
-    at: usize,
-) -> usize
-    ensures { λ r. ⌜ Emits (gap before ++ tokens (now (lists .entry)) run) (now (out .entry)) at (now (out .exit)) r ⌝ }
-{
-    let a = write_gap(before, out, at);
-    let start = run.start as usize;
-    let len = run.len as usize;
-    if start + 3 * len <= lists.len() {
-        let mut to = write_byte(b'(', out, a);
-        let mut i = 0;
-        while i < len {
-            to = write_token(i, token_at(lists, start + 3 * i), out, to);
-            i += 1;
-        }
-        write_byte(b')', out, to)
-    } else {
-        write_malformed(out, a)
-    }
-}
-
-pub(crate) fn write_ids(before: usize, lists: &[u32], run: Run, out: &mut [u8], at: usize) -> usize
-    ensures { λ r. ⌜ Emits (gap before ++ ids (now (lists .entry)) run) (now (out .entry)) at (now (out .exit)) r ⌝ }
-{
-    let a = write_gap(before, out, at);
-    let start = run.start as usize;
-    let len = run.len as usize;
-    if start + len <= lists.len() {
-        let mut to = write_byte(b'(', out, a);
-        let mut i = 0;
-        while i < len {
-            to = write_number(i, cell(lists, start + i, 0) as usize, out, to);
-            i += 1;
-        }
-        write_byte(b')', out, to)
-    } else {
-        write_malformed(out, a)
-    }
-}
-
 // A token and a number, from cell `j` on.
 fn write_pair(before: usize, lists: &[u32], j: usize, out: &mut [u8], at: usize) -> usize
     ensures { λ r. ⌜ Emits (gap before ++ pair (now (lists .entry)) j) (now (out .entry)) at (now (out .exit)) r ⌝ }
@@ -96,103 +55,70 @@ fn write_pair(before: usize, lists: &[u32], j: usize, out: &mut [u8], at: usize)
     write_byte(b')', out, d)
 }
 
-pub(crate) fn write_pairs(
+// A member from cell `j` on, by the sort of its list. A case has `((token condition) body)`, a fn of an
+// extern `(docs name arguments type)`, and the lists that these name have members that name none.
+fn write_member(
     before: usize,
     lists: &[u32],
-    run: Run,
+    sort: u64,
+    j: usize,
     out: &mut [u8],
     at: usize,
 ) -> usize
-    ensures { λ r. ⌜ Emits (gap before ++ pairs (now (lists .entry)) run) (now (out .entry)) at (now (out .exit)) r ⌝ }
-{
-    let a = write_gap(before, out, at);
-    let start = run.start as usize;
-    let len = run.len as usize;
-    if start + 4 * len <= lists.len() {
-        let mut to = write_byte(b'(', out, a);
-        let mut i = 0;
-        while i < len {
-            to = write_pair(i, lists, start + 4 * i, out, to);
-            i += 1;
-        }
-        write_byte(b')', out, to)
-    } else {
-        write_malformed(out, a)
-    }
-}
-
-// A case of a match, from cell `j` on: token and condition, body.
-fn write_case(before: usize, lists: &[u32], j: usize, out: &mut [u8], at: usize) -> usize
-    requires { ⌜ j + 4 < 18446744073709551616 ⌝ }
-    ensures { λ r. ⌜ Emits (gap before ++ branch (now (lists .entry)) j) (now (out .entry)) at (now (out .exit)) r ⌝ }
-{
-    let a = write_gap(before, out, at);
-    let b = write_byte(b'(', out, a);
-    let c = write_pair(0, lists, j, out, b);
-    let d = write_ids(1, lists, run_at(lists, j + 4), out, c);
-    write_byte(b')', out, d)
-}
-
-pub(crate) fn write_cases(
-    before: usize,
-    lists: &[u32],
-    run: Run,
-    out: &mut [u8],
-    at: usize,
-) -> usize
-    ensures { λ r. ⌜ Emits (gap before ++ branches (now (lists .entry)) run) (now (out .entry)) at (now (out .exit)) r ⌝ }
-{
-    let a = write_gap(before, out, at);
-    let start = run.start as usize;
-    let len = run.len as usize;
-    if start + 6 * len <= lists.len() {
-        let mut to = write_byte(b'(', out, a);
-        let mut i = 0;
-        while i < len {
-            to = write_case(i, lists, start + 6 * i, out, to);
-            i += 1;
-        }
-        write_byte(b')', out, to)
-    } else {
-        write_malformed(out, a)
-    }
-}
-
-// A function of an extern, from cell `j` on: docs, name, arguments, type.
-fn write_extern_fn(before: usize, lists: &[u32], j: usize, out: &mut [u8], at: usize) -> usize
     requires { ⌜ j + 5 < 18446744073709551616 ⌝ }
-    ensures { λ r. ⌜ Emits (gap before ++ externFn (now (lists .entry)) j) (now (out .entry)) at (now (out .exit)) r ⌝ }
+    ensures { λ r. ⌜ Emits (gap before ++ member (now (lists .entry)) (membersOf sort) j) (now (out .entry)) at (now (out .exit)) r ⌝ }
 {
-    let a = write_gap(before, out, at);
-    let b = write_byte(b'(', out, a);
-    let c = write_tokens(0, lists, run_at(lists, j), out, b);
-    let d = write_token(1, token_at(lists, j + 2), out, c);
-    let e = write_pairs(1, lists, run_at(lists, j + 5), out, d);
-    let f = write_number(1, cell(lists, j, 7) as usize, out, e);
-    write_byte(b')', out, f)
+    if sort == Sort::NODES {
+        return write_number(before, cell(lists, j, 0) as usize, out, at);
+    }
+    if sort == Sort::PARAMS {
+        return write_pair(before, lists, j, out, at);
+    }
+    if sort == Sort::FIELDS {
+        return write_pair(before, lists, j, out, at);
+    }
+    if sort == Sort::CASES {
+        let a = write_gap(before, out, at);
+        let b = write_byte(b'(', out, a);
+        let c = write_pair(0, lists, j, out, b);
+        let d = write_list(1, lists, Sort::NODES, run_at(lists, j + 4), out, c);
+        return write_byte(b')', out, d);
+    }
+    if sort == Sort::FNS {
+        let a = write_gap(before, out, at);
+        let b = write_byte(b'(', out, a);
+        let c = write_list(0, lists, Sort::TOKENS, run_at(lists, j), out, b);
+        let d = write_token(1, token_at(lists, j + 2), out, c);
+        let e = write_list(1, lists, Sort::PARAMS, run_at(lists, j + 5), out, d);
+        let f = write_number(1, cell(lists, j, 7) as usize, out, e);
+        return write_byte(b')', out, f);
+    }
+    write_token(before, token_at(lists, j), out, at)
 }
 
-pub(crate) fn write_extern_fns(
+// The list of a run, by its sort.
+pub(crate) fn write_list(
     before: usize,
     lists: &[u32],
+    sort: u64,
     run: Run,
     out: &mut [u8],
     at: usize,
 ) -> usize
-    ensures { λ r. ⌜ Emits (gap before ++ externFns (now (lists .entry)) run) (now (out .entry)) at (now (out .exit)) r ⌝ }
+    ensures { λ r. ⌜ Emits (gap before ++ list (now (lists .entry)) (membersOf sort) run) (now (out .entry)) at (now (out .exit)) r ⌝ }
 {
     let a = write_gap(before, out, at);
     let start = run.start as usize;
     let len = run.len as usize;
-    if start + 8 * len <= lists.len() {
-        let mut to = write_byte(b'(', out, a);
-        let mut i = 0;
-        while i < len {
-            to = write_extern_fn(i, lists, start + 8 * i, out, to);
-            i += 1;
-        }
-        write_byte(b')', out, to)
-    } else {
-        write_malformed(out, a)
+    let width = member_width(sort);
+    if lists.len() < start + width * len {
+        return write_malformed(out, a);
     }
+    let mut to = write_byte(b'(', out, a);
+    let mut i = 0;
+    while i < len {
+        to = write_member(i, lists, sort, start + width * i, out, to);
+        i += 1;
+    }
+    write_byte(b')', out, to)
 }

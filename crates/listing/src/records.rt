@@ -1,11 +1,8 @@
 // The records of nodes and types, fields in the order of ast.rs.
 use crate::emit::write_number;
-use crate::forms::write_cases;
-use crate::forms::write_extern_fns;
-use crate::forms::write_ids;
-use crate::forms::write_pairs;
+use crate::forms::write_list;
 use crate::forms::write_token;
-use crate::forms::write_tokens;
+use ast::schema::Sort;
 use lex::Token;
 use rules::Node;
 use rules::NodeId;
@@ -55,7 +52,7 @@ fn write_default(lists: &[u32], t: Token, body: Run, out: &mut [u8], at: usize) 
 {
     let a = write_text(b" (", out, at);
     let b = write_token(0, t, out, a);
-    let c = write_ids(1, lists, body, out, b);
+    let c = write_list(1, lists, Sort::NODES, body, out, b);
     write_byte(b')', out, c)
 }
 
@@ -72,7 +69,7 @@ fn write_match(
 {
     let a = write_text(b"(Match", out, at);
     let b = write_number(1, id as usize, out, a);
-    let c = write_cases(1, lists, cases, out, b);
+    let c = write_list(1, lists, Sort::CASES, cases, out, b);
     let d = write_default(lists, default_token, default_body, out, c);
     write_byte(b')', out, d)
 }
@@ -100,7 +97,7 @@ fn write_let_node(
 {
     let a = write_text(b"(Let", out, at);
     let b = write_number(1, id as usize, out, a);
-    let c = write_tokens(1, lists, docs, out, b);
+    let c = write_list(1, lists, Sort::TOKENS, docs, out, b);
     let d = write_token(1, name, out, c);
     let e = write_number(1, rhs.0 as usize, out, d);
     write_byte(b')', out, e)
@@ -121,11 +118,11 @@ fn write_fn_node(
 {
     let a = write_text(b"(Fn", out, at);
     let b = write_number(1, id as usize, out, a);
-    let c = write_tokens(1, lists, docs, out, b);
+    let c = write_list(1, lists, Sort::TOKENS, docs, out, b);
     let d = write_token(1, name, out, c);
-    let e = write_pairs(1, lists, args, out, d);
+    let e = write_list(1, lists, Sort::PARAMS, args, out, d);
     let f = write_number(1, return_type.0 as usize, out, e);
-    let g = write_ids(1, lists, body, out, f);
+    let g = write_list(1, lists, Sort::NODES, body, out, f);
     write_byte(b')', out, g)
 }
 
@@ -135,7 +132,7 @@ fn write_call(lists: &[u32], id: u32, target: NodeId, args: Run, out: &mut [u8],
     let a = write_text(b"(Call", out, at);
     let b = write_number(1, id as usize, out, a);
     let c = write_number(1, target.0 as usize, out, b);
-    let d = write_ids(1, lists, args, out, c);
+    let d = write_list(1, lists, Sort::NODES, args, out, c);
     write_byte(b')', out, d)
 }
 
@@ -155,7 +152,7 @@ fn write_import(lists: &[u32], id: u32, src: Token, pkgs: Run, out: &mut [u8], a
     let a = write_text(b"(Import", out, at);
     let b = write_number(1, id as usize, out, a);
     let c = write_token(1, src, out, b);
-    let d = write_tokens(1, lists, pkgs, out, c);
+    let d = write_list(1, lists, Sort::TOKENS, pkgs, out, c);
     write_byte(b')', out, d)
 }
 
@@ -174,9 +171,9 @@ fn write_extern_node(
     let a = write_text(b"(Extern", out, at);
     let b = write_number(1, id as usize, out, a);
     let c = write_token(1, src, out, b);
-    let d = write_tokens(1, lists, docs, out, c);
+    let d = write_list(1, lists, Sort::TOKENS, docs, out, c);
     let e = write_token(1, name, out, d);
-    let f = write_extern_fns(1, lists, fns, out, e);
+    let f = write_list(1, lists, Sort::FNS, fns, out, e);
     write_byte(b')', out, f)
 }
 
@@ -193,7 +190,7 @@ fn write_record_node(
     let a = write_text(b"(Record", out, at);
     let b = write_number(1, id as usize, out, a);
     let c = write_token(1, src, out, b);
-    let d = write_pairs(1, lists, fields, out, c);
+    let d = write_list(1, lists, Sort::FIELDS, fields, out, c);
     write_byte(b')', out, d)
 }
 
@@ -210,7 +207,7 @@ fn write_array_node(
     let a = write_text(b"(Array", out, at);
     let b = write_number(1, id as usize, out, a);
     let c = write_token(1, src, out, b);
-    let d = write_ids(1, lists, members, out, c);
+    let d = write_list(1, lists, Sort::NODES, members, out, c);
     write_byte(b')', out, d)
 }
 
@@ -297,7 +294,7 @@ fn write_record_type(lists: &[u32], src: Token, fields: Run, out: &mut [u8], at:
 {
     let a = write_text(b"(Record", out, at);
     let b = write_token(1, src, out, a);
-    let c = write_pairs(1, lists, fields, out, b);
+    let c = write_list(1, lists, Sort::PARAMS, fields, out, b);
     write_byte(b')', out, c)
 }
 

@@ -1,18 +1,19 @@
 -- `listing::records::write_default` meets its contract.
 use borrow.Author.Needs.{needs}
+use Rattle.ast.specs.Schema.{membersOf}
 use Rattle.listing.specs.Text.{gap, fields, tuple}
 use Rattle.text.proofs.EmitLaws.{then, same-size}
 use Rattle.listing.proofs.records.write_default.Statement.{statement}
 use Rattle.listing.proofs.records.write_default.Tie as tie
 
 returns : tie.Need-returns
-unfolding tuple fields gap
+unfolding membersOf tuple fields gap
 returns c =
     let s4 = c .before .before in
     let s3 = s4 .before .before .before .before in
     let s2 = s3 .before .before .before .before in
     let s1 = s2 .before .before .before .before in
-    (then (s1 .write-text .ensures) (then (s2 .write-token .ensures) (then (s3 .write-ids .ensures) (s4 .write-byte .ensures))))
+    (then (s1 .write-text .ensures) (then (s2 .write-token .ensures) (then (s3 .write-list .ensures) (s4 .write-byte .ensures))))
 
 same-length : tie.Need-same-length
 same-length c = same-size (returns c)

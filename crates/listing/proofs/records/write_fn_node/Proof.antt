@@ -1,13 +1,14 @@
 -- `listing::records::write_fn_node` meets its contract.
 use borrow.Author.Needs.{needs}
 use Rattle.text.specs.Text.{bytes}
+use Rattle.ast.specs.Schema.{membersOf}
 use Rattle.listing.specs.Text.{fields, form, node}
 use Rattle.text.proofs.EmitLaws.{then, same-size}
 use Rattle.listing.proofs.records.write_fn_node.Statement.{statement}
 use Rattle.listing.proofs.records.write_fn_node.Tie as tie
 
 returns : tie.Need-returns
-unfolding node form bytes fields
+unfolding membersOf node form bytes fields
 returns c =
     let s8 = c .before .before in
     let s7 = s8 .before .before .before .before in
@@ -17,7 +18,7 @@ returns c =
     let s3 = s4 .before .before .before .before in
     let s2 = s3 .before .before .before .before in
     let s1 = s2 .before .before .before .before in
-    (then (s1 .write-text .ensures) (then (s2 .write-number .ensures) (then (s3 .write-tokens .ensures) (then (s4 .write-token .ensures) (then (s5 .write-pairs .ensures) (then (s6 .write-number2 .ensures) (then (s7 .write-ids .ensures) (s8 .write-byte .ensures))))))))
+    (then (s1 .write-text .ensures) (then (s2 .write-number .ensures) (then (s3 .write-list .ensures) (then (s4 .write-token .ensures) (then (s5 .write-list2 .ensures) (then (s6 .write-number2 .ensures) (then (s7 .write-list3 .ensures) (s8 .write-byte .ensures))))))))
 
 same-length : tie.Need-same-length
 same-length c = same-size (returns c)

@@ -1,20 +1,21 @@
 -- `listing::records::write_record_node` meets its contract.
 use borrow.Author.Needs.{needs}
 use Rattle.text.specs.Text.{bytes}
+use Rattle.ast.specs.Schema.{membersOf}
 use Rattle.listing.specs.Text.{fields, form, node}
 use Rattle.text.proofs.EmitLaws.{then, same-size}
 use Rattle.listing.proofs.records.write_record_node.Statement.{statement}
 use Rattle.listing.proofs.records.write_record_node.Tie as tie
 
 returns : tie.Need-returns
-unfolding node form bytes fields
+unfolding membersOf node form bytes fields
 returns c =
     let s5 = c .before .before in
     let s4 = s5 .before .before .before .before in
     let s3 = s4 .before .before .before .before in
     let s2 = s3 .before .before .before .before in
     let s1 = s2 .before .before .before .before in
-    (then (s1 .write-text .ensures) (then (s2 .write-number .ensures) (then (s3 .write-token .ensures) (then (s4 .write-pairs .ensures) (s5 .write-byte .ensures)))))
+    (then (s1 .write-text .ensures) (then (s2 .write-number .ensures) (then (s3 .write-token .ensures) (then (s4 .write-list .ensures) (s5 .write-byte .ensures)))))
 
 same-length : tie.Need-same-length
 same-length c = same-size (returns c)

@@ -1,19 +1,20 @@
 -- `listing::records::write_record_type` meets its contract.
 use borrow.Author.Needs.{needs}
 use Rattle.text.specs.Text.{bytes}
+use Rattle.ast.specs.Schema.{membersOf}
 use Rattle.listing.specs.Text.{fields, form, typeExpr}
 use Rattle.text.proofs.EmitLaws.{then, same-size}
 use Rattle.listing.proofs.records.write_record_type.Statement.{statement}
 use Rattle.listing.proofs.records.write_record_type.Tie as tie
 
 returns : tie.Need-returns
-unfolding typeExpr form bytes fields
+unfolding membersOf typeExpr form bytes fields
 returns c =
     let s4 = c .before .before in
     let s3 = s4 .before .before .before .before in
     let s2 = s3 .before .before .before .before in
     let s1 = s2 .before .before .before .before in
-    (then (s1 .write-text .ensures) (then (s2 .write-token .ensures) (then (s3 .write-pairs .ensures) (s4 .write-byte .ensures))))
+    (then (s1 .write-text .ensures) (then (s2 .write-token .ensures) (then (s3 .write-list .ensures) (s4 .write-byte .ensures))))
 
 same-length : tie.Need-same-length
 same-length c = same-size (returns c)
