@@ -1,4 +1,5 @@
--- The bits of a byte's class: each is set where the byte has the property, shown at all 256 bytes by a table that antt computes. A greater number has none.
+-- The bits of a byte's class: each is set where the byte has the property, shown at all 256 bytes
+-- by a table that antt computes. A greater number has none.
 -- Assumes nothing.
 use mathlib.Core.Path.{_≡_, refl, _∙_, sym}
 use mathlib.Core.Bool.{Bool, true, false, not, _||_}
@@ -91,7 +92,7 @@ class-bits b = (
   everywhere 16 isWs refl refl no-separator b,
 )
 
--- ---- bytes that are told without the table
+-- ---- bytes that are tested without the table
 
 -- with bit 5 set a letter is a small letter
 pub letter-small : (b : ℕ) → b < 256 → between 97 122 (bitOr b 32) ≡ isLetter b

@@ -30,7 +30,8 @@ pub examples :
     × (cut (36 ∷ []) ≡ bad 33 0 1 36 (eof 1))
     -- `"a`, LF, `b`: without a closing quote the fault covers the rest of the line
     × (cut (34 ∷ 97 ∷ 10 ∷ 98 ∷ []) ≡ bad 31 0 2 0 (tok kIdent 3 1 4 (eof 4)))
-    -- `"`, the surrogate D800, `"`: the fault goes up to the closing quote, and reading goes on after it
+    -- `"`, the surrogate D800, `"`: the fault goes up to the closing quote, and reading goes on
+    -- after it
     × (cut (34 ∷ 0xed ∷ 0xa0 ∷ 0x80 ∷ 34 ∷ []) ≡ bad 32 0 4 0 (eof 5))
     -- `import(` and a string of one letter with an accent
     × (cut (105 ∷ 109 ∷ 112 ∷ 111 ∷ 114 ∷ 116 ∷ 40 ∷ 34 ∷ 0xc3 ∷ 0xa9 ∷ 34 ∷ []) ≡ tok kImport 0 6 6 (tok kBraceLeft 6 1 7 (tok kS 7 2 11 (eof 11))))

@@ -78,9 +78,6 @@ module _ (p : ℕ → Bool) (s : List ℕ) (i n : ℕ) (scanned : i + countWhile
   unfolding countWhile
   run-end h = omega (arith, rw (drop-of-length-le s h) at scanned)
 
-  pub run-rest : (q : ℕ → Bool) → ((b : ℕ) → q b ≡ p b) → (r : ℕ) → r ≡ i + countWhile q (drop i s) → r ≡ n
-  run-rest q same r e = omega (arith, run-agree q p same (drop i s))
-
 -- a run that is scanned from the front on
 pub run-all : (p q : ℕ → Bool) → ((b : ℕ) → q b ≡ p b) → (s : List ℕ) (r : ℕ) → r ≡ 0 + countWhile q (drop 0 s) → r ≡ countWhile p s
 run-all p q same s r e = e ∙ zero-add _ ∙ run-agree q p same s
@@ -100,7 +97,7 @@ run-fits p s a k h e = omega (arith, run-le p (drop a s), length-drop a s)
 
 -- ---- a run, scanned by windows
 
--- a run is as long as the bytes told so far, and one more
+-- a run is as long as the bytes tested so far, and one more
 window-more : (p : ℕ → Bool) (k : ℕ) (s : List ℕ) → k < length s → leb k (countWhile p s) && p (getD s k 0) ≡ leb (suc k) (countWhile p s)
 unfolding countWhile
 window-more p k [] h = absurd (not-suc-le-zero h)
@@ -245,7 +242,8 @@ first-differs (x ∷ xs) (y ∷ ys) h = rw (ne-eqb x y h, sameBytes)
 
 -- ---- what the last arm of a `match` on a number knows
 
--- the number is none of the arms' numbers: the pairs nest to the left, as they do where the arm is proved
+-- the number is none of the arms' numbers: the pairs nest to the left, as they do where the arm is
+-- proved
 abbrev pub NoneOf : (A : Type 0) → ℕ → List ℕ → Type 0
 NoneOf A b [] = A
 NoneOf A b (x ∷ xs) = NoneOf (A × (b ≡ x → ⊥)) b xs

@@ -1,4 +1,5 @@
--- The laws of where the lexer stands: it begins after no token, and `nextAt` takes it past one more.
+-- The laws of where the lexer stands: it begins after no token, and `nextAt` takes it past one
+-- more.
 -- Assumes nothing.
 use mathlib.Core.Path.{_≡_, refl, _∙_, sym, ap}
 use mathlib.Core.List.{List}

@@ -1,4 +1,5 @@
--- A piece takes at least one byte and no more than there are, its span lies within what it takes, and no token of it is Eof.
+-- A piece takes at least one byte and no more than there are, its span lies within what it takes,
+-- and no token of it is Eof.
 -- Assumes nothing.
 use mathlib.Core.Path.{_≡_, refl}
 use mathlib.Core.Bool.{true, false}

@@ -1,4 +1,5 @@
--- Which piece the first byte decides: a sign begins nothing else, and a byte that is none makes no sign of two bytes.
+-- Which piece the first byte decides: a sign begins nothing else, and a byte that is none makes no
+-- sign of two bytes.
 -- Assumes nothing.
 use mathlib.Core.Path.{_≡_, refl, _∙_, sym, ap}
 use mathlib.Core.Bool.{Bool, true, false}

@@ -1,4 +1,5 @@
--- Spellings: what `spelling` answers, and that of every token that the lexer yields the kind is known and the spelling lies in the script.
+-- Spellings: what `spelling` answers, and that of every token that the lexer yields the kind is
+-- known and the spelling lies in the script.
 -- Assumes nothing.
 use mathlib.Core.Path.{_≡_, refl, sym}
 use mathlib.Core.Bool.{Bool, true, false}

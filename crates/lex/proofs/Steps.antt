@@ -1,5 +1,6 @@
--- The laws of the cut: every step moves forward and stays within the script, the cut from a position on begins with what
--- the step there gives, and `nextAt` gives the first token of `tokensFrom` and where the others begin.
+-- The laws of the cut: every step moves forward and stays within the script, the cut from a
+-- position on begins with what the step there gives, and `nextAt` gives the first token of
+-- `tokensFrom` and where the others begin.
 -- Assumes nothing.
 use mathlib.Core.Path.{_≡_, refl, ap}
 use mathlib.Core.Bool.{Bool, true, false}
@@ -32,7 +33,8 @@ skipped-le false (b ∷ bs) =
 
 -- ---- a step moves forward, within the script
 
--- a span that starts at `pos` or after it and ends before or at `next`, which lies after its start and within the script
+-- a span that starts at `pos` or after it and ends before or at `next`, which lies after its start
+-- and within the script
 pub record Moves (script : List ℕ) (pos start len next : ℕ) : Type 0 where
   pub begins : pos ≤ start
   pub moves : start < next
@@ -85,8 +87,8 @@ module _ (script : List ℕ) where
       same-step (cutFrom (length script) script) (cutAt script) pos (stepAt script pos) (step-forward script pos)
       (λ n p q. enough (length script) (suc (length script)) n (omega arith) (omega arith))
 
-  -- what holds of the cut from every position on, if it holds of the cut that each step begins where it holds of what follows;
-  -- of the step itself `Q` is known
+  -- what holds of the cut from every position on, if it holds of the cut that each step begins
+  -- where it holds of what follows; of the step itself `Q` is known
   pub cut-by : (Q : ℕ → Step → Type 0) → ((pos : ℕ) → Q pos (stepAt script pos)) → (P : ℕ → Cut → Type 0)
       → ((pos : ℕ) (s : Step) → Q pos s → ((n : ℕ) → pos < n → n ≤ length script → P n (cutAt script n)) → P pos (extendCut (cutAt script) s))
       → (f pos : ℕ) → length script - pos < f → P pos (cutAt script pos)

@@ -40,7 +40,12 @@ bit false n = 0
 
 -- the five bits of a byte's class
 unfoldable pub classOf : ℕ → ℕ
-classOf b = bit (isIdentCont b) 1 + bit (isIdentStart b) 2 + bit (isDigit b) 4 + bit (isNumCont b) 8 + bit (isWs b) 16
+classOf b =
+    bit (isIdentCont b) 1
+    + bit (isIdentStart b) 2
+    + bit (isDigit b) 4
+    + bit (isNumCont b) 8
+    + bit (isWs b) 16
 
 -- how many bytes in front have the property
 unfoldable pub countWhile : (ℕ → Bool) → List ℕ → ℕ

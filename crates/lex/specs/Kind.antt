@@ -1,4 +1,5 @@
--- The kinds of token, numbered in the order of `Type`, the signs, the keyword table and the fixed spellings.
+-- The kinds of token, numbered in the order of `Type`, the signs, the keyword table and the fixed
+-- spellings.
 use mathlib.Core.Bool.{Bool, true, false}
 use mathlib.Core.List.{List, [], _∷_, map}
 use Prim.Native.Nat.{ℕ}
@@ -173,27 +174,32 @@ keywords =
 -- the kind of a name: its keyword's, or Ident
 unfoldable pub nameKind : List Keyword → List ℕ → ℕ
 nameKind [] name = kIdent
-nameKind (w ∷ ws) name = elim (sameBytes (w .spelling) name) [ true ↦ w .kind | false ↦ nameKind ws name ]
+nameKind (w ∷ ws) name =
+    elim (sameBytes (w .spelling) name) [ true ↦ w .kind | false ↦ nameKind ws name ]
 
 -- the signs of one byte, and the kind of each
 unfoldable pub punctuators : List ℕ
-punctuators = 40 ∷ 41 ∷ 43 ∷ 45 ∷ 42 ∷ 47 ∷ 37 ∷ 61 ∷ 60 ∷ 62 ∷ 33 ∷ 63 ∷ 58 ∷ 46 ∷ 91 ∷ 93 ∷ 123 ∷ 125 ∷ []
+punctuators =
+    40 ∷ 41 ∷ 43 ∷ 45 ∷ 42 ∷ 47 ∷ 37 ∷ 61 ∷ 60 ∷ 62 ∷ 33 ∷ 63 ∷ 58 ∷ 46 ∷ 91 ∷ 93 ∷ 123 ∷ 125 ∷ []
 
 unfoldable pub punctuatorKinds : List ℕ
 punctuatorKinds =
-    kBraceLeft ∷ kBraceRight ∷ kPlus ∷ kMinus ∷ kAsteriks ∷ kSlash ∷ kPercent ∷ kEqual ∷ kLessThan ∷ kGreaterThan ∷
-    kExclaim ∷ kQuestion ∷ kColon ∷ kDot ∷ kBraketLeft ∷ kBraketRight ∷ kCurlyLeft ∷ kCurlyRight ∷ []
+    kBraceLeft ∷ kBraceRight ∷ kPlus ∷ kMinus ∷ kAsteriks ∷ kSlash ∷ kPercent ∷ kEqual ∷
+    kLessThan ∷ kGreaterThan ∷ kExclaim ∷ kQuestion ∷ kColon ∷ kDot ∷
+    kBraketLeft ∷ kBraketRight ∷ kCurlyLeft ∷ kCurlyRight ∷ []
 
 -- the kind of a sign of one byte; 0 where the byte is none
 unfoldable pub punctuatorKind : ℕ → ℕ
 punctuatorKind b = elim (findByte b punctuators) [ At i ↦ getD punctuatorKinds i 0 | Nothing ↦ 0 ]
 
--- the fixed spelling of each kind from 0 on; empty for S, D, I, Ident and Doc, whose tokens have their own
+-- the fixed spelling of each kind from 0 on; empty for S, D, I, Ident and Doc, whose tokens have
+-- their own
 unfoldable pub fixedSpellings : List (List ℕ)
 fixedSpellings =
     [] ∷ (101 ∷ 111 ∷ 102 ∷ []) ∷
-    (40 ∷ []) ∷ (41 ∷ []) ∷ (43 ∷ []) ∷ (45 ∷ []) ∷ (42 ∷ []) ∷ (47 ∷ []) ∷ (37 ∷ []) ∷ (61 ∷ []) ∷ (61 ∷ 61 ∷ []) ∷ (60 ∷ []) ∷
-    (62 ∷ []) ∷ (33 ∷ []) ∷ (33 ∷ 61 ∷ []) ∷ (63 ∷ []) ∷ (58 ∷ []) ∷ (46 ∷ []) ∷ (91 ∷ []) ∷ (93 ∷ []) ∷ (123 ∷ []) ∷ (125 ∷ []) ∷
+    (40 ∷ []) ∷ (41 ∷ []) ∷ (43 ∷ []) ∷ (45 ∷ []) ∷ (42 ∷ []) ∷ (47 ∷ []) ∷ (37 ∷ []) ∷
+    (61 ∷ []) ∷ (61 ∷ 61 ∷ []) ∷ (60 ∷ []) ∷ (62 ∷ []) ∷ (33 ∷ []) ∷ (33 ∷ 61 ∷ []) ∷ (63 ∷ []) ∷
+    (58 ∷ []) ∷ (46 ∷ []) ∷ (91 ∷ []) ∷ (93 ∷ []) ∷ (123 ∷ []) ∷ (125 ∷ []) ∷
     [] ∷ [] ∷ [] ∷ [] ∷ [] ∷
     map (λ (w : Keyword). w .spelling) keywords
 

@@ -11,8 +11,10 @@ use Rattle.lex.specs.declared.tok.Fault.{Fault}
 use Rattle.lex.specs.declared.tok.Piece.{Piece}
 use Rattle.lex.specs.declared.tok.Step.{Step}
 use Rattle.lex.specs.declared.tok.Next.{Next}
-use Rattle.lex.specs.Bytes.{or, isWs, isDigit, isIdentStart, isIdentCont, isNumCont, countWhile, before, findByte}
-use Rattle.lex.specs.Kind.{kEof, kDoubleEqual, kNotEqual, kS, kD, kI, kDoc, keywords, nameKind, punctuatorKind}
+use Rattle.lex.specs.Bytes.{or, isWs, isDigit, isIdentStart, isIdentCont}
+use Rattle.lex.specs.Bytes.{isNumCont, countWhile, before, findByte}
+use Rattle.lex.specs.Kind.{kEof, kDoubleEqual, kNotEqual, kS, kD, kI}
+use Rattle.lex.specs.Kind.{kDoc, keywords, nameKind, punctuatorKind}
 use Rattle.lex.specs.Utf8.{utf8}
 
 -- a comment begins with `#`, but not with `#!`
@@ -22,7 +24,8 @@ beginsComment b next = elim (eqb b 35) [ true ↦ not (eqb next 33) | false ↦ 
 -- the blanks and comments in front, inside a comment or not
 unfoldable pub skipped : Bool → List ℕ → ℕ
 skipped comment [] = 0
-skipped true (b ∷ bs) = elim (eqb b 10) [ true ↦ suc (skipped false bs) | false ↦ suc (skipped true bs) ]
+skipped true (b ∷ bs) =
+    elim (eqb b 10) [ true ↦ suc (skipped false bs) | false ↦ suc (skipped true bs) ]
 skipped false (b ∷ bs) =
     elim (isWs b) [
       | true ↦ suc (skipped false bs)
@@ -31,7 +34,11 @@ skipped false (b ∷ bs) =
 
 -- a sign of one byte, or an unknown character
 unfoldable pub punctuator : ℕ → Piece
-punctuator b = elim (ltb 0 (punctuatorKind b)) [ true ↦ Piece.Token (punctuatorKind b) 1 1 | false ↦ Piece.Fault 33 1 b 1 ]
+punctuator b =
+    elim (ltb 0 (punctuatorKind b)) [
+      | true ↦ Piece.Token (punctuatorKind b) 1 1
+      | false ↦ Piece.Fault 33 1 b 1
+    ]
 
 -- a sign of two bytes, `==` or `!=`, or what one byte is
 unfoldable pub punctuation : ℕ → ℕ → Piece
@@ -48,7 +55,8 @@ punctuation b next =
 unfoldable pub leadingSpace : List ℕ → ℕ
 leadingSpace line = elim (eqb (getD line 0 0) 32) [ true ↦ 1 | false ↦ 0 ]
 
--- a doc: `bs` is what follows `#!`, its first line is `n` long, and the doc's spelling is that line less one leading space
+-- a doc: `bs` is what follows `#!`, its first line is `n` long, and the doc's spelling is that line
+-- less one leading space
 unfoldable pub docIn : ℕ → List ℕ → Piece
 docIn n bs =
     let line = take n bs in
@@ -64,16 +72,25 @@ doc bs = docIn (before 10 bs) bs
 unfoldable pub string : List ℕ → Piece
 string bs =
     elim (findByte 34 bs) [
-      | At n ↦ elim (utf8 (take n bs)) [ true ↦ Piece.Token kS n (n + 2) | false ↦ Piece.Fault 32 (n + 1) 0 (n + 2) ]
+      | At n ↦
+          elim (utf8 (take n bs)) [
+            | true ↦ Piece.Token kS n (n + 2)
+            | false ↦ Piece.Fault 32 (n + 1) 0 (n + 2)
+          ]
       | Nothing ↦ Piece.Fault 31 (before 10 bs + 1) 0 (before 10 bs + 1)
     ]
 
--- a number with a dot before `from`, in a run of `n` digits and dots: a second dot ends it where a name follows, and else is a fault over the whole run
+-- a number with a dot before `from`, in a run of `n` digits and dots: a second dot ends it where a
+-- name follows, and else is a fault over the whole run
 unfoldable pub doubleIn : ℕ → ℕ → List ℕ → Piece
 doubleIn n from bs =
     elim (findByte 46 (take (n - from) (drop from bs))) [
       | Nothing ↦ Piece.Token kD n n
-      | At more ↦ elim (isIdentStart (getD bs (from + more + 1) 0)) [ true ↦ Piece.Token kD (from + more) (from + more) | false ↦ Piece.Fault 34 n 0 n ]
+      | At more ↦
+          elim (isIdentStart (getD bs (from + more + 1) 0)) [
+            | true ↦ Piece.Token kD (from + more) (from + more)
+            | false ↦ Piece.Fault 34 n 0 n
+          ]
     ]
 
 -- a number, in a run of `n` digits and dots: a dot ends it where a name follows
@@ -81,20 +98,27 @@ unfoldable pub numberIn : ℕ → List ℕ → Piece
 numberIn n bs =
     elim (findByte 46 (take n bs)) [
       | Nothing ↦ Piece.Token kI n n
-      | At first ↦ elim (isIdentStart (getD bs (first + 1) 0)) [ true ↦ Piece.Token kI first first | false ↦ doubleIn n (first + 1) bs ]
+      | At first ↦
+          elim (isIdentStart (getD bs (first + 1) 0)) [
+            | true ↦ Piece.Token kI first first
+            | false ↦ doubleIn n (first + 1) bs
+          ]
     ]
 
 unfoldable pub number : List ℕ → Piece
 number bs = numberIn (countWhile isNumCont bs) bs
 
 unfoldable pub name : List ℕ → Piece
-name bs = Piece.Token (nameKind keywords (take (countWhile isIdentCont bs) bs)) (countWhile isIdentCont bs) (countWhile isIdentCont bs)
+name bs =
+    let n = countWhile isIdentCont bs in
+    Piece.Token (nameKind keywords (take n bs)) n n
 
 -- a doc, a sign or an unknown character
 unfoldable pub symbol : List ℕ → Piece
 symbol bs =
     elim (eqb (getD bs 0 0) 35) [
-      | true ↦ elim (eqb (getD bs 1 0) 33) [ true ↦ doc (drop 2 bs) | false ↦ punctuator (getD bs 0 0) ]
+      | true ↦
+          elim (eqb (getD bs 1 0) 33) [ true ↦ doc (drop 2 bs) | false ↦ punctuator (getD bs 0 0) ]
       | false ↦ punctuation (getD bs 0 0) (getD bs 1 0)
     ]
 
@@ -117,12 +141,18 @@ piece bs =
 
 -- a piece at its place in the script
 abbrev pub placed : ℕ → Piece → Step
-placed at (Piece.Token kind len taken) = Step.Token (record { kind = kind; start = at; len = len }) (at + taken)
-placed at (Piece.Fault number len seen taken) = Step.Fault (record { number = number; start = at; len = len; seen = seen }) (at + taken)
+placed at (Piece.Token kind len taken) =
+    Step.Token (record { kind = kind; start = at; len = len }) (at + taken)
+placed at (Piece.Fault number len seen taken) =
+    Step.Fault (record { number = number; start = at; len = len; seen = seen }) (at + taken)
 
 -- what stands at a position that no blank or comment begins, with the next position
 unfoldable pub standsAt : List ℕ → ℕ → Step
-standsAt script at = elim (ltb at (length script)) [ true ↦ placed at (piece (drop at script)) | false ↦ Step.End at ]
+standsAt script at =
+    elim (ltb at (length script)) [
+      | true ↦ placed at (piece (drop at script))
+      | false ↦ Step.End at
+    ]
 
 -- what stands at a position after blanks and comments
 unfoldable pub stepAt : List ℕ → ℕ → Step
@@ -173,7 +203,8 @@ unfoldable pub nextAt : List ℕ → ℕ → Next
 nextAt script pos = nextOf (cutAt script pos)
 
 unfoldable pub diagnosticOf : Fault → Diagnostic
-diagnosticOf e = record { number = e .number; start = e .start; len = e .len; wanted = 0; seen = e .seen }
+diagnosticOf e =
+    record { number = e .number; start = e .start; len = e .len; wanted = 0; seen = e .seen }
 
 -- an error and how many tokens are cut before it, or read before it
 pub record Occurrence : Type 0 where
@@ -189,6 +220,10 @@ faultsOf n (cutFault e c) = record { after = n; diagnostic = diagnosticOf e } �
 unfoldable pub isPrefixSign : List ℕ → ℕ → Bool
 isPrefixSign script at =
     elim (ltb (at + 1) (length script)) [
-      | true ↦ elim (isWs (getD script (at + 1) 0)) [ true ↦ false | false ↦ or (eqb at 0) (isWs (getD script (at - 1) 0)) ]
+      | true ↦
+          elim (isWs (getD script (at + 1) 0)) [
+            | true ↦ false
+            | false ↦ or (eqb at 0) (isWs (getD script (at - 1) 0))
+          ]
       | false ↦ false
     ]

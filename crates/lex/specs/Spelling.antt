@@ -1,4 +1,5 @@
--- Where a token's own spelling begins. Only S, D, I, Ident and Doc take their spelling from the script.
+-- Where a token's own spelling begins. Only S, D, I, Ident and Doc take their spelling from the
+-- script.
 use mathlib.Core.Bool.{Bool, true, false}
 use mathlib.Core.List.{List}
 use Prim.Native.Nat.{ℕ, _+_}
@@ -17,7 +18,10 @@ hasSpelling k = elim (leb kS k) [ true ↦ leb k kDoc | false ↦ false ]
 -- how many of a token's bytes stand before its spelling: a quote; `#!` and one blank
 unfoldable pub spellingOffset : ℕ → List ℕ → ℕ
 spellingOffset kind bs =
-    elim (eqb kind kS) [ true ↦ 1 | false ↦ elim (eqb kind kDoc) [ true ↦ leadingSpace (drop 2 bs) + 2 | false ↦ 0 ] ]
+    elim (eqb kind kS) [
+      | true ↦ 1
+      | false ↦ elim (eqb kind kDoc) [ true ↦ leadingSpace (drop 2 bs) + 2 | false ↦ 0 ]
+    ]
 
 -- where a token's spelling begins
 unfoldable pub spellingStart : List ℕ → Token → ℕ
@@ -27,6 +31,10 @@ spellingStart script t = t .start + spellingOffset (t .kind) (drop (t .start) sc
 unfoldable pub spelling : List ℕ → Token → Found
 spelling script t =
     elim (hasSpelling (t .kind)) [
-      | true ↦ elim (leb (spellingStart script t + t .len) (length script)) [ true ↦ At (spellingStart script t) | false ↦ Nothing ]
+      | true ↦
+          elim (leb (spellingStart script t + t .len) (length script)) [
+            | true ↦ At (spellingStart script t)
+            | false ↦ Nothing
+          ]
       | false ↦ Nothing
     ]

@@ -7,7 +7,8 @@ ghost use mathlib.Core.Path.{_≡_};
 ghost use Prim.Native.Nat.{_+_, _≤_};
 ghost use lib.Dec.{leb, eqb};
 ghost use lib.ListN.{length, getD, drop};
-ghost use Rattle.lex.specs.Bytes.{isDigit, isIdentCont, isNumCont, isPlain, inSet, countWhile, before, findByte};
+ghost use Rattle.lex.specs.Bytes.{isDigit, isIdentCont, isNumCont, isPlain};
+ghost use Rattle.lex.specs.Bytes.{inSet, countWhile, before, findByte};
 
 // What a search found.
 pub enum Found {
@@ -26,6 +27,9 @@ impl ByteSet {
     pub(crate) const PLAIN: u8 = 2; // those of ASCII but one, which is given
 
     pub(crate) const EXCEPT: u8 = 3; // all bytes but one, which is given
+
+    // A byte to give where none is left out: it is in none of the first three sets.
+    pub(crate) const NO_ASCII: u8 = 0x80;
 }
 
 // Whether the byte is in the set.
@@ -40,7 +44,8 @@ fn in_set(set: u8, except: u8, b: u8) -> bool
     }
 }
 
-// Whether the 16 bytes from `at` on are all in the set. The loop has no early exit: so the compiled code compares all of them at once.
+// Whether the 16 bytes from `at` on are all in the set. The loop has no early exit, so that the
+// compiled code compares all of them in one step.
 fn window_in_set(set: u8, except: u8, bytes: &[u8], at: usize) -> bool
     requires { ⌜ at + 16 ≤ length (now bytes) ⌝ }
     ensures { λ r. ⌜ r ≡ leb 16 (countWhile (inSet set except) (drop at (now (bytes .entry)))) ⌝ }
@@ -54,7 +59,8 @@ fn window_in_set(set: u8, except: u8, bytes: &[u8], at: usize) -> bool
     all
 }
 
-// The position after the bytes from `from` on that are in the set: by windows of 16 bytes, and one by one where a window has another byte.
+// The position after the bytes from `from` on that are in the set: by windows of 16 bytes, and one
+// by one where a window has another byte.
 pub(crate) fn skip_set(set: u8, except: u8, bytes: &[u8], from: usize) -> usize
     requires { ⌜ from ≤ length (now bytes) ⌝ }
     ensures { λ r. ⌜ r ≡ from + countWhile (inSet set except) (drop from (now (bytes .entry))) ⌝ }
@@ -108,57 +114,54 @@ pub(crate) fn line_end(haystack: &[u8]) -> usize
     skip_set(ByteSet::EXCEPT, b'\n', haystack, 0)
 }
 
-// How many bytes in front are digits. Here and below the first 8 bytes are told one by one: most runs end there.
-pub(crate) fn skip_digits(haystack: &[u8]) -> usize
-    ensures { λ r. ⌜ r ≡ countWhile isDigit (now (haystack .entry)) ⌝ }
+// Whether the byte is in the set. Letters first: most bytes of names are.
+fn in_set_letters_first(set: u8, except: u8, b: u8) -> bool
+    ensures { λ r. ⌜ r ≡ inSet set except b ⌝ }
+{
+    if set == ByteSet::IDENT_CONT {
+        if is_letter(b) {
+            return true;
+        }
+    }
+    in_set(set, except, b)
+}
+
+// How many bytes in front are in the set. The first 8 are tested one by one: most runs end there.
+fn skip_front(set: u8, except: u8, haystack: &[u8]) -> usize
+    ensures { λ r. ⌜ r ≡ countWhile (inSet set except) (now (haystack .entry)) ⌝ }
 {
     if haystack.len() < 8 {
-        return skip_set(ByteSet::DIGIT, 0, haystack, 0);
+        return skip_set(set, except, haystack, 0);
     }
     let mut i = 0;
     while i < 8 {
-        if !is_digit(haystack[i]) {
+        if !in_set_letters_first(set, except, haystack[i]) {
             return i;
         }
         i += 1;
     }
-    skip_set(ByteSet::DIGIT, 0, haystack, i)
+    skip_set(set, except, haystack, i)
+}
+
+// How many bytes in front are digits.
+pub(crate) fn skip_digits(haystack: &[u8]) -> usize
+    ensures { λ r. ⌜ r ≡ countWhile isDigit (now (haystack .entry)) ⌝ }
+{
+    skip_front(ByteSet::DIGIT, ByteSet::NO_ASCII, haystack)
 }
 
 // How many bytes in front can continue a name.
 pub(crate) fn skip_ident_cont(haystack: &[u8]) -> usize
     ensures { λ r. ⌜ r ≡ countWhile isIdentCont (now (haystack .entry)) ⌝ }
 {
-    if haystack.len() < 8 {
-        return skip_set(ByteSet::IDENT_CONT, 0, haystack, 0);
-    }
-    let mut i = 0;
-    while i < 8 {
-        if !is_letter(haystack[i]) {
-            if !is_ident_cont(haystack[i]) {
-                return i;
-            }
-        }
-        i += 1;
-    }
-    skip_set(ByteSet::IDENT_CONT, 0, haystack, i)
+    skip_front(ByteSet::IDENT_CONT, ByteSet::NO_ASCII, haystack)
 }
 
 // How many bytes in front are of ASCII and not `needle`.
 pub(crate) fn skip_plain(needle: u8, haystack: &[u8]) -> usize
     ensures { λ r. ⌜ r ≡ countWhile (isPlain needle) (now (haystack .entry)) ⌝ }
 {
-    if haystack.len() < 8 {
-        return skip_set(ByteSet::PLAIN, needle, haystack, 0);
-    }
-    let mut i = 0;
-    while i < 8 {
-        if !in_set(ByteSet::PLAIN, needle, haystack[i]) {
-            return i;
-        }
-        i += 1;
-    }
-    skip_set(ByteSet::PLAIN, needle, haystack, i)
+    skip_front(ByteSet::PLAIN, needle, haystack)
 }
 
 // How many bytes in front can continue a number.

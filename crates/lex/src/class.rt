@@ -1,6 +1,7 @@
 // The class of a byte: five bits, looked up in one table.
 ghost use mathlib.Core.Path.{_≡_};
-ghost use Rattle.lex.specs.Bytes.{isWs, isLetter, isDigit, isIdentStart, isIdentCont, isNumCont, classOf};
+ghost use Rattle.lex.specs.Bytes.{isWs, isLetter, isDigit, isIdentStart};
+ghost use Rattle.lex.specs.Bytes.{isIdentCont, isNumCont, classOf};
 
 // The bits of a class: what the byte can be or begin.
 pub(crate) struct Class(pub u8);
@@ -17,8 +18,8 @@ impl Class {
     pub(crate) const WS: u8 = 16;
 }
 
-// The class of each byte. The compiled code writes a constant array onto the stack at each use: so the commonest bytes are told without it, and whoever
-// looks up many takes it once and lends it.
+// The class of each byte. The compiled code writes a constant array onto the stack at each use: so
+// the commonest bytes are tested without it.
 pub(crate) const CLASS: [u8; 256] = [
     0,
     0,
@@ -299,7 +300,8 @@ pub(crate) fn is_digit(b: u8) -> bool
     b <= b'9'
 }
 
-// Whether the byte separates: space, tab, CR or LF. Without branches, here and for names: so that 16 bytes are told at once.
+// Whether the byte separates: space, tab, CR or LF. Without branches, here and for names, so that
+// 16 bytes are tested in one step.
 pub(crate) fn is_ws(b: u8) -> bool
     ensures { λ r. ⌜ r ≡ isWs b ⌝ }
 {

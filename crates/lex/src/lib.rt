@@ -34,7 +34,10 @@ ghost use lib.ListN.{length, getD, drop};
 ghost use Rattle.lex.specs.declared.tok.Piece.{Piece};
 ghost use Rattle.lex.specs.Bytes.{isNumCont, countWhile};
 ghost use Rattle.lex.specs.Kind.{punctuatorKind};
-ghost use Rattle.lex.specs.Lex.{beginsComment, skipped, punctuation as punctuationOf, leadingSpace, doc as docOf, string as stringOf, doubleIn, number as numberOf, name as nameOf, symbol as symbolOf, piece as pieceOf, stepAt, nextAt, isPrefixSign};
+ghost use Rattle.lex.specs.Lex.{beginsComment, skipped, punctuation as punctuationOf};
+ghost use Rattle.lex.specs.Lex.{leadingSpace, doc as docOf, string as stringOf, doubleIn};
+ghost use Rattle.lex.specs.Lex.{number as numberOf, name as nameOf, symbol as symbolOf};
+ghost use Rattle.lex.specs.Lex.{piece as pieceOf, stepAt, nextAt, isPrefixSign};
 
 // A sign detached from what precedes it and glued to what follows begins a new expression.
 pub fn is_prefix_sign(script: &[u8], at: usize) -> bool
@@ -141,7 +144,8 @@ fn leading_space(line: &[u8]) -> usize
     if peek(line, 0) == b' ' { 1 } else { 0 }
 }
 
-// A doc, of which `rest` is what follows `#!`. Most are of ASCII and are read in one pass, as strings are.
+// A doc, of which `rest` is what follows `#!`. Most are of ASCII and are read in one pass, as
+// strings are.
 fn doc(rest: &[u8]) -> Piece
     ensures { λ r. ⌜ r ≡ docOf (now (rest .entry)) ⌝ }
 {
@@ -209,10 +213,13 @@ fn string(rest: &[u8]) -> Piece
     }
 }
 
-// A number with a dot before `from`: digits; a second dot ends it where a name follows, and else is a fault over the whole run of digits and dots.
+// A number with a dot before `from`: digits; a second dot ends it where a name follows, and else is
+// a fault over the whole run of digits and dots.
 fn double(rest: &[u8], from: usize) -> Piece
     requires { ⌜ from ≤ length (now rest) ⌝ }
-    ensures { λ r. ⌜ r ≡ doubleIn (from + countWhile isNumCont (drop from (now (rest .entry)))) from (now (rest .entry)) ⌝ }
+    ensures { λ r.
+        let bytes = now (rest .entry) in
+        ⌜ r ≡ doubleIn (from + countWhile isNumCont (drop from bytes)) from bytes ⌝ }
 {
     let second = from + skip_digits(&rest[from..]);
     if peek(rest, second) != b'.' {
@@ -352,7 +359,8 @@ pub fn step(script: &[u8], pos: usize) -> Step
     }
 }
 
-// The first token at a position or after it, past all faults, and the position after it; Eof at the end.
+// The first token at a position or after it, past all faults, and the position after it; Eof at the
+// end.
 pub fn next_token(script: &[u8], pos: usize) -> Next
     ensures { λ r. ⌜ r ≡ nextAt (now (script .entry)) pos ⌝ }
 {

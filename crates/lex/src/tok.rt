@@ -4,7 +4,8 @@ use crate::leading_space;
 ghost use mathlib.Core.Path.{_≡_};
 ghost use mathlib.Core.List.{[], _∷_};
 ghost use lib.ListN.{length};
-ghost use Rattle.lex.specs.Kind.{sameBytes, keywords, nameKind, punctuatorKind, fixedSpelling};
+ghost use Rattle.lex.specs.Kind.{sameBytes, keywords, nameKind};
+ghost use Rattle.lex.specs.Kind.{punctuatorKind, fixedSpelling};
 ghost use Rattle.lex.specs.Spelling.{spellingOffset, spelling as spellingOf};
 
 // A token: its kind, where it starts and how long its spelling is.
@@ -14,7 +15,8 @@ pub struct Token {
     pub len: usize,
 }
 
-// A fault: its number, where its span starts and how long it is, and the byte that is seen; 0 but for an unknown character.
+// A fault: its number, where its span starts and how long it is, and the byte that is seen; 0 but
+// for an unknown character.
 pub struct Fault {
     pub number: u32,
     pub start: usize,
@@ -22,7 +24,8 @@ pub struct Fault {
     pub seen: u8,
 }
 
-// What stands where no blank or comment begins: a token or a fault, its length, and how many bytes are taken.
+// What stands where no blank or comment begins: a token or a fault, its length, and how many bytes
+// are taken.
 pub enum Piece {
     Token {
         kind: u32,
@@ -37,7 +40,8 @@ pub enum Piece {
     },
 }
 
-// What stands at a position after blanks and comments, with the next position; or where the script ends.
+// What stands at a position after blanks and comments, with the next position; or where the script
+// ends.
 pub enum Step {
     Token { token: Token, next: usize },
     Fault { fault: Fault, next: usize },
@@ -96,7 +100,8 @@ impl Type {
 
     pub const CURLY_RIGHT: u32 = 21;
 
-    // S, D, I, IDENT and DOC: a string, a double, an integer, a name and a doc, each with a spelling of its own.
+    // S, D, I, IDENT and DOC: a string, a double, an integer, a name and a doc, each with a
+    // spelling of its own.
     pub const S: u32 = 22;
 
     pub const D: u32 = 23;
@@ -145,7 +150,10 @@ impl Type {
 
     // The names of the kinds, one after the other.
     pub const NAMES: [u8; 245] =
-        *b"EofBraceLeftBraceRightPlusMinusAsteriksSlashPercentEqualDoubleEqualLessThanGreaterThanExclaimNotEqualQuestionColonDotBraketLeftBraketRightCurlyLeftCurlyRightSDIIdentDocImportExternLetFnMatchAsTrueFalseStrIntDoubleBoolVoidOptionArrayForeignRecord";
+        *b"EofBraceLeftBraceRightPlusMinusAsteriksSlashPercentEqualDoubleEqualLessThan\
+        GreaterThanExclaimNotEqualQuestionColonDotBraketLeftBraketRightCurlyLeftCurlyRight\
+        SDIIdentDocImportExternLetFnMatchAsTrueFalseStrIntDoubleBoolVoidOptionArrayForeign\
+        Record";
 
     // Where each kind's name ends; the first begins at 0.
     pub const NAME_ENDS: [usize; 44] = [
@@ -255,7 +263,8 @@ impl Type {
         }
     }
 
-    // The length of `as_str`; 0 for a kind whose tokens have spellings of their own, and for a number that is no kind.
+    // The length of `as_str`; 0 for a kind whose tokens have spellings of their own, and for a
+    // number that is no kind.
     pub fn spelling_len(kind: u32) -> usize
         ensures { λ r. ⌜ r ≡ length (fixedSpelling kind) ⌝ }
     {
@@ -318,7 +327,9 @@ const SPELLING_LENS: [usize; 44] = [
 
 // The kind, where the name has the spelling; else IDENT.
 fn kind_if(spelling: &[u8], kind: u32, name: &[u8]) -> u32
-    ensures { λ r. ⌜ r ≡ nameKind (record { kind = kind; spelling = now (spelling .entry) } ∷ []) (now (name .entry)) ⌝ }
+    ensures { λ r.
+        let word = now (name .entry) in
+        ⌜ r ≡ nameKind (record { kind = kind; spelling = now (spelling .entry) } ∷ []) word ⌝ }
 {
     if same_bytes(spelling, name) {
         kind

@@ -8,10 +8,11 @@ ghost use Prim.Native.Nat.{_+_, _<_, _≤_};
 ghost use lib.ListN.{length, take, drop};
 ghost use Rattle.lex.specs.declared.utf8.Utf8State.the-variants.{Expecting};
 ghost use Rattle.lex.specs.Bytes.{between};
-ghost use Rattle.lex.specs.Utf8.{leastSecond, greatestSecond, afterLead, isBoundary, stateAfter, utf8};
+ghost use Rattle.lex.specs.Utf8.{leastSecond, greatestSecond, afterLead};
+ghost use Rattle.lex.specs.Utf8.{isBoundary, stateAfter, utf8};
 
-// Where a reading of bytes stands: between characters, inside one with `more` bytes to come, the next of them from
-// `low` to `high`, or behind a byte that no character has there.
+// Where a reading of bytes stands: between characters, inside one with `more` bytes to come, the
+// next of them from `low` to `high`, or behind a byte that no character has there.
 pub enum Utf8State {
     Boundary,
     Expecting { more: u8, low: u8, high: u8 },
@@ -88,10 +89,13 @@ fn is_between(low: u8, high: u8, b: u8) -> bool
     b <= high
 }
 
-// Whether the bytes from `at` on complete a character of which `more` are to come, the first of them from `low` to `high`.
+// Whether the bytes from `at` on complete a character of which `more` are to come, the first of
+// them from `low` to `high`.
 fn completes(bytes: &[u8], at: usize, more: u8, low: u8, high: u8) -> bool
     requires { ⌜ (0 < more) × (more ≤ 3) × (0 < low) ⌝ }
-    ensures { λ r. ⌜ r ≡ isBoundary (stateAfter (Expecting more low high) (take more (drop at (now (bytes .entry))))) ⌝ }
+    ensures { λ r.
+        let following = take more (drop at (now (bytes .entry))) in
+        ⌜ r ≡ isBoundary (stateAfter (Expecting more low high) following) ⌝ }
     ensures { λ r. ⌜ (r ≡ true → at + more ≤ length (now (bytes .entry))) ⌝ }
 {
     let b = peek(bytes, at);
@@ -113,11 +117,12 @@ fn completes(bytes: &[u8], at: usize, more: u8, low: u8, high: u8) -> bool
     is_between(0x80, 0xbf, peek(bytes, at + 2))
 }
 
-// The bytes are whole characters: first those of one byte, as long as there is no other, then one character a turn, those of two bytes before the others.
+// The bytes are whole characters: first those of one byte, as long as there is no other, then one
+// character a turn, those of two bytes before the others.
 pub fn is_utf8(bytes: &[u8]) -> bool
     ensures { λ r. ⌜ r ≡ utf8 (now (bytes .entry)) ⌝ }
 {
-    let mut i = skip_set(ByteSet::PLAIN, 0x80, bytes, 0);
+    let mut i = skip_set(ByteSet::PLAIN, ByteSet::NO_ASCII, bytes, 0);
     while i < bytes.len() {
         let b = bytes[i];
         if is_between(0xc2, 0xdf, b) {

@@ -1,59 +1,13 @@
--- `skip_ident_cont` meets its contract: the first bytes are told one by one, the rest of the run by `skip_set`.
+-- `skip_ident_cont` meets its contract.
 -- Assumes nothing.
-use mathlib.Core.Path.{_≡_, refl, _∙_, sym}
-use Prim.Native.Nat.{_+_, _-_, _≤_}
-use lib.ListN.{length, drop}
 use borrow.Author.Needs.{needs}
-use mathlib.Core.Logic.{⊎-elim}
-use borrow.Author.Tests.{not-true, not-false}
-use Rattle.lex.specs.Bytes.{countWhile, inSet, isIdentCont}
-use Rattle.lex.proofs.Bits.{letter-inName}
-use Rattle.lex.proofs.Laws.{run-more, run-stop, run-rest, run-all}
+use Rattle.lex.specs.Bytes.{inSet}
 use Rattle.lex.proofs.byte_search.skip_ident_cont.Statement.{statement}
 use Rattle.lex.proofs.byte_search.skip_ident_cont.Tie as tie
 
-abbrev Inv-loop : tie.InvT-loop
-Inv-loop haystack i₀ i = (i ≤ 8) × (8 ≤ length haystack) × (i + countWhile isIdentCont (drop i haystack) ≡ countWhile isIdentCont haystack)
-
-abbrev μ-loop : tie.MeasureT-loop
-μ-loop haystack i₀ i = 8 - i
-
-returns : tie.Need-returns Inv-loop μ-loop
+returns : tie.Need-returns
 unfolding inSet
-returns c = run-all _ (inSet 0 0) (λ b. refl) _ _ (c .skip-set .ensures)
-
-returns-2 : tie.Need-returns-2 Inv-loop μ-loop
-returns-2 c =
-    let c7 = c .before .before .before .before .before .before .before in
-    run-stop isIdentCont _ _ _ (c7 .loop .inv .2) (search needs) (sym (c .before .is-ident-cont .ensures) ∙ not-true _ (c .if3 .taken))
-
-loop-again : tie.Need-loop-again Inv-loop μ-loop
-loop-again c =
-    let c4 = c .before .before .before .before in
-    (search needs, search needs, run-more isIdentCont _ _ _ (c4 .loop .inv .2) (search needs) (⊎-elim (λ w. sym (w .2 .ensures) ∙ not-false _ (w .3 .left)) (λ w. letter-inName _ (sym (c .before .is-letter .ensures) ∙ not-false _ (w .left))) (c .if2 .came)))
-
-returns-3 : tie.Need-returns-3 Inv-loop μ-loop
-unfolding inSet
-returns-3 c =
-    let c5 = c .before .before .before .before .before in
-    run-rest isIdentCont (c5 .args .haystack .now) _ _ (c .before .before .loop .inv .2) (inSet 0 0) (λ b. refl) _ (c .skip-set2 .ensures)
+returns c = c .skip-front .ensures
 
 pub skip-ident-cont-spec : {M : Type 1} → statement M
-skip-ident-cont-spec =
-    tie.close
-    (tie.spec
-    Inv-loop
-    μ-loop
-    (λ c κs. search needs)
-    returns
-    (λ c. search needs)
-    (λ c. search needs)
-    (λ c κs. search needs)
-    (λ c. search needs)
-    (λ c κs. search needs)
-    returns-2
-    (λ c. search needs)
-    (λ c. search needs)
-    loop-again
-    (λ c κs. search needs)
-    returns-3)
+skip-ident-cont-spec = tie.close (tie.spec (λ c κs. search needs) returns)

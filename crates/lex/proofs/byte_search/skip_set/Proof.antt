@@ -1,4 +1,5 @@
--- `skip_set` meets its contract: `i` and what of the run follows it stay what they are, over a window as over a byte.
+-- `skip_set` meets its contract: `i` and what of the run follows it stay what they are, over a
+-- window as over a byte.
 -- Assumes nothing.
 use mathlib.Core.Path.{_≡_, _∙_, sym}
 use Prim.Native.Nat.{_+_, _-_, _≤_}

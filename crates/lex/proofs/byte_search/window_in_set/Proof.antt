@@ -1,4 +1,5 @@
--- `window_in_set` meets its contract: `all` says whether the run is as long as the bytes told so far.
+-- `window_in_set` meets its contract: `all` says whether the run is as long as the bytes tested
+-- so far.
 -- Assumes nothing.
 use mathlib.Core.Path.{_≡_}
 use Prim.Native.Nat.{_-_, _≤_}

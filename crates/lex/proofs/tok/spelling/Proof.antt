@@ -1,4 +1,5 @@
--- `spelling` meets its contract: the tests stand in an order in which nothing wraps, and say together what the definition asks of the sum.
+-- `spelling` meets its contract: the tests stand in an order in which nothing wraps, and say
+-- together what the definition asks of the sum.
 -- Assumes nothing.
 use Prim.Native.Nat.{ℕ, _+_}
 use mathlib.Core.Path.{sym, ap, _∙_}

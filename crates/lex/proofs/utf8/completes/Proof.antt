@@ -1,4 +1,5 @@
--- `completes` meets its contract: past the end `peek` answers 0, which is in no range, so that the tests tell what `stateAfter` does.
+-- `completes` meets its contract: past the end `peek` answers 0, which is in no range, so that the
+-- tests tell what `stateAfter` does.
 -- Assumes nothing.
 use mathlib.Core.Path.{_∙_, sym, ap}
 use Prim.Native.Nat.{_+_}

@@ -1,4 +1,5 @@
--- `from_punctuator` meets its contract: each arm's byte stands in the list of signs at its kind's place, and the last arm's nowhere.
+-- `from_punctuator` meets its contract: each arm's byte stands in the list of signs at its kind's
+-- place, and the last arm's nowhere.
 -- Assumes nothing.
 use mathlib.Core.Path.{ap, sym}
 use Rattle.lex.specs.Bytes.{countWhile, differsFrom, before, findByte}
