@@ -1,5 +1,5 @@
-// Numbers and framed bytes on standard input. A number is in decimal and ends at a blank or a line feed; a frame is its length as a
-// number, its bytes, and a line feed.
+// Numbers and framed bytes on standard input. A number is in decimal and ends at a blank or a line
+// feed; a frame is its length as a number, its bytes, and a line feed.
 use libc::STDIN_FILENO;
 ghost use Prim.Native.Nat.{_≤_};
 ghost use Rattle.io.specs.Counts.{Counts};
@@ -33,7 +33,8 @@ fn read_byte() -> Input {
     }
 }
 
-// The next number, at most `limit`; a larger one is malformed. Twenty digits are enough for any limit.
+// The next number, at most `limit`; a larger one is malformed. Twenty digits are enough for any
+// limit.
 pub fn read_number(limit: usize) -> Number
     ensures { λ r. ⌜ Within limit r ⌝ }
 {
@@ -80,8 +81,8 @@ fn line_ends() -> bool {
     }
 }
 
-// The next frame, its bytes at the start of `buf`; the cells behind them keep what they held. One that
-// is longer than `buf` is malformed. Where nothing is left `buf` stays as it was.
+// The next frame, its bytes at the start of `buf`; the cells behind them keep what they held. One
+// that is longer than `buf` is malformed. Where nothing is left `buf` stays as it was.
 pub fn read_frame(buf: &mut [u8]) -> Frame
     ensures { λ r. ⌜ Inside (now (buf .entry)) (now (buf .exit)) r ⌝ }
 {
@@ -112,7 +113,8 @@ pub fn read_up_to(limit: usize) -> usize
     n
 }
 
-// A script: how many bytes it has, and the first of them as a frame. The others are those of the buffer.
+// A script: how many bytes it has, and the first of them as a frame. The others are those of the
+// buffer.
 pub fn read_script(script: &mut [u8]) -> usize
     ensures { λ r. ⌜ Counts r (now (script .exit)) ⌝ }
 {

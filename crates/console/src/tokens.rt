@@ -1,4 +1,5 @@
-// What the lexer yields, as text on standard output: one form a line, tokens by the names of the Rust enum.
+// What the lexer yields, as text on standard output: one form a line, tokens by the names of the
+// Rust enum.
 use lex::Fault;
 use lex::Step;
 use lex::Token;

@@ -1,5 +1,5 @@
--- Laws of the faults of a part of the script: a step begins them, 32 bits hold their numbers, and those up to where the lexer
--- stands after some tokens are the cut's.
+-- Laws of the faults of a part of the script: a step begins them, 32 bits hold their numbers, and
+-- those up to where the lexer stands after some tokens are the cut's.
 -- Assumes nothing.
 use mathlib.Core.Path.{_≡_, refl, _∙_, sym, ap}
 use mathlib.Core.Bool.{true, false}

@@ -1,5 +1,5 @@
--- The order of collecting mode: at each error the faults up to where the lexer stands are listed and then the error, and at the
--- end the faults that are left. That is `merged`.
+-- The order of collecting mode: at each error the faults up to where the lexer stands are listed
+-- and then the error, and at the end the faults that are left. That is `merged`.
 -- Assumes nothing.
 use mathlib.Core.Path.{_≡_, refl, _∙_, sym, ap}
 use mathlib.Core.List.{List, [], _∷_, _++_, append-assoc, append-nil}
@@ -32,7 +32,8 @@ error-first a k (cutFault e c) d more h =
     let fuel : suc n + length more ≡ n + suc (length more) = omega arith in
     rw (suc-add n (suc (length more)), fuel) (rw (lt-leb k a h, merged))
 
--- the faults before the `i`-th token come before an error that is met there, and the others after it
+-- the faults before the `i`-th token come before an error that is met there, and the others after
+-- it
 error-after : (k i n : ℕ) (c : Cut) (d : Diagnostic) (more : List Occurrence) → k + i ≡ n → 0 < n
     → merged (length (faultsOf k c) + suc (length more)) (faultsOf k c) (occurrence (n - 1) d ∷ more)
     ≡ faultsBefore i c ++ (d ∷ merged (length (faultsOf n (cutAfter i c)) + length more) (faultsOf n (cutAfter i c)) more)
@@ -92,7 +93,8 @@ module _ {script : List ℕ} {j listed n pos : ℕ} (from : StandsAfter script j
 
 -- ---- the order
 
--- `ds` are the errors `es` and the faults before the `j`-th token, in the order in which they are met; the lexer stands at `listed`
+-- `ds` are the errors `es` and the faults before the `j`-th token, in the order in which they are
+-- met; the lexer stands at `listed`
 pub record Ordered (script : List ℕ) (es : List Occurrence) (ds : List Diagnostic) (j listed : ℕ) : Type 0 where
   pub stands : StandsAfter script j listed
   pub merges : (more : List Occurrence)

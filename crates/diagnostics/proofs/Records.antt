@@ -1,4 +1,5 @@
--- Laws of the diagnostics array: what the code stores is a record pushed, and what it holds after many.
+-- Laws of the diagnostics array: what the code stores is a record pushed, and what it holds after
+-- many.
 -- Assumes nothing.
 use mathlib.Core.Path.{_≡_, refl, _∙_, sym, ap}
 use mathlib.Core.List.{List, [], _∷_, _++_, map, flatten, foldl, append-assoc, append-nil}

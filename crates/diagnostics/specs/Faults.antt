@@ -17,15 +17,27 @@ extendFaults rest (Step.End at) = []
 -- a fuel above the number of bytes from a position on is enough
 unfoldable pub faultsFrom : ℕ → List ℕ → ℕ → ℕ → List Diagnostic
 faultsFrom zero script to from = []
-faultsFrom (suc f) script to from = elim (ltb from to) [ true ↦ extendFaults (faultsFrom f script to) (stepAt script from) | false ↦ [] ]
+faultsFrom (suc f) script to from =
+    elim (ltb from to) [
+      | true ↦ extendFaults (faultsFrom f script to) (stepAt script from)
+      | false ↦ []
+    ]
 
 -- the faults that are met from one position on until another is reached
 unfoldable pub faultsBetween : List ℕ → ℕ → ℕ → List Diagnostic
 faultsBetween script from to = faultsFrom (suc (length script)) script to from
 
--- what the array holds of a diagnostic: the low 32 bits of its numbers, which are all in a script of fewer than 2^32 bytes
+-- what the array holds of a diagnostic: the low 32 bits of its numbers, which are all in a script
+-- of fewer than 2^32 bytes
 abbrev pub low : ℕ → ℕ
 low n = n % 4294967296
 
 abbrev pub lowDiagnostic : Diagnostic → Diagnostic
-lowDiagnostic d = record { number = d .number; start = low (d .start); len = low (d .len); wanted = d .wanted; seen = d .seen }
+lowDiagnostic d =
+    record {
+      number = d .number;
+      start = low (d .start);
+      len = low (d .len);
+      wanted = d .wanted;
+      seen = d .seen;
+    }

@@ -17,7 +17,8 @@ diagnostics cells n = record { cells = cells; count = n }
 
 -- an array of `size` cells that holds `ds`, with zeros behind them
 abbrev pub holding : ℕ → List Diagnostic → Diagnostics
-holding size ds = diagnostics (flatten (map diagnosticCells ds) ++ zeros (size - 5 * length ds)) (length ds)
+holding size ds =
+    diagnostics (flatten (map diagnosticCells ds) ++ zeros (size - 5 * length ds)) (length ds)
 
 -- the greatest count, for it has 32 bits
 abbrev pub maxCount : ℕ
@@ -28,7 +29,11 @@ unfoldable pub pushed : Diagnostics → Diagnostic → Diagnostics
 pushed a d =
     elim (ltb (a .count) maxCount) [
       | true ↦ elim (leb (5 * a .count + 5) (length (a .cells))) [
-        | true ↦ diagnostics (take (5 * a .count) (a .cells) ++ diagnosticCells d ++ drop (5 * a .count + 5) (a .cells)) (a .count + 1)
+        | true ↦
+            let at = 5 * a .count in
+            diagnostics
+            (take at (a .cells) ++ diagnosticCells d ++ drop (at + 5) (a .cells))
+            (a .count + 1)
         | false ↦ a
       ]
       | false ↦ a

@@ -1,4 +1,5 @@
-// The diagnostics array of collecting mode: errors and the lexer's faults are pushed in the order in which they are met.
+// The diagnostics array of collecting mode: errors and the lexer's faults are pushed in the order
+// in which they are met.
 use lex::Diagnostic;
 use lex::Fault;
 use lex::Step;
@@ -11,7 +12,9 @@ ghost use Rattle.diagnostics.specs.Faults.{faultsBetween, low as lowOf, 
 
 // Writes record `n` and answers how many there are then. Nothing changes where it has no room.
 pub fn push_diagnostic(diagnostics: &mut [u32], n: u32, d: Diagnostic) -> u32
-    ensures { λ r. ⌜ diagnosticsOf (now (diagnostics .exit)) r ≡ pushed (diagnosticsOf (now (diagnostics .entry)) n) d ⌝ }
+    ensures { λ r.
+        let before = diagnosticsOf (now (diagnostics .entry)) n in
+        ⌜ diagnosticsOf (now (diagnostics .exit)) r ≡ pushed before d ⌝ }
 {
     if u32::MAX <= n {
         return n;
@@ -50,7 +53,10 @@ fn diagnostic_of(f: Fault) -> Diagnostic
 
 // The faults that are met from one position on until another is reached.
 pub fn push_faults(script: &[u8], diagnostics: &mut [u32], n: u32, from: usize, to: usize) -> u32
-    ensures { λ r. ⌜ diagnosticsOf (now (diagnostics .exit)) r ≡ foldl pushed (diagnosticsOf (now (diagnostics .entry)) n) (map lowDiagnostic (faultsBetween (now (script .entry)) from to)) ⌝ }
+    ensures { λ r.
+        let before = diagnosticsOf (now (diagnostics .entry)) n in
+        let faults = map lowDiagnostic (faultsBetween (now (script .entry)) from to) in
+        ⌜ diagnosticsOf (now (diagnostics .exit)) r ≡ foldl pushed before faults ⌝ }
 {
     let mut count = n;
     let mut pos = from;

@@ -1,5 +1,6 @@
-// Shows the tokens and faults of one script on standard input and how many tokens stand before Eof. Of a script
-// of more than 4,096 bytes it shows those of the first 4,096, and `(cut)` in the last line.
+// Shows the tokens and faults of one script on standard input and how many tokens stand before Eof.
+// Of a script of more than 4,096 bytes it shows those of the first 4,096, and `(cut)` in the last
+// line.
 use libc::STDIN_FILENO;
 use libc::STDOUT_FILENO;
 ghost use mathlib.Core.Path.{_≡_};

@@ -16,10 +16,6 @@ use Rattle.practice.specs.Practice.{next, Drawn, draw, mapDrawn, Expr, s
 use Rattle.practice.specs.Drawing.{WritesDrawn}
 use Rattle.practice.proofs.Sheets.{lines-short, sheet-plain}
 
-pub writes-size : {A : Type 0} {text′ : A → List ℕ} {d : Drawn A} {x y : List ℕ} {p : ℕ} {q : Place}
-    → WritesDrawn text′ d x p y q → length y ≡ length x
-writes-size w = same-size (w .emits)
-
 -- ---- a leaf
 
 module _ {x y : List ℕ} {at to : ℕ} (pick seed s : ℕ) (new : s ≡ next seed) where

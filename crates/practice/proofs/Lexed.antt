@@ -1,4 +1,5 @@
--- How a sheet is cut: the text of an expression, with no byte of a name or number behind it, gives the expression's tokens.
+-- How a sheet is cut: the text of an expression, with no byte of a name or number behind it, gives
+-- the expression's tokens.
 use mathlib.Core.Path.{_≡_, refl, sym, ap, _∙_, subst}
 use mathlib.Core.Bool.{Bool, true, false}
 use mathlib.Core.List.{List, [], _∷_, _++_, append-assoc}

@@ -1,4 +1,5 @@
--- How the rules read an expression whose tokens stand there: it ends well, and leaves what follows them.
+-- How the rules read an expression whose tokens stand there: it ends well, and leaves what follows
+-- them.
 use mathlib.Core.Path.{_≡_, refl, sym, ap, _∙_, subst}
 use mathlib.Core.Bool.{Bool, true, false}
 use mathlib.Core.Option.{Option, none, some}

@@ -1,4 +1,5 @@
--- Expressions that are drawn are shallow and short; so strict reading accepts every sheet, with one root for each line.
+-- Expressions that are drawn are shallow and short; so strict reading accepts every sheet, with one
+-- root for each line.
 use mathlib.Core.Path.{_≡_, refl, ap}
 use mathlib.Core.Bool.{true}
 use mathlib.Core.Option.{Option}

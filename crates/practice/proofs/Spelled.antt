@@ -1,4 +1,5 @@
--- The tokens of expressions and of sheets, as relations between what is left before and behind them.
+-- The tokens of expressions and of sheets, as relations between what is left before and behind
+-- them.
 use mathlib.Core.Path.{_≡_}
 use mathlib.Core.Bool.{false}
 use mathlib.Core.List.{List, [], _∷_}

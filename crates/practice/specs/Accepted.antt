@@ -13,7 +13,8 @@ use Rattle.rules.specs.declared.Counts.{Counts}
 use Rattle.rules.specs.declared.Parsed.the-variants as P
 use Rattle.practice.specs.Practice.{maxLines, sheet}
 
--- what is asked of a set of infix signs: the power of `+`, and that `)`, `let` and Eof are none of them
+-- what is asked of a set of infix signs: the power of `+`, and that `)`, `let` and Eof are none of
+-- them
 pub record Signs (power : ℕ → Option ℕ) : Type 0 where
   pub plus : power kPlus ≡ some 1
   pub close : power kBraceRight ≡ none
@@ -39,7 +40,8 @@ pub record Answered (power : ℕ → Option ℕ) (seed lines : ℕ) (arrays : Ar
 
 abbrev pub SheetsAnswered : Type 0
 SheetsAnswered = (power : ℕ → Option ℕ) → Signs power → (seed lines : ℕ) → lines ≤ maxLines
-    → (arrays : Arrays) → tooShort (sheet seed lines) arrays ≡ false → Answered power seed lines arrays
+    → (arrays : Arrays) → tooShort (sheet seed lines) arrays ≡ false
+    → Answered power seed lines arrays
 
 -- what stands in front of a buffer in which `n` bytes were written is the sheet
 pub record Delivered (power : ℕ → Option ℕ) (seed lines n : ℕ) (out : List ℕ) : Type 0 where

@@ -1,4 +1,5 @@
--- Practice sheets: draws from a seed, expressions that are drawn, their text, and the text of a sheet.
+-- Practice sheets: draws from a seed, expressions that are drawn, their text, and the text of a
+-- sheet.
 use mathlib.Core.Bool.{true, false}
 use mathlib.Core.List.{List, [], _∷_, _++_}
 use Prim.Native.Nat.{ℕ, zero, suc, _+_, _*_, _/_, _%_, _^_}
@@ -56,7 +57,8 @@ picked part pick seed =
 -- of a level
 unfoldable pub expression : ℕ → ℕ → Drawn Expr
 expression zero seed = let pick = draw 2 seed in leaf (pick .value) (pick .seed)
-expression (suc level) seed = let pick = draw 4 seed in picked (expression level) (pick .value) (pick .seed)
+expression (suc level) seed =
+    let pick = draw 4 seed in picked (expression level) (pick .value) (pick .seed)
 
 abbrev pub topLevel : ℕ
 topLevel = 4
@@ -64,7 +66,8 @@ topLevel = 4
 -- one expression for each line, drawn one behind the other
 unfoldable pub expressions : ℕ → ℕ → List Expr
 expressions zero seed = []
-expressions (suc lines) seed = let e = expression topLevel seed in e .value ∷ expressions lines (e .seed)
+expressions (suc lines) seed =
+    let e = expression topLevel seed in e .value ∷ expressions lines (e .seed)
 
 -- ---- text
 

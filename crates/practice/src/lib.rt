@@ -9,7 +9,8 @@ use text::write_text;
 ghost use mathlib.Core.Path.{_≡_};
 ghost use Rattle.text.specs.Answer.{result, answerOf};
 ghost use Rattle.text.specs.Emit.{Emits};
-ghost use Rattle.practice.specs.Practice.{text, leaf, expression, topLevel, line, sheet, promised};
+ghost use Rattle.practice.specs.Practice.{text, leaf, expression};
+ghost use Rattle.practice.specs.Practice.{topLevel, line, sheet, promised};
 ghost use Rattle.practice.specs.Drawing.{WritesDrawn};
 
 // Where writing has come to, and the seed for the next draw.

@@ -1,4 +1,5 @@
--- The words back from the lines of one error: the margins and the last padding cut off, the pieces joined.
+-- The words back from the lines of one error: the margins and the last padding cut off, the pieces
+-- joined.
 -- Assumes nothing.
 use mathlib.Core.Path.{_≡_, refl, sym, _∙_, ap}
 use mathlib.Core.Bool.{Bool, true, false}

@@ -2,7 +2,6 @@
 -- Assumes nothing.
 use mathlib.Core.Path.{_≡_, refl, sym, _∙_, ap}
 use mathlib.Core.Bool.{Bool, true, false}
-use mathlib.Core.Option.{Option}
 use mathlib.Core.List.{List, [], _∷_, _++_, append-nil, append-assoc}
 use Prim.Native.Nat.{ℕ, zero, suc, _+_, _-_, _*_, _/_, _<_, _≤_}
 use native.Mathlib.Omega.{arith}
@@ -11,14 +10,14 @@ use lib.ListN.{length, take, drop, length-append, length-take, length-drop, leng
 use lib.Seq.{take-at, drop-drop}
 use borrow.Author.Tests.{leb-true, leb-false, ltb-false}
 use Rattle.rules.specs.Promise.{maxBytes}
-use Rattle.ast.specs.Answer.{Answer, refused, answer}
-use Rattle.words.specs.Words.{words, lastByte}
+use Rattle.ast.specs.Answer.{refused, answer}
+use Rattle.words.specs.Words.{words}
 use Rattle.words.proofs.Lines.{is-line}
-use Rattle.sheet.specs.Sheet.{blanks, margin, pieces, body, entry, errorAt, upTo, sheetOf, cut, blank, Gathered, tell, gather, allWords, wordsOr, wordsUpTo}
+use Rattle.sheet.specs.Sheet.{blanks, margin, pieces, body, entry, errorAt, upTo, sheetOf, blank, Gathered, tell, gather, allWords, wordsOr, wordsUpTo}
 use Rattle.sheet.proofs.Length.{lineCount, pieces-length}
 use Rattle.sheet.proofs.Back.{padding, first-piece, behind-piece, cut-back}
-use Rattle.sheet.proofs.Entries.{Made, made}
-use Rattle.sheet.proofs.Joining.{Split, split}
+use Rattle.sheet.proofs.Entries.{made}
+use Rattle.sheet.proofs.Joining.{split}
 
 -- ---- one line in front
 

@@ -49,6 +49,7 @@ pub record Reached (script : List ℕ) (w : Progress) : Type 0 where
   pub known : w .place ≡ placeOf (take (w .start) script)
 
 -- one more error is written: from `w` and `before` the code came to `r` and `after`
-pub record EntryWritten (script : List ℕ) (e : Diagnostic) (w : Progress) (before : List ℕ) (r : Progress) (after : List ℕ) : Type 0 where
+pub record EntryWritten (script : List ℕ) (e : Diagnostic)
+    (w : Progress) (before : List ℕ) (r : Progress) (after : List ℕ) : Type 0 where
   pub emits : Emits (textIn (entry script e)) before (w .to) after (r .to)
   pub reached : Reached script r

@@ -1,4 +1,5 @@
--- The correction sheet: the errors of a paper by line and column, in words. A line has 72 bytes and a line feed.
+-- The correction sheet: the errors of a paper by line and column, in words. A line has 72 bytes and
+-- a line feed.
 use mathlib.Core.Bool.{Bool, true, false, _&&_}
 use mathlib.Core.Option.{Option, none, some}
 use mathlib.Core.List.{List, [], _∷_, _++_}
@@ -23,16 +24,19 @@ blanks n = replicate n 32
 unfoldable pub right : List ℕ → List ℕ
 right t = blanks (5 - length t) ++ t
 
--- places 1 to 15: the line in 1 to 5, the column in 7 to 11, the error's number in 13 and 14; 6, 12 and 15 are blank
+-- places 1 to 15: the line in 1 to 5, the column in 7 to 11, the error's number in 13 and 14; 6, 12
+-- and 15 are blank
 unfoldable pub heading : Place → ℕ → List ℕ
-heading p n = right (number (p .line)) ++ (blanks 1 ++ (right (number (p .column)) ++ (blanks 1 ++ (number n ++ blanks 1))))
+heading p n =
+    right (number (p .line))
+    ++ (blanks 1 ++ (right (number (p .column)) ++ (blanks 1 ++ (number n ++ blanks 1))))
 
 -- the margin under a heading
 abbrev pub margin : List ℕ
 margin = blanks 15
 
--- places 16 to 72: pieces of 57 bytes, each but the last followed by a line feed and the margin of the next; only the last is padded.
--- A fuel above the words' length is enough.
+-- places 16 to 72: pieces of 57 bytes, each but the last followed by a line feed and the margin of
+-- the next; only the last is padded. A fuel above the words' length is enough.
 unfoldable pub pieces : ℕ → List ℕ → List ℕ
 pieces zero w = []
 pieces (suc fuel) w =
@@ -49,14 +53,25 @@ unfoldable pub entry : List ℕ → Diagnostic → Answer (List ℕ)
 entry script e =
     elim (words e) [
       | none ↦ refused 42
-      | some w ↦ elim (placeAt script (e .start)) [ refused n ↦ refused n | answer p ↦ answer (heading p (e .number) ++ body w) ]
+      | some w ↦
+          elim (placeAt script (e .start)) [
+            | refused n ↦ refused n
+            | answer p ↦ answer (heading p (e .number) ++ body w)
+          ]
     ]
 
 -- ---- all errors
 
 -- error `i` of a list of records, five numbers each
 abbrev pub errorAt : List ℕ → ℕ → Diagnostic
-errorAt cells i = record { number = getD cells (5 * i) 0; start = getD cells (5 * i + 1) 0; len = getD cells (5 * i + 2) 0; wanted = getD cells (5 * i + 3) 0; seen = getD cells (5 * i + 4) 0 }
+errorAt cells i =
+    record {
+      number = getD cells (5 * i) 0;
+      start = getD cells (5 * i + 1) 0;
+      len = getD cells (5 * i + 2) 0;
+      wanted = getD cells (5 * i + 3) 0;
+      seen = getD cells (5 * i + 4) 0;
+    }
 
 abbrev pub joinTo : List ℕ → Answer (List ℕ) → Answer (List ℕ)
 joinTo t (refused n) = refused n
@@ -77,7 +92,8 @@ entries script cells = upTo (λ i. entry script (errorAt cells i)) (length cells
 
 -- 1 is tested first
 unfoldable pub sheetOf : List ℕ → List ℕ → Answer (List ℕ)
-sheetOf script cells = elim (ltb maxBytes (length script)) [ true ↦ refused 1 | false ↦ entries script cells ]
+sheetOf script cells =
+    elim (ltb maxBytes (length script)) [ true ↦ refused 1 | false ↦ entries script cells ]
 
 -- ---- into a lent buffer
 
@@ -86,7 +102,11 @@ unfoldable pub printed : List ℕ → List ℕ → List ℕ → Result
 printed script cells buffer =
     elim (sheetOf script cells) [
       | refused n ↦ refuse n buffer
-      | answer t ↦ elim (ltb (length buffer) (length t)) [ true ↦ refuse 44 buffer | false ↦ inFront t buffer ]
+      | answer t ↦
+          elim (ltb (length buffer) (length t)) [
+            | true ↦ refuse 44 buffer
+            | false ↦ inFront t buffer
+          ]
     ]
 
 -- ---- what is promised of every sheet
@@ -135,7 +155,9 @@ tell false more errors = record { loose = []; errors = cut more ∷ errors }
 
 unfoldable pub gather : ℕ → List ℕ → Gathered
 gather zero t = record { loose = []; errors = [] }
-gather (suc n) t = let g = gather n (drop 73 t) in tell (blank (take 15 t)) (take 57 (drop 15 t) ++ g .loose) (g .errors)
+gather (suc n) t =
+    let g = gather n (drop 73 t) in
+    tell (blank (take 15 t)) (take 57 (drop 15 t) ++ g .loose) (g .errors)
 
 -- the words of each error of a sheet
 unfoldable pub allWords : List ℕ → List (List ℕ)

@@ -17,8 +17,10 @@ ghost use lib.ListN.{length};
 ghost use Rattle.text.specs.Answer.{result, answerOf};
 ghost use Rattle.text.specs.Emit.{Emits};
 ghost use Rattle.text.specs.Text.{number as numberOf};
-ghost use Rattle.sheet.specs.Sheet.{blanks, right, heading, body, entry, entries, errorAt, printed};
-ghost use Rattle.sheet.specs.Count.{sized, countedOf, linesAt, textsOf, Reached, EntryWritten};
+ghost use Rattle.sheet.specs.Sheet.{blanks, right, heading, body};
+ghost use Rattle.sheet.specs.Sheet.{entry, entries, errorAt, printed};
+ghost use Rattle.sheet.specs.Count.{sized, countedOf, linesAt};
+ghost use Rattle.sheet.specs.Count.{textsOf, Reached, EntryWritten};
 
 // How many lines an error takes, or why it is refused.
 pub(crate) enum Counted {

@@ -1,4 +1,5 @@
-// The words of every error number and every kind, and sheets with their refusals, on standard output. `stdout` is written from the table in docs/WORDS.md by tools/test_sheet.
+// The words of every error number and every kind, and sheets with their refusals, on standard
+// output. `stdout` is written from the table in docs/WORDS.md by tools/test_sheet.
 use console::output::write;
 use console::output::write_number;
 use lex::Diagnostic;

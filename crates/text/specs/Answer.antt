@@ -1,4 +1,5 @@
--- How a call ends that writes a text into a lent buffer: refused with a number, or with the text's length in bytes.
+-- How a call ends that writes a text into a lent buffer: refused with a number, or with the text's
+-- length in bytes.
 use mathlib.Core.List.{List, _++_}
 use Prim.Native.Nat.{ℕ}
 use lib.ListN.{length, drop}

@@ -1,4 +1,5 @@
--- Writing a text into a buffer from a position on: bytes behind the buffer's end are counted and dropped.
+-- Writing a text into a buffer from a position on: bytes behind the buffer's end are counted and
+-- dropped.
 use mathlib.Core.Path.{_≡_}
 use mathlib.Core.Bool.{Bool, true, false, _&&_}
 use mathlib.Core.List.{List, [], _∷_}
@@ -27,7 +28,9 @@ emit (b ∷ bs) o = emit bs (put b o)
 
 -- a function has written `text`: from `before` and `at` it came to `after` and `to`
 pub record Emits (text before : List ℕ) (at : ℕ) (after : List ℕ) (to : ℕ) : Type 0 where
-  pub emitted : _≡_ {A = Output} (record { buffer = after; at = to }) (emit text (record { buffer = before; at = at }))
+  pub emitted :
+      _≡_ {A = Output} (record { buffer = after; at = to })
+      (emit text (record { buffer = before; at = at }))
 
 -- every number is a byte
 unfoldable pub plain : List ℕ → Bool

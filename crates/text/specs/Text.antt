@@ -14,7 +14,8 @@ bytes (c ∷ˢ s) = code c ∷ bytes s
 -- at most `fuel` digits more than one
 unfoldable pub digits : ℕ → ℕ → List ℕ
 digits zero n = (48 + n % 10) ∷ []
-digits (suc fuel) n = elim (ltb n 10) [ true ↦ [] | false ↦ digits fuel (n / 10) ] ++ ((48 + n % 10) ∷ [])
+digits (suc fuel) n =
+    elim (ltb n 10) [ true ↦ [] | false ↦ digits fuel (n / 10) ] ++ ((48 + n % 10) ∷ [])
 
 -- in decimal
 unfoldable pub number : ℕ → List ℕ

@@ -1,9 +1,11 @@
-// Bytes, texts and numbers into a buffer from a position on. Behind the buffer's end they are only counted.
+// Bytes, texts and numbers into a buffer from a position on. Behind the buffer's end they are only
+// counted.
 ghost use mathlib.Core.List.{[], _∷_};
 ghost use Rattle.text.specs.Text.{number};
 ghost use Rattle.text.specs.Emit.{Emits};
 
-// How a call ends that writes a text into a lent buffer: the text's length in bytes, or the number of the refusal.
+// How a call ends that writes a text into a lent buffer: the text's length in bytes, or the number
+// of the refusal.
 pub enum Writing {
     Written(usize),
     Refused(u32),

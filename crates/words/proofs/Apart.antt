@@ -1,4 +1,5 @@
--- Two errors with the same words agree but for their spans: number, wanted and seen can be read back from a line.
+-- Two errors with the same words agree but for their spans: number, wanted and seen can be read
+-- back from a line.
 -- Assumes nothing.
 use mathlib.Core.Path.{_≡_, refl, sym, _∙_, ap}
 use mathlib.Core.Bool.{true, false}

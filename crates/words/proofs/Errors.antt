@@ -1,5 +1,5 @@
--- Where the tokens left and the docs that wait are of kinds of `Type`, every rule keeps them so, and
--- where it fails its error has words.
+-- Where the tokens left and the docs that wait are of kinds of `Type`, every rule keeps them so,
+-- and where it fails its error has words.
 -- Assumes nothing.
 use mathlib.Core.Path.{_≡_, refl, sym, _∙_}
 use mathlib.Core.Bool.{Bool, true, false, not, _&&_}

@@ -1,4 +1,5 @@
--- The four forms of an error that has words: two kinds (11), one kind (10, 12 to 23), a byte (33), nothing (31, 32, 34).
+-- The four forms of an error that has words: two kinds (11), one kind (10, 12 to 23), a byte (33),
+-- nothing (31, 32, 34).
 -- Assumes nothing.
 use mathlib.Core.Path.{_≡_, refl, sym, _∙_, ap}
 use mathlib.Core.Bool.{Bool, true, false, false≢true, _&&_, _||_}

@@ -46,13 +46,17 @@ phrase number = getD phrases number []
 -- what each kind of token is called, from 0 on; 0 is no kind
 unfoldable pub kindNames : List (List ℕ)
 kindNames =
-    [] ∷ bytes "the end of the script" ∷ bytes "'('" ∷ bytes "')'" ∷ bytes "'+'" ∷ bytes "'-'" ∷ bytes "'*'" ∷ bytes "'/'" ∷ bytes "'%'" ∷
-    bytes "'='" ∷ bytes "'=='" ∷ bytes "'<'" ∷ bytes "'>'" ∷ bytes "'!'" ∷ bytes "'!='" ∷ bytes "'?'" ∷ bytes "':'" ∷ bytes "'.'" ∷ bytes "'['" ∷
-    bytes "']'" ∷ bytes "'{'" ∷ bytes "'}'" ∷ bytes "a string" ∷ bytes "a number with a dot" ∷ bytes "a whole number" ∷ bytes "a name" ∷
-    bytes "a #! comment" ∷ bytes "the word 'import'" ∷ bytes "the word 'extern'" ∷ bytes "the word 'let'" ∷ bytes "the word 'fn'" ∷
-    bytes "the word 'match'" ∷ bytes "the word 'as'" ∷ bytes "the word 'true'" ∷ bytes "the word 'false'" ∷ bytes "the word 'Str'" ∷
-    bytes "the word 'Int'" ∷ bytes "the word 'Double'" ∷ bytes "the word 'Bool'" ∷ bytes "the word 'Void'" ∷ bytes "the word 'Option'" ∷
-    bytes "the word 'Array'" ∷ bytes "the word 'Foreign'" ∷ bytes "the word 'Record'" ∷ []
+    [] ∷ bytes "the end of the script" ∷ bytes "'('" ∷ bytes "')'" ∷ bytes "'+'" ∷ bytes "'-'" ∷
+    bytes "'*'" ∷ bytes "'/'" ∷ bytes "'%'" ∷ bytes "'='" ∷ bytes "'=='" ∷ bytes "'<'" ∷
+    bytes "'>'" ∷ bytes "'!'" ∷ bytes "'!='" ∷ bytes "'?'" ∷ bytes "':'" ∷ bytes "'.'" ∷
+    bytes "'['" ∷ bytes "']'" ∷ bytes "'{'" ∷ bytes "'}'" ∷ bytes "a string" ∷
+    bytes "a number with a dot" ∷ bytes "a whole number" ∷ bytes "a name" ∷ bytes "a #! comment" ∷
+    bytes "the word 'import'" ∷ bytes "the word 'extern'" ∷ bytes "the word 'let'" ∷
+    bytes "the word 'fn'" ∷ bytes "the word 'match'" ∷ bytes "the word 'as'" ∷
+    bytes "the word 'true'" ∷ bytes "the word 'false'" ∷ bytes "the word 'Str'" ∷
+    bytes "the word 'Int'" ∷ bytes "the word 'Double'" ∷ bytes "the word 'Bool'" ∷
+    bytes "the word 'Void'" ∷ bytes "the word 'Option'" ∷ bytes "the word 'Array'" ∷
+    bytes "the word 'Foreign'" ∷ bytes "the word 'Record'" ∷ []
 
 unfoldable pub kindName : ℕ → List ℕ
 kindName kind = getD kindNames kind []
@@ -102,10 +106,15 @@ isWanted number wanted = elim (eqb number 11) [ true ↦ isKind wanted | false �
 
 -- for 10 to 23 a kind, for 33 a byte, else 0
 unfoldable pub isSeen : ℕ → ℕ → Bool
-isSeen number seen = elim (leb number 23) [ true ↦ isKind seen | false ↦ elim (eqb number 33) [ true ↦ leb seen 255 | false ↦ eqb seen 0 ] ]
+isSeen number seen =
+    elim (leb number 23) [
+      | true ↦ isKind seen
+      | false ↦ elim (eqb number 33) [ true ↦ leb seen 255 | false ↦ eqb seen 0 ]
+    ]
 
 unfoldable pub hasWords : Diagnostic → Bool
-hasWords e = (isScriptError (e .number) && isWanted (e .number) (e .wanted)) && isSeen (e .number) (e .seen)
+hasWords e =
+    (isScriptError (e .number) && isWanted (e .number) (e .wanted)) && isSeen (e .number) (e .seen)
 
 -- an error's five numbers, in the order of 01
 abbrev pub errorOf : List ℕ → Diagnostic
@@ -152,4 +161,8 @@ pub record Alike (e f : Diagnostic) : Type 0 where
 
 -- 41, a buffer that is too short, is tested before 42, an error without words
 unfoldable pub described : Diagnostic → List ℕ → Result
-described e buffer = elim (ltb (length buffer) maxLine) [ true ↦ refuse 41 buffer | false ↦ elim (words e) [ none ↦ refuse 42 buffer | some w ↦ inFront w buffer ] ]
+described e buffer =
+    elim (ltb (length buffer) maxLine) [
+      | true ↦ refuse 41 buffer
+      | false ↦ elim (words e) [ none ↦ refuse 42 buffer | some w ↦ inFront w buffer ]
+    ]

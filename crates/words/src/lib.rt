@@ -8,7 +8,8 @@ ghost use mathlib.Core.Path.{_≡_};
 ghost use Prim.Native.Nat.{_<_};
 ghost use Rattle.text.specs.Answer.{result, answerOf};
 ghost use Rattle.text.specs.Emit.{Emits};
-ghost use Rattle.words.specs.Words.{phrase, kindName, hexDigit, hex, details, isKind, isScriptError, isWanted, isSeen, hasWords, described};
+ghost use Rattle.words.specs.Words.{phrase, kindName, hexDigit, hex, details, isKind};
+ghost use Rattle.words.specs.Words.{isScriptError, isWanted, isSeen, hasWords, described};
 
 // The most bytes of a line, and the fewest of a buffer.
 pub const MAX_LINE: usize = 160;
@@ -210,7 +211,9 @@ fn write_hex(b: u32, out: &mut [u8], at: usize) -> usize
 
 // What stands behind the phrase.
 fn write_details(number: u32, wanted: u32, seen: u32, out: &mut [u8], at: usize) -> usize
-    ensures { λ r. ⌜ Emits (details number wanted seen) (now (out .entry)) at (now (out .exit)) r ⌝ }
+    ensures { λ r.
+        let text = details number wanted seen in
+        ⌜ Emits text (now (out .entry)) at (now (out .exit)) r ⌝ }
 {
     if number == 11 {
         let a = write_kind(wanted, out, at);

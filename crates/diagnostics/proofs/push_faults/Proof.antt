@@ -1,4 +1,5 @@
--- `diagnostics::push_faults` meets its contract: what is still to be pushed onto what is there comes to the same at every turn.
+-- `diagnostics::push_faults` meets its contract: what is still to be pushed onto what is there
+-- comes to the same at every turn.
 -- Assumes nothing.
 use mathlib.Core.Path.{_≡_, refl, _∙_, sym}
 use mathlib.Core.List.{map, foldl}

@@ -1,6 +1,6 @@
 -- `practice::write_leaf` meets its contract.
 use borrow.Author.Needs.{needs}
-use Rattle.practice.proofs.Draws.{leaf-number, leaf-name, writes-size}
+use Rattle.practice.proofs.Draws.{leaf-number, leaf-name}
 use Rattle.practice.proofs.write_leaf.Statement.{statement}
 use Rattle.practice.proofs.write_leaf.Tie as tie
 

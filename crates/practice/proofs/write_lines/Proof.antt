@@ -1,4 +1,5 @@
--- `practice::write_lines` meets its contract. The loop's invariant: the lines before `i` are written.
+-- `practice::write_lines` meets its contract. The loop's invariant: the lines before `i` are
+-- written.
 use native.Mathlib.Omega.{arith}
 use borrow.Author.Needs.{needs}
 use Prim.Native.Nat.{_-_}

@@ -1,7 +1,6 @@
 -- `sheet::write_all` meets its contract.
 -- Assumes nothing.
 use native.Mathlib.Omega.{arith}
-use borrow.Author.Needs.{needs}
 use mathlib.Core.Path.{ap}
 use Prim.Native.Nat.{_-_}
 use Rattle.text.proofs.EmitLaws.{by, same-size}

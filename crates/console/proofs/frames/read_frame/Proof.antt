@@ -1,4 +1,5 @@
--- `read_frame` meets its contract: a length that was read is at most the buffer's, which keeps its own and what lies behind.
+-- `read_frame` meets its contract: a length that was read is at most the buffer's, which keeps its
+-- own and what lies behind.
 -- Assumes nothing.
 use mathlib.Core.List.{List, _++_}
 use mathlib.Core.Path.{_≡_, sym, ap, _∙_}

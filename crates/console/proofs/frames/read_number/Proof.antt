@@ -1,4 +1,5 @@
--- `read_number` meets its contract, is safe and ends: each turn takes a digit, of which there are at most 21, and the value stays within the limit.
+-- `read_number` meets its contract, is safe and ends: each turn takes a digit, of which there are
+-- at most 21, and the value stays within the limit.
 -- Assumes nothing.
 use Prim.Native.Nat.{_-_, _≤_}
 use borrow.Author.Needs.{needs}

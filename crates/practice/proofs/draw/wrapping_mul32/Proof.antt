@@ -1,4 +1,5 @@
--- `practice::draw::wrapping_mul32` meets its contract: a product of two 32-bit numbers fits in 64 bits.
+-- `practice::draw::wrapping_mul32` meets its contract: a product of two 32-bit numbers fits in 64
+-- bits.
 use native.Mathlib.Omega.{arith}
 use native.Mathlib.Nat.{mul-le-mul}
 use borrow.Author.Needs.{needs}
