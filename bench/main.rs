@@ -6,59 +6,28 @@
 
 include!(env!("BENCH_MODULES")); // written by the script beside this file: diagnostic, lex, ast, parser
 
+#[path = "../bindings/rust/src/c.rs"]
+mod c;
+
+use crate::c::Mode;
 use crate::lex::{Lexer, Type};
 use purple_garden_allocators::bump::Bump;
 use std::hint::black_box;
 use std::time::Instant;
-
-unsafe extern "C" {
-    fn purple_garden_parse(
-        script: *const u8,
-        script_len: usize,
-        nodes: *mut u32,
-        nodes_len: usize,
-        types: *mut u32,
-        types_len: usize,
-        lists: *mut u32,
-        lists_len: usize,
-        roots: *mut u32,
-        roots_len: usize,
-        diagnostics: *mut u32,
-        diagnostics_len: usize,
-        numbers: *mut u32,
-    ) -> u32;
-}
 
 /// The five arrays, each of its least length for the script.
 struct Arrays([Vec<u32>; 5]);
 
 impl Arrays {
     fn new(script: &[u8]) -> Self {
-        Arrays([16, 8, 8, 1, 5].map(|cells| vec![0; cells * script.len()]))
+        Arrays(c::CELLS.map(|cells| vec![0; cells * script.len()]))
     }
 
     /// What the reading answers: its number, and how many nodes it made.
     fn read(&mut self, script: &[u8]) -> (u32, u32) {
         let mut numbers = [0; 12];
-        let [nodes, types, lists, roots, diagnostics] = &mut self.0;
-        // SAFETY: each pointer comes with its own slice's length, and `numbers` has twelve cells.
-        let number = unsafe {
-            purple_garden_parse(
-                script.as_ptr(),
-                script.len(),
-                nodes.as_mut_ptr(),
-                nodes.len(),
-                types.as_mut_ptr(),
-                types.len(),
-                lists.as_mut_ptr(),
-                lists.len(),
-                roots.as_mut_ptr(),
-                roots.len(),
-                diagnostics.as_mut_ptr(),
-                diagnostics.len(),
-                numbers.as_mut_ptr(),
-            )
-        };
+        let arrays = self.0.each_mut().map(Vec::as_mut_slice);
+        let number = c::read(Mode::Strict, script, arrays, &mut numbers);
         (number, numbers[6])
     }
 

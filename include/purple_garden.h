@@ -181,7 +181,7 @@ uint32_t purple_garden_token_span(const uint8_t *script, size_t script_len,
 uint32_t purple_garden_line_column(const uint8_t *script, size_t script_len, uint32_t at,
                                    uint64_t place[2]);
 
-/* Two trees have the same shape: `compare` gets 1 for yes, 0 for no. Trees from anywhere that share
+/* Two trees have the same shape: `same` gets 1 for yes, 0 for no. Trees from anywhere that share
  * nodes can take very long (docs/DECISIONS.md, 26). */
 uint32_t purple_garden_same_shape(const uint8_t *script, size_t script_len,
                                   const uint32_t *nodes, size_t nodes_len,

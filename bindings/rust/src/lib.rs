@@ -12,6 +12,7 @@
 //!
 //! The reading itself is proved (crates/c_api and below); this wrapper lends it arrays of the lengths it asks for and decodes what they hold.
 
+mod c;
 mod error;
 mod ffi;
 mod kind;
@@ -24,6 +25,7 @@ pub use error::{Diagnostic, Error, Problem};
 pub use kind::Kind;
 pub use node::{Case, Field, Function, List, Member, Node, NodeId, Parameter, Token, Type, TypeId};
 
+use ffi::Mode;
 use std::ops::Range;
 
 /// The longest script that is read, in bytes.
@@ -39,18 +41,18 @@ pub struct Tree {
 impl Tree {
     /// Strict reading: the tree, or the first error.
     pub fn parse(script: impl Into<Vec<u8>>) -> Result<Tree, Error> {
-        Tree::read(ffi::STRICT, script.into())
+        Tree::read(Mode::Strict, script.into())
     }
 
     /// Collecting reading: the tree of what could be read, with all errors of the script as its diagnostics. Only a script that is too long or
     /// nested too deep has no tree.
     pub fn parse_collect(script: impl Into<Vec<u8>>) -> Result<Tree, Error> {
-        Tree::read(ffi::COLLECTING, script.into())
+        Tree::read(Mode::Collecting, script.into())
     }
 
-    fn read(read: ffi::Read, script: Vec<u8>) -> Result<Tree, Error> {
+    fn read(mode: Mode, script: Vec<u8>) -> Result<Tree, Error> {
         let mut arrays = ffi::Arrays::new(&script)?;
-        match arrays.read(read, &script) {
+        match arrays.read(mode, &script) {
             Ok(counts) => Ok(Tree { script, arrays, counts }),
             Err(numbers) => Err(Error::Script(Diagnostic::new(&script, numbers))),
         }

@@ -4,82 +4,12 @@
 //! chains nests KIB     how many levels of each nest are compared with a stack of KIB KiB
 //! chains nest NAME LEVELS KIB    one of them
 //! chains reading       how much stack a reading takes
+#[path = "../../../bindings/rust/src/c.rs"]
+mod c;
 mod reading;
 
+use crate::c::{Lent, Mode};
 use std::time::{Duration, Instant};
-
-unsafe extern "C" {
-    fn purple_garden_parse(
-        script: *const u8,
-        script_len: usize,
-        nodes: *mut u32,
-        nodes_len: usize,
-        types: *mut u32,
-        types_len: usize,
-        lists: *mut u32,
-        lists_len: usize,
-        roots: *mut u32,
-        roots_len: usize,
-        diagnostics: *mut u32,
-        diagnostics_len: usize,
-        numbers: *mut u32,
-    ) -> u32;
-    fn purple_garden_node_start(
-        script: *const u8,
-        script_len: usize,
-        nodes: *const u32,
-        nodes_len: usize,
-        types: *const u32,
-        types_len: usize,
-        lists: *const u32,
-        lists_len: usize,
-        roots: *const u32,
-        roots_len: usize,
-        counts: *const u32,
-        node: u32,
-        start: *mut u64,
-    ) -> u32;
-    fn purple_garden_type_token(
-        script: *const u8,
-        script_len: usize,
-        nodes: *const u32,
-        nodes_len: usize,
-        types: *const u32,
-        types_len: usize,
-        lists: *const u32,
-        lists_len: usize,
-        roots: *const u32,
-        roots_len: usize,
-        counts: *const u32,
-        ty: u32,
-        token: *mut u64,
-    ) -> u32;
-    fn purple_garden_same_shape(
-        script: *const u8,
-        script_len: usize,
-        nodes: *const u32,
-        nodes_len: usize,
-        types: *const u32,
-        types_len: usize,
-        lists: *const u32,
-        lists_len: usize,
-        roots: *const u32,
-        roots_len: usize,
-        counts: *const u32,
-        script2: *const u8,
-        script2_len: usize,
-        nodes2: *const u32,
-        nodes2_len: usize,
-        types2: *const u32,
-        types2_len: usize,
-        lists2: *const u32,
-        lists2_len: usize,
-        roots2: *const u32,
-        roots2_len: usize,
-        counts2: *const u32,
-        same: *mut u64,
-    ) -> u32;
-}
 
 const BYTES: usize = 65536;
 
@@ -117,26 +47,11 @@ struct Tree {
 impl Tree {
     /// What strict reading leaves of a script.
     fn read(script: Vec<u8>) -> Tree {
-        let [mut nodes, mut types, mut lists, mut roots, mut diagnostics] = [16, 8, 8, 1, 5].map(|cells| vec![0; cells * script.len()]);
+        let [mut nodes, mut types, mut lists, mut roots, mut diagnostics] =
+            c::CELLS.map(|cells| vec![0; cells * script.len()]);
         let mut numbers = [0; 12];
-        // SAFETY: each pointer comes with its own array's length, and `numbers` has twelve cells.
-        let number = unsafe {
-            purple_garden_parse(
-                script.as_ptr(),
-                script.len(),
-                nodes.as_mut_ptr(),
-                nodes.len(),
-                types.as_mut_ptr(),
-                types.len(),
-                lists.as_mut_ptr(),
-                lists.len(),
-                roots.as_mut_ptr(),
-                roots.len(),
-                diagnostics.as_mut_ptr(),
-                diagnostics.len(),
-                numbers.as_mut_ptr(),
-            )
-        };
+        let arrays = [&mut nodes[..], &mut types, &mut lists, &mut roots, &mut diagnostics];
+        let number = c::read(Mode::Strict, &script, arrays, &mut numbers);
         assert_eq!(number, 0, "error {:?} in {:?}", &numbers[1..6], String::from_utf8_lossy(&script[..script.len().min(80)]));
         Tree { script, nodes, types, lists, roots, counts: numbers[6..].try_into().unwrap() }
     }
@@ -289,28 +204,15 @@ impl Tree {
         other
     }
 
+    fn lent(&self) -> Lent<'_> {
+        let Tree { script, nodes, types, lists, roots, counts } = self;
+        Lent { script, nodes, types, lists, roots, counts }
+    }
+
     /// Where a node starts.
     fn start(&self, node: u32) -> Result<Option<u64>, u32> {
         let mut start = [0; 2];
-        // SAFETY: each pointer comes with its own array's length; `counts` has six cells and `start` two.
-        let number = unsafe {
-            purple_garden_node_start(
-                self.script.as_ptr(),
-                self.script.len(),
-                self.nodes.as_ptr(),
-                self.nodes.len(),
-                self.types.as_ptr(),
-                self.types.len(),
-                self.lists.as_ptr(),
-                self.lists.len(),
-                self.roots.as_ptr(),
-                self.roots.len(),
-                self.counts.as_ptr(),
-                node,
-                start.as_mut_ptr(),
-            )
-        };
-        match number {
+        match self.lent().node_start(node, &mut start) {
             0 => Ok((start[0] == 1).then_some(start[1])),
             n => Err(n),
         }
@@ -319,25 +221,7 @@ impl Tree {
     /// Kind, start and length of a type's token.
     fn type_token(&self, ty: u32) -> Result<[u64; 3], u32> {
         let mut token = [0; 3];
-        // SAFETY: each pointer comes with its own array's length; `counts` has six cells and `token` three.
-        let number = unsafe {
-            purple_garden_type_token(
-                self.script.as_ptr(),
-                self.script.len(),
-                self.nodes.as_ptr(),
-                self.nodes.len(),
-                self.types.as_ptr(),
-                self.types.len(),
-                self.lists.as_ptr(),
-                self.lists.len(),
-                self.roots.as_ptr(),
-                self.roots.len(),
-                self.counts.as_ptr(),
-                ty,
-                token.as_mut_ptr(),
-            )
-        };
-        match number {
+        match self.lent().type_token(ty, &mut token) {
             0 => Ok(token),
             n => Err(n),
         }
@@ -345,36 +229,8 @@ impl Tree {
 
     /// Whether the two trees have the same shape.
     fn same(&self, other: &Tree) -> Result<bool, u32> {
-        let mut same = [0; 1];
-        // SAFETY: each pointer comes with its own array's length; `counts` has six cells and `same` one.
-        let number = unsafe {
-            purple_garden_same_shape(
-                self.script.as_ptr(),
-                self.script.len(),
-                self.nodes.as_ptr(),
-                self.nodes.len(),
-                self.types.as_ptr(),
-                self.types.len(),
-                self.lists.as_ptr(),
-                self.lists.len(),
-                self.roots.as_ptr(),
-                self.roots.len(),
-                self.counts.as_ptr(),
-                other.script.as_ptr(),
-                other.script.len(),
-                other.nodes.as_ptr(),
-                other.nodes.len(),
-                other.types.as_ptr(),
-                other.types.len(),
-                other.lists.as_ptr(),
-                other.lists.len(),
-                other.roots.as_ptr(),
-                other.roots.len(),
-                other.counts.as_ptr(),
-                same.as_mut_ptr(),
-            )
-        };
-        match number {
+        let mut same = [0];
+        match self.lent().same_shape(&other.lent(), &mut same) {
             0 => Ok(same[0] == 1),
             n => Err(n),
         }
@@ -543,7 +399,7 @@ fn main() {
         return;
     }
     if words.len() == 2 && words[1] == "reading" {
-        return reading::show(purple_garden_parse);
+        return reading::show();
     }
     let kib = std::env::args().nth(1).map_or(256, |word| word.parse().expect("a number of KiB"));
     println!("Chains, looked up and compared with a stack of {kib} KiB; times in milliseconds.\n");

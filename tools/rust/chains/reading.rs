@@ -1,39 +1,7 @@
 //! How much stack a reading takes, on nests as deep as they are read (128 levels) and one deeper (10). The stack below the call is
 //! painted, and measured is how far the paint is gone.
 
-type Read = unsafe extern "C" fn(
-    *const u8,
-    usize,
-    *mut u32,
-    usize,
-    *mut u32,
-    usize,
-    *mut u32,
-    usize,
-    *mut u32,
-    usize,
-    *mut u32,
-    usize,
-    *mut u32,
-) -> u32;
-
-unsafe extern "C" {
-    fn purple_garden_parse_collect(
-        script: *const u8,
-        script_len: usize,
-        nodes: *mut u32,
-        nodes_len: usize,
-        types: *mut u32,
-        types_len: usize,
-        lists: *mut u32,
-        lists_len: usize,
-        roots: *mut u32,
-        roots_len: usize,
-        diagnostics: *mut u32,
-        diagnostics_len: usize,
-        numbers: *mut u32,
-    ) -> u32;
-}
+use crate::c::{self, Mode};
 
 /// What stands before and behind the inside of a nest.
 const NESTS: [(&str, &str, &str); 16] = [
@@ -82,9 +50,8 @@ fn text(parts: &[usize]) -> Vec<u8> {
 const PAINT: u64 = 0x5a5a_a5a5_5a5a_a5a5;
 
 /// The number that a reading answers, and the bytes of stack that it took.
-fn stack_of(read: Read, script: &[u8]) -> (u32, usize) {
-    let bytes = script.len();
-    let (mut nodes, mut types, mut lists, mut roots, mut diagnostics) = (vec![0u32; 16 * bytes], vec![0u32; 8 * bytes], vec![0u32; 8 * bytes], vec![0u32; bytes], vec![0u32; 5 * bytes]);
+fn stack_of(mode: Mode, script: &[u8]) -> (u32, usize) {
+    let mut arrays = c::CELLS.map(|cells| vec![0; cells * script.len()]);
     let mut numbers = [0u32; 12];
     let here = 0u64;
     let top = (&raw const here) as usize & !15;
@@ -92,40 +59,35 @@ fn stack_of(read: Read, script: &[u8]) -> (u32, usize) {
     for at in (low..high).step_by(8) {
         unsafe { std::ptr::write_volatile(at as *mut u64, PAINT) };
     }
-    let number = unsafe {
-        read(
-            script.as_ptr(), bytes, nodes.as_mut_ptr(), nodes.len(), types.as_mut_ptr(), types.len(), lists.as_mut_ptr(), lists.len(),
-            roots.as_mut_ptr(), roots.len(), diagnostics.as_mut_ptr(), diagnostics.len(), numbers.as_mut_ptr(),
-        )
-    };
+    let number = c::read(mode, script, arrays.each_mut().map(Vec::as_mut_slice), &mut numbers);
     let gone = (low..high).step_by(8).find(|&at| unsafe { std::ptr::read_volatile(at as *const u64) } != PAINT);
     (number, gone.map_or(1024, |at| top - at))
 }
 
 /// The most that the two modes take on a nest as deep as it is read, and one deeper.
-fn deepest(strict: Read, parts: &[usize]) -> (usize, usize) {
+fn deepest(parts: &[usize]) -> (usize, usize) {
     let (mut depth, mut refused) = (1, parts.len());
     while 1 < refused - depth {
         let middle = (depth + refused) / 2;
-        if stack_of(strict, &text(&parts[..middle])).0 == 10 { refused = middle } else { depth = middle }
+        if stack_of(Mode::Strict, &text(&parts[..middle])).0 == 10 { refused = middle } else { depth = middle }
     }
     let mut most = 0;
     for parts in [&parts[..depth], &parts[..(depth + 1).min(parts.len())]] {
-        for read in [strict, purple_garden_parse_collect as Read] {
-            most = most.max(stack_of(read, &text(parts)).1);
+        for mode in [Mode::Strict, Mode::Collecting] {
+            most = most.max(stack_of(mode, &text(parts)).1);
         }
     }
     (depth, most)
 }
 
-pub fn show(strict: Read) {
+pub fn show() {
     let mixed = 3000;
     println!("| nest | deepest that is read | bytes of stack |\n|---|---|---|");
     std::thread::Builder::new()
         .stack_size(8 << 20)
         .spawn(move || {
             for (part, (name, _, _)) in NESTS.iter().enumerate() {
-                let (depth, most) = deepest(strict, &[part; 130]);
+                let (depth, most) = deepest(&[part; 130]);
                 println!("| {name} | {depth} | {most} |");
             }
             let mut seed: u64 = 1;
@@ -140,7 +102,7 @@ pub fn show(strict: Read) {
                         items = part == CALLS || ITEMS.contains(&part);
                     }
                 }
-                most = most.max(deepest(strict, &parts).1);
+                most = most.max(deepest(&parts).1);
             }
             println!("| {mixed} mixed | | {most} |");
         })

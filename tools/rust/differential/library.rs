@@ -1,51 +1,15 @@
 //! The library over C, and the arrays that are lent to it: full of rubbish, longer than needed, and with cells around them that nobody may touch.
 
+use crate::c;
 use crate::scripts::Random;
 
-type Read = unsafe extern "C" fn(
-    *const u8, usize, *mut u32, usize, *mut u32, usize, *mut u32, usize, *mut u32, usize, *mut u32, usize, *mut u32,
-) -> u32;
+pub use crate::c::{CELLS, Mode};
 
-unsafe extern "C" {
-    fn purple_garden_parse(
-        script: *const u8, script_len: usize, nodes: *mut u32, nodes_len: usize, types: *mut u32, types_len: usize, lists: *mut u32,
-        lists_len: usize, roots: *mut u32, roots_len: usize, diagnostics: *mut u32, diagnostics_len: usize, numbers: *mut u32,
-    ) -> u32;
-    fn purple_garden_parse_collect(
-        script: *const u8, script_len: usize, nodes: *mut u32, nodes_len: usize, types: *mut u32, types_len: usize, lists: *mut u32,
-        lists_len: usize, roots: *mut u32, roots_len: usize, diagnostics: *mut u32, diagnostics_len: usize, numbers: *mut u32,
-    ) -> u32;
-    fn purple_garden_node_start(
-        script: *const u8, script_len: usize, nodes: *const u32, nodes_len: usize, types: *const u32, types_len: usize, lists: *const u32,
-        lists_len: usize, roots: *const u32, roots_len: usize, counts: *const u32, node: u32, start: *mut u64,
-    ) -> u32;
-    fn purple_garden_type_token(
-        script: *const u8, script_len: usize, nodes: *const u32, nodes_len: usize, types: *const u32, types_len: usize, lists: *const u32,
-        lists_len: usize, roots: *const u32, roots_len: usize, counts: *const u32, ty: u32, token: *mut u64,
-    ) -> u32;
-    fn purple_garden_token_span(script: *const u8, script_len: usize, kind: u32, start: usize, len: usize, span: *mut u64) -> u32;
-    fn purple_garden_line_column(script: *const u8, script_len: usize, at: u32, place: *mut u64) -> u32;
-    fn purple_garden_same_shape(
-        script: *const u8, script_len: usize, nodes: *const u32, nodes_len: usize, types: *const u32, types_len: usize, lists: *const u32,
-        lists_len: usize, roots: *const u32, roots_len: usize, counts: *const u32, script2: *const u8, script2_len: usize,
-        nodes2: *const u32, nodes2_len: usize, types2: *const u32, types2_len: usize, lists2: *const u32, lists2_len: usize,
-        roots2: *const u32, roots2_len: usize, counts2: *const u32, same: *mut u64,
-    ) -> u32;
-}
-
-/// Cells for each byte of a script: nodes, types, lists, roots, diagnostics.
-pub const CELLS: [usize; 5] = [16, 8, 8, 1, 5];
 pub const NAMES: [&str; 5] = ["nodes", "types", "lists", "roots", "diagnostics"];
 
 /// Cells before and behind each array that stay as they are.
 const GUARD: usize = 4;
 const UNTOUCHED: u32 = 0xdead_beef;
-
-#[derive(Clone, Copy, PartialEq)]
-pub enum Mode {
-    Strict,
-    Collecting,
-}
 
 pub const MODES: [Mode; 2] = [Mode::Strict, Mode::Collecting];
 
@@ -107,77 +71,39 @@ impl Lent {
     }
 
     pub fn read(&mut self, mode: Mode, script: &[u8]) -> u32 {
-        let call: Read = match mode {
-            Mode::Strict => purple_garden_parse,
-            Mode::Collecting => purple_garden_parse_collect,
-        };
         let lens = self.lens;
-        let [nodes, types, lists, roots, diagnostics] = self.cells.each_mut().map(|cells| cells[GUARD..].as_mut_ptr());
-        // SAFETY: each pointer is followed by its length in cells, and `numbers` has twelve.
-        unsafe {
-            call(
-                script.as_ptr(), script.len(), nodes, lens[0], types, lens[1], lists, lens[2], roots, lens[3], diagnostics, lens[4],
-                self.numbers.as_mut_ptr(),
-            )
-        }
+        let mut left = lens.iter();
+        let arrays = self.cells.each_mut().map(|cells| &mut cells[GUARD..GUARD + left.next().expect("five lengths")]);
+        c::read(mode, script, arrays, &mut self.numbers)
     }
 
-    fn counts(&self) -> *const u32 {
-        self.numbers[6..].as_ptr()
+    fn lent<'a>(&'a self, script: &'a [u8]) -> c::Lent<'a> {
+        let [nodes, types, lists, roots] = [0, 1, 2, 3].map(|i| self.array(i));
+        c::Lent { script, nodes, types, lists, roots, counts: self.numbers[6..].first_chunk().expect("six counts") }
     }
 
     pub fn node_start(&self, script: &[u8], node: u32) -> (u32, [u64; 2]) {
         let mut start = [u64::MAX; 2];
-        let [nodes, types, lists, roots] = [0, 1, 2, 3].map(|i| self.array(i).as_ptr());
-        // SAFETY: as for `read`; six counts, two cells for the answer.
-        let number = unsafe {
-            purple_garden_node_start(
-                script.as_ptr(), script.len(), nodes, self.lens[0], types, self.lens[1], lists, self.lens[2], roots, self.lens[3],
-                self.counts(), node, start.as_mut_ptr(),
-            )
-        };
-        (number, start)
+        (self.lent(script).node_start(node, &mut start), start)
     }
 
     pub fn type_token(&self, script: &[u8], ty: u32) -> (u32, [u64; 3]) {
         let mut token = [u64::MAX; 3];
-        let [nodes, types, lists, roots] = [0, 1, 2, 3].map(|i| self.array(i).as_ptr());
-        // SAFETY: as for `read`; six counts, three cells for the answer.
-        let number = unsafe {
-            purple_garden_type_token(
-                script.as_ptr(), script.len(), nodes, self.lens[0], types, self.lens[1], lists, self.lens[2], roots, self.lens[3],
-                self.counts(), ty, token.as_mut_ptr(),
-            )
-        };
-        (number, token)
+        (self.lent(script).type_token(ty, &mut token), token)
     }
 
     pub fn same_shape(&self, script: &[u8], other: &Lent, script2: &[u8]) -> (u32, u64) {
         let mut same = [u64::MAX];
-        let [nodes, types, lists, roots] = [0, 1, 2, 3].map(|i| self.array(i).as_ptr());
-        let [nodes2, types2, lists2, roots2] = [0, 1, 2, 3].map(|i| other.array(i).as_ptr());
-        // SAFETY: as for `read`; six counts of each, one cell for the answer.
-        let number = unsafe {
-            purple_garden_same_shape(
-                script.as_ptr(), script.len(), nodes, self.lens[0], types, self.lens[1], lists, self.lens[2], roots, self.lens[3],
-                self.counts(), script2.as_ptr(), script2.len(), nodes2, other.lens[0], types2, other.lens[1], lists2, other.lens[2],
-                roots2, other.lens[3], other.counts(), same.as_mut_ptr(),
-            )
-        };
-        (number, same[0])
+        (self.lent(script).same_shape(&other.lent(script2), &mut same), same[0])
     }
 }
 
 pub fn token_span(script: &[u8], kind: u32, start: usize, len: usize) -> (u32, [u64; 2]) {
     let mut span = [u64::MAX; 2];
-    // SAFETY: the pointer comes with its length; two cells for the answer.
-    let number = unsafe { purple_garden_token_span(script.as_ptr(), script.len(), kind, start, len, span.as_mut_ptr()) };
-    (number, span)
+    (c::token_span(script, kind, start, len, &mut span), span)
 }
 
 pub fn line_column(script: &[u8], at: u32) -> (u32, [u64; 2]) {
     let mut place = [u64::MAX; 2];
-    // SAFETY: the pointer comes with its length; two cells for the answer.
-    let number = unsafe { purple_garden_line_column(script.as_ptr(), script.len(), at, place.as_mut_ptr()) };
-    (number, place)
+    (c::line_column(script, at, &mut place), place)
 }

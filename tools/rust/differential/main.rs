@@ -21,6 +21,8 @@
 
 include!(env!("RUST_MODULES")); // written by tools/rust/oracle/rust.py: lex, diagnostic, ast, parser, counted, notes
 
+#[path = "../../../bindings/rust/src/c.rs"]
+mod c;
 mod expected;
 mod law;
 mod library;

@@ -1,12 +1,9 @@
 //! Practice sheets: the library beside a generator of its own, which is written from document 02's
 //! words, and every sheet read by the library and by the unchanged Rust.
 
+use crate::c;
 use crate::library::Mode;
 use crate::{Beside, Count};
-
-unsafe extern "C" {
-    fn purple_garden_practice(seed: u32, lines: u32, out: *mut u8, out_len: usize, length: *mut u64) -> u32;
-}
 
 /// The most lines of a sheet.
 const LINES: u32 = 16;
@@ -60,8 +57,7 @@ const NO_LENGTH: u64 = 0xdead_beef_dead_beef;
 fn written(seed: u32, lines: u32, bytes: usize) -> (u32, u64, Vec<u8>) {
     let mut cells = vec![UNTOUCHED; bytes + 2 * GUARD];
     let mut length = [NO_LENGTH];
-    // SAFETY: `bytes` bytes follow the pointer; one cell for the length.
-    let number = unsafe { purple_garden_practice(seed, lines, cells[GUARD..].as_mut_ptr(), bytes, length.as_mut_ptr()) };
+    let number = c::practice(seed, lines, &mut cells[GUARD..GUARD + bytes], &mut length);
     (number, length[0], cells)
 }
 

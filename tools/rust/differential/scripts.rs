@@ -124,6 +124,19 @@ impl<'r> Program<'r> {
         }
     }
 
+    /// A fn up to its body; the return type may be left out.
+    fn signature(&mut self, depth: usize) {
+        self.docs(20);
+        self.word("fn");
+        self.one(NAMES);
+        self.word("(");
+        self.typed(depth);
+        self.word(")");
+        if self.random.chance(60) {
+            self.ty(depth);
+        }
+    }
+
     fn operand(&mut self, depth: usize) {
         match if depth == 0 { self.random.below(4) } else { self.random.below(9) } {
             0 | 1 => self.one(NAMES),
@@ -213,15 +226,7 @@ impl<'r> Program<'r> {
                 self.word(")");
             }
             12..=14 => {
-                self.docs(20);
-                self.word("fn");
-                self.one(NAMES);
-                self.word("(");
-                self.typed(depth);
-                self.word(")");
-                if self.random.chance(60) {
-                    self.ty(depth);
-                }
+                self.signature(depth);
                 self.body(depth);
             }
             15..=17 => {
@@ -245,15 +250,7 @@ impl<'r> Program<'r> {
                 self.one(PATHS);
                 self.word("{");
                 for _ in 0..self.random.below(4) {
-                    self.docs(20);
-                    self.word("fn");
-                    self.one(NAMES);
-                    self.word("(");
-                    self.typed(depth);
-                    self.word(")");
-                    if self.random.chance(60) {
-                        self.ty(depth);
-                    }
+                    self.signature(depth);
                 }
                 self.word("}");
             }

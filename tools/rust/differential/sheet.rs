@@ -2,17 +2,12 @@
 //! words, and compared with the errors that they were printed from. The words of an error come from
 //! the two tables of docs/WORDS.md, its line and column from counting bytes.
 
+use crate::c;
 use crate::library::{self, Mode};
 use crate::scripts::Random;
 use crate::{Beside, Count, LONGEST};
 use std::collections::BTreeMap;
 use std::time::Instant;
-
-unsafe extern "C" {
-    fn purple_garden_sheet(
-        script: *const u8, script_len: usize, errors: *const u32, errors_len: usize, sheet: *mut u8, sheet_len: usize, length: *mut u64,
-    ) -> u32;
-}
 
 const PAGE: &str = include_str!("../../../docs/WORDS.md");
 
@@ -164,11 +159,7 @@ impl Printed {
         let salt = random.below(256);
         let before: Vec<u8> = (0..room + 2 * GUARD).map(|i| (i * 7 + salt) as u8).collect();
         let mut buffer = before.clone();
-        let sheet = buffer[GUARD..].as_mut_ptr();
-        // SAFETY: each pointer comes with its length; one cell for the length.
-        let number = unsafe {
-            purple_garden_sheet(script.as_ptr(), script.len(), errors.as_ptr(), errors.len(), sheet, room, length.as_mut_ptr())
-        };
+        let number = c::sheet(script, errors, &mut buffer[GUARD..GUARD + room], &mut length);
         Printed { number, length: length[0], buffer, before }
     }
 
@@ -372,10 +363,7 @@ fn time(random: &mut Random) {
     let mut print = |errors: &[Error]| {
         let (cells, mut length) = (errors.concat(), [0]);
         let from = Instant::now();
-        // SAFETY: as for `Printed`.
-        let number = unsafe {
-            purple_garden_sheet(script.as_ptr(), script.len(), cells.as_ptr(), cells.len(), sheet.as_mut_ptr(), sheet.len(), length.as_mut_ptr())
-        };
+        let number = c::sheet(&script, &cells, &mut sheet, &mut length);
         assert!(number == 0 && length[0] > 0);
         ms(from)
     };

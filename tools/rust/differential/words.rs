@@ -3,11 +3,7 @@
 
 use std::collections::HashSet;
 
-use crate::{Beside, Count};
-
-unsafe extern "C" {
-    fn purple_garden_describe(error: *const u32, line: *mut u8, line_len: usize, length: *mut u64) -> u32;
-}
+use crate::{Beside, Count, c};
 
 const PAGE: &str = include_str!("../../../docs/WORDS.md");
 
@@ -104,8 +100,7 @@ impl Words {
     /// The call with a buffer of `room` bytes, full of `filling`.
     fn told(&self, error: [u32; 5], room: usize, filling: u8) -> Result<(), String> {
         let (mut buffer, mut length) = (vec![filling; room + 8], [u64::MAX]);
-        // SAFETY: five numbers, `room` bytes of the buffer, one cell for the answer.
-        let number = unsafe { purple_garden_describe(error.as_ptr(), buffer.as_mut_ptr(), room, length.as_mut_ptr()) };
+        let number = c::describe(&error, &mut buffer[..room], &mut length);
         let mut wanted = vec![filling; room + 8];
         let answer = match self.line([error[0], error[3], error[4]]) {
             _ if room < LONGEST => (41, u64::MAX),

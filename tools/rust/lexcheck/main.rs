@@ -30,25 +30,20 @@ include!(env!("LEXCHECK_MODULES")); // written by the script beside this file: t
 
 use lex::{Lexer, Token, Type};
 
-unsafe extern "C" {
-    fn lex_is_utf8(bytes: *const u8, count: usize) -> bool;
-    fn lex_step(script: *const u8, count: usize, pos: usize, out: *mut u64, cells: usize) -> bool;
-    fn lex_spelling(script: *const u8, count: usize, kind: u32, start: usize, len: usize, out: *mut u64) -> bool;
-}
+#[path = "../../../bindings/rust/src/c.rs"]
+mod c;
 
-fn is_utf8(bytes: &[u8]) -> bool {
-    unsafe { lex_is_utf8(bytes.as_ptr(), bytes.len()) }
-}
+use c::is_utf8;
 
 fn step(script: &[u8], pos: usize) -> [u64; 6] {
     let mut out = [u64::MAX; 6];
-    assert!(unsafe { lex_step(script.as_ptr(), script.len(), pos, out.as_mut_ptr(), 6) });
+    assert!(c::step(script, pos, &mut out));
     out
 }
 
 fn spelling(script: &[u8], kind: u32, start: usize, len: usize) -> Option<u64> {
     let mut out = u64::MAX;
-    if unsafe { lex_spelling(script.as_ptr(), script.len(), kind, start, len, &mut out) } {
+    if c::spelling(script, kind, start, len, &mut out) {
         return Some(out);
     }
     assert_eq!(out, u64::MAX);
@@ -345,7 +340,7 @@ fn short_buffers() -> u64 {
     let mut short = Count::new("step, buffers of 0 to 9 cells");
     for cells in 0..10 {
         let mut out = [7u64; 10];
-        let answer = unsafe { lex_step(b"$ a".as_ptr(), 3, 1, out.as_mut_ptr(), cells) };
+        let answer = c::step(b"$ a", 1, &mut out[..cells]);
         let mut wanted = [7u64; 10];
         if cells >= 6 {
             wanted[..6].copy_from_slice(&[0, 25, 2, 1, 0, 3]);
