@@ -16,6 +16,7 @@ use parser_operators::operand_class;
 use parser_operators::operator;
 use parser_operators::postfix_follows;
 use parser_operators::push_case;
+use parser_state::WideNode;
 use parser_state::advance;
 use parser_state::close;
 use parser_state::collect_docs;
@@ -38,7 +39,6 @@ use parser_types::fn_return;
 use parser_types::parse_args;
 use parser_types::parse_extern;
 use parser_types::parse_import;
-use rules::Node;
 use rules::NodeId;
 use rules::NodeKind;
 use rules::Run;
@@ -168,7 +168,7 @@ fn parse_fn(
     push_node(
         nodes,
         p,
-        Node::Fn {
+        WideNode::Fn {
             id,
             docs,
             name,

@@ -2,6 +2,7 @@
 use lex::Token;
 use lex::Type;
 use lex::is_prefix_sign;
+use parser_state::WideNode;
 use parser_state::advance;
 use parser_state::current;
 use parser_state::expect_ident;
@@ -15,7 +16,6 @@ use parser_state::push_field;
 use parser_state::push_node;
 use parser_state::push_token_node;
 use parser_types::parse_type;
-use rules::Node;
 use rules::NodeId;
 use rules::NodeKind;
 use rules::Run;
@@ -297,7 +297,7 @@ pub fn match_node(nodes: &mut [u32], p: &mut [u32; 17], t: Token, cases: Run, d:
     push_node(
         nodes,
         p,
-        Node::Match {
+        WideNode::Match {
             id,
             cases,
             default_token: token,

@@ -17,6 +17,8 @@ use Rattle.rules.specs.Layout.{nodeCells, typeCells, zeros}
 use Rattle.rules.specs.Promise.{maxBytes}
 use Rattle.rules.specs.declared.Node.{Node}
 use Rattle.rules.specs.declared.Node.the-variants as N
+use Rattle.parser_state.specs.declared.WideNode.{WideNode}
+use Rattle.parser_state.specs.declared.WideNode.the-variants as W
 use Rattle.rules.specs.declared.TypeExpr.{TypeExpr}
 use Rattle.rules.specs.declared.TypeExpr.the-variants as T
 use Rattle.parser_state.specs.declared.Parser.{Parser}
@@ -38,21 +40,10 @@ lowType (T.Option i) = T.Option i
 lowType (T.Array i) = T.Array i
 lowType (T.Record src fields) = T.Record (lowToken src) fields
 
-abbrev pub lowNode : Node → Node
-lowNode (N.Atom id raw) = N.Atom id (lowToken raw)
-lowNode (N.Ident id name) = N.Ident id (lowToken name)
-lowNode (N.Bin id op lhs rhs) = N.Bin id (lowToken op) lhs rhs
-lowNode (N.Unary id op rhs) = N.Unary id (lowToken op) rhs
-lowNode (N.Let id docs name rhs) = N.Let id docs (lowToken name) rhs
-lowNode (N.Fn id docs name args return-type body) = N.Fn id docs (lowToken name) args return-type body
-lowNode (N.Match id cases token body) = N.Match id cases (lowToken token) body
-lowNode (N.Call id target args) = N.Call id target args
-lowNode (N.Field id target name) = N.Field id target (lowToken name)
-lowNode (N.Cast id src lhs rhs) = N.Cast id (lowToken src) lhs rhs
-lowNode (N.Import id src pkgs) = N.Import id (lowToken src) pkgs
-lowNode (N.Extern id src docs name fns) = N.Extern id (lowToken src) docs (lowToken name) fns
-lowNode (N.Record id src fields) = N.Record id (lowToken src) fields
-lowNode (N.Array id src elements) = N.Array id (lowToken src) elements
+abbrev pub lowNode : WideNode → Node
+lowNode (W.Fn id docs name args return-type body) = N.Fn id docs (lowToken name) args return-type body
+lowNode (W.Match id cases token body) = N.Match id cases (lowToken token) body
+lowNode (W.Extern id src docs name fns) = N.Extern id (lowToken src) docs (lowToken name) fns
 
 -- the numbers of a token of the script
 pub record InRange (script : List ℕ) (t : Token) : Type 0 where

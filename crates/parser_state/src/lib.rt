@@ -4,7 +4,6 @@ use lex::Next;
 use lex::Token;
 use lex::Type;
 use lex::next_token;
-use rules::Node;
 use rules::NodeId;
 use rules::NodeKind;
 use rules::Parsed;
@@ -20,6 +19,7 @@ ghost use lib.ListN.{length, replicate};
 ghost use lib.Seq.{paste};
 ghost use Rattle.rules.specs.Layout.{nodeWidth, padded, nodeCells, typeCells};
 ghost use Rattle.rules.specs.Combinators.{continue, atToken, advance, expect, expectIdent, rejectKind, pushNode, pushNodeAnd, pushType, allocSlice, tokenCells, keepDoc, collectDocs, takeDocs};
+ghost use Rattle.rules.specs.declared.Node.{Node};
 ghost use Rattle.rules.specs.declared.Node.the-variants as N;
 ghost use Rattle.parser_state.specs.Represents.{parserOf, withNext, withUsed, withStatus, code, isGoing, low, lowToken, lowType, lowNode};
 ghost use Rattle.parser_state.specs.Refines.{Refines, kept, Takes, Refuses, Pushes, Lists, failAt, noDocsWait, failed, tokenAt, hasRoom, memberFollows, docFollows, closed};
@@ -395,106 +395,36 @@ pub fn push_type(types: &mut [u32], p: &mut [u32; 17], t: TypeExpr) -> TypeExprI
     TypeExprId(n)
 }
 
-fn node_cells(n: Node) -> [u32; 16]
+// A node whose record has more than eight cells.
+pub enum WideNode {
+    Fn {
+        id: u32,
+        docs: Run,
+        name: Token,
+        args: Run,
+        return_type: TypeExprId,
+        body: Run,
+    },
+    Match {
+        id: u32,
+        cases: Run,
+        default_token: Token,
+        default_body: Run,
+    },
+    Extern {
+        id: u32,
+        src: Token,
+        docs: Run,
+        name: Token,
+        fns: Run,
+    },
+}
+
+fn node_cells(n: WideNode) -> [u32; 16]
     ensures { λ r. ⌜ r ≡ nodeCells (lowNode n) ⌝ }
 {
     match n {
-        Node::Atom { id, raw } => [
-            NodeKind::ATOM,
-            id,
-            raw.kind,
-            low(raw.start),
-            low(raw.len),
-            0,
-            0,
-            0,
-            0,
-            0,
-            0,
-            0,
-            0,
-            0,
-            0,
-            0,
-        ],
-        Node::Ident { id, name } => [
-            NodeKind::IDENT,
-            id,
-            name.kind,
-            low(name.start),
-            low(name.len),
-            0,
-            0,
-            0,
-            0,
-            0,
-            0,
-            0,
-            0,
-            0,
-            0,
-            0,
-        ],
-        Node::Bin { id, op, lhs, rhs } => [
-            NodeKind::BIN,
-            id,
-            op.kind,
-            low(op.start),
-            low(op.len),
-            lhs.0,
-            rhs.0,
-            0,
-            0,
-            0,
-            0,
-            0,
-            0,
-            0,
-            0,
-            0,
-        ],
-        Node::Unary { id, op, rhs } => [
-            NodeKind::UNARY,
-            id,
-            op.kind,
-            low(op.start),
-            low(op.len),
-            rhs.0,
-            0,
-            0,
-            0,
-            0,
-            0,
-            0,
-            0,
-            0,
-            0,
-            0,
-        ],
-        Node::Let {
-            id,
-            docs,
-            name,
-            rhs,
-        } => [
-            NodeKind::LET,
-            id,
-            docs.start,
-            docs.len,
-            name.kind,
-            low(name.start),
-            low(name.len),
-            rhs.0,
-            0,
-            0,
-            0,
-            0,
-            0,
-            0,
-            0,
-            0,
-        ],
-        Node::Fn {
+        WideNode::Fn {
             id,
             docs,
             name,
@@ -519,7 +449,7 @@ fn node_cells(n: Node) -> [u32; 16]
             0,
             0,
         ],
-        Node::Match {
+        WideNode::Match {
             id,
             cases,
             default_token,
@@ -542,79 +472,7 @@ fn node_cells(n: Node) -> [u32; 16]
             0,
             0,
         ],
-        Node::Call { id, target, args } => [
-            NodeKind::CALL,
-            id,
-            target.0,
-            args.start,
-            args.len,
-            0,
-            0,
-            0,
-            0,
-            0,
-            0,
-            0,
-            0,
-            0,
-            0,
-            0,
-        ],
-        Node::Field { id, target, name } => [
-            NodeKind::FIELD,
-            id,
-            target.0,
-            name.kind,
-            low(name.start),
-            low(name.len),
-            0,
-            0,
-            0,
-            0,
-            0,
-            0,
-            0,
-            0,
-            0,
-            0,
-        ],
-        Node::Cast { id, src, lhs, rhs } => [
-            NodeKind::CAST,
-            id,
-            src.kind,
-            low(src.start),
-            low(src.len),
-            lhs.0,
-            rhs.0,
-            0,
-            0,
-            0,
-            0,
-            0,
-            0,
-            0,
-            0,
-            0,
-        ],
-        Node::Import { id, src, pkgs } => [
-            NodeKind::IMPORT,
-            id,
-            src.kind,
-            low(src.start),
-            low(src.len),
-            pkgs.start,
-            pkgs.len,
-            0,
-            0,
-            0,
-            0,
-            0,
-            0,
-            0,
-            0,
-            0,
-        ],
-        Node::Extern {
+        WideNode::Extern {
             id,
             src,
             docs,
@@ -633,42 +491,6 @@ fn node_cells(n: Node) -> [u32; 16]
             low(name.len),
             fns.start,
             fns.len,
-            0,
-            0,
-            0,
-            0,
-        ],
-        Node::Record { id, src, fields } => [
-            NodeKind::RECORD,
-            id,
-            src.kind,
-            low(src.start),
-            low(src.len),
-            fields.start,
-            fields.len,
-            0,
-            0,
-            0,
-            0,
-            0,
-            0,
-            0,
-            0,
-            0,
-        ],
-        Node::Array { id, src, members } => [
-            NodeKind::ARRAY,
-            id,
-            src.kind,
-            low(src.start),
-            low(src.len),
-            members.start,
-            members.len,
-            0,
-            0,
-            0,
-            0,
-            0,
             0,
             0,
             0,
@@ -696,7 +518,7 @@ fn has_room(len: usize, p: &[u32; 17]) -> bool
 }
 
 // `more` value numbers go with the node that no node has.
-pub fn push_node(nodes: &mut [u32], p: &mut [u32; 17], node: Node, more: u32) -> NodeId
+pub fn push_node(nodes: &mut [u32], p: &mut [u32; 17], node: WideNode, more: u32) -> NodeId
     requires { ⌜ more ≤ 65536 ⌝ }
     ensures { λ r. ⌜ ((script types lists : List ℕ) (f : ℕ → Node) (rooms : ℕ) → 1 + more ≤ 40000 * rooms → lowNode node ≡ f (parserOf (now (p .entry)) .used .values) → Refines script rooms 0 (pushNodeAnd more f) (λ i. i ≡ r) kept 0 0 0 (code (now (nodes .entry)) types lists (parserOf (now (p .entry)))) (code (now (nodes .exit)) types lists (parserOf (now (p .exit))))) ⌝ }
 {
@@ -748,7 +570,7 @@ fn put_record(
     dst[at + 7] = h;
 }
 
-// A node of six cells besides its kind and its number: the frequent ones are written without a `Node`. The cells behind are zero already.
+// A node of six cells besides its kind and its number: the others are `WideNode`s. The cells behind are zero already.
 fn push_record(
     nodes: &mut [u32],
     p: &mut [u32; 17],

@@ -1,6 +1,7 @@
 // The readers of parser.rs that read no item and no expression: types, arguments, imports and externs.
 use lex::Token;
 use lex::Type;
+use parser_state::WideNode;
 use parser_state::advance;
 use parser_state::alloc_slice;
 use parser_state::close;
@@ -21,7 +22,6 @@ use parser_state::push_token_node;
 use parser_state::push_type;
 use parser_state::reject_kind;
 use parser_state::take_docs;
-use rules::Node;
 use rules::NodeId;
 use rules::NodeKind;
 use rules::Run;
@@ -393,7 +393,7 @@ pub fn parse_extern(
     push_node(
         nodes,
         p,
-        Node::Extern {
+        WideNode::Extern {
             id,
             src,
             docs,
