@@ -8,7 +8,8 @@ use native.Mathlib.Omega.{arith}
 use lib.Dec.{ltb, eqb}
 use lib.ListN.{getD}
 use borrow.Author.Tests.{lt-ltb, le-ltb, ltb-true, ltb-false, ne-eqb}
-use Rattle.rules.specs.Shape.{wellFormed, andThen}
+use Rattle.lex.specs.Spelling.{wellFormed}
+use Rattle.rules.specs.Shape.{andThen}
 use Rattle.lex.specs.declared.tok.Token.{Token}
 use Rattle.rules.specs.declared.Run.{Run}
 use Rattle.rules.specs.declared.NodeId.{NodeId}
@@ -16,7 +17,8 @@ use Rattle.rules.specs.declared.Node.{Node}
 use Rattle.rules.specs.declared.Node.the-variants as N
 use Rattle.rules.specs.declared.TypeExpr.{TypeExpr}
 use Rattle.rules.specs.declared.TypeExpr.the-variants as T
-use Rattle.ast.specs.Decode.{if, low, tokenAt, nodeAt, typeAt, nodeRead, typeRead}
+use Rattle.lex.specs.Bytes.{if}
+use Rattle.ast.specs.Decode.{low, tokenAt, nodeAt, typeAt, nodeRead, typeRead}
 use Rattle.ast.specs.Tabulate.{entriesBelow, entryAt}
 use Rattle.ast.proofs.Tabulate.{entries-below, entries-past}
 use Rattle.ast.specs.Lookup.{inside, tokenStart, orElse, matchStart, startOf, startRow, startAt, typeTokenOf, typeTokenRow, typeTokenAt}

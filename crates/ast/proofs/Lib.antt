@@ -3,7 +3,5 @@ pub mod Copy
 pub mod LayoutLaws
 pub mod SchemaLaws
 pub mod Tabulate
-pub mod Tokens
 pub mod Refusal
 pub mod Descent
-pub mod Position

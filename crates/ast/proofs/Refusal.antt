@@ -7,8 +7,10 @@ use lib.Dec.{ltb}
 use lib.ListN.{length}
 use borrow.Author.Tests.{lt-ltb, le-ltb, lt-leb, le-leb}
 use Rattle.lex.specs.declared.tok.Token.{Token}
-use Rattle.ast.specs.Decode.{if, fits}
-use Rattle.ast.specs.Answer.{Answer, refused, unless, unlessMalformed, Lent, refusal, recordAsked}
+use Rattle.lex.specs.Bytes.{if}
+use Rattle.ast.specs.Decode.{fits}
+use Rattle.lex.specs.Answer.{Answer, refused}
+use Rattle.ast.specs.Answer.{unless, unlessMalformed, Lent, refusal, recordAsked}
 use Rattle.ast.specs.Descent.{asStart, startOr, asTypeToken}
 use Rattle.ast.specs.Lookup.{startAnswer, typeTokenAnswer}
 use Rattle.ast.specs.declared.lookup.Start.the-variants as S

@@ -5,14 +5,10 @@ use Prim.Native.Nat.{ℕ, zero, suc, _*_}
 use lib.Dec.{ltb}
 use lib.ListN.{length, take}
 use Rattle.rules.specs.Layout.{nodeWidth, typeWidth}
-use Rattle.rules.specs.Promise.{maxBytes}
+use Rattle.lex.specs.Answer.{maxBytes, Answer, refused, answer}
 use Rattle.rules.specs.declared.Counts.{Counts}
-use Rattle.ast.specs.Decode.{if, fits}
-
--- how a call ends: refused with a number, or with what was asked
-pub data Answer (A : Type 0) : Type 0 where
-  refused : ℕ → Answer A
-  answer : A → Answer A
+use Rattle.lex.specs.Bytes.{if}
+use Rattle.ast.specs.Decode.{fits}
 
 -- a number other than 0 refuses
 unfoldable pub unless : {A : Type 0} → ℕ → Answer A → Answer A

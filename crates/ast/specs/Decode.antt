@@ -5,6 +5,7 @@ use mathlib.Core.List.{List, [], _∷_}
 use Prim.Native.Nat.{ℕ, _+_, _*_, _%_}
 use lib.Dec.{leb}
 use lib.ListN.{length, getD, take, drop}
+use Rattle.lex.specs.Bytes.{if}
 use Rattle.rules.specs.Layout.{nodeWidth, typeWidth}
 use Rattle.lex.specs.declared.tok.Token.{Token}
 use Rattle.rules.specs.declared.Run.{Run}
@@ -59,10 +60,6 @@ nodeOf cs = getD (none ∷ nodesByKind cs) (getD cs 0 0) none
 
 unfoldable pub typeOf : List ℕ → Option TypeExpr
 typeOf cs = getD (none ∷ typesByKind cs) (getD cs 0 0) none
-
-abbrev pub if : {A : Type 0} → Bool → A → A → A
-if true a b = a
-if false a b = b
 
 -- record `i` lies before the end of the array's last whole record, `size` cells a record
 abbrev pub fits : ℕ → List ℕ → ℕ → Bool

@@ -11,7 +11,8 @@ use Rattle.rules.specs.declared.Node.{Node}
 use Rattle.rules.specs.declared.Node.the-variants as N
 use Rattle.rules.specs.declared.TypeExpr.{TypeExpr}
 use Rattle.rules.specs.declared.TypeExpr.the-variants as T
-use Rattle.ast.specs.Decode.{if, typeAt}
+use Rattle.lex.specs.Bytes.{if}
+use Rattle.ast.specs.Decode.{typeAt}
 use Rattle.ast.specs.Lookup.{inside, tokenStart, matchStart, typeTokenAt}
 use Rattle.ast.specs.declared.lookup.Start.{Start}
 use Rattle.ast.specs.declared.lookup.Start.the-variants as S

@@ -7,16 +7,18 @@ use lib.Dec.{leb, eqb}
 use lib.ListN.{length, getD}
 use Rattle.lex.specs.declared.tok.Token.{Token}
 use Rattle.rules.specs.Layout.{nodeWidth, typeWidth}
-use Rattle.rules.specs.Shape.{wellFormed, andThen}
+use Rattle.lex.specs.Spelling.{wellFormed, asStrLength}
+use Rattle.rules.specs.Shape.{andThen}
 use Rattle.rules.specs.declared.Run.{Run}
 use Rattle.rules.specs.declared.Node.{Node}
 use Rattle.rules.specs.declared.Node.the-variants as N
 use Rattle.rules.specs.declared.TypeExpr.{TypeExpr}
 use Rattle.rules.specs.declared.TypeExpr.the-variants as T
-use Rattle.ast.specs.Decode.{if, low, tokenAt, nodeAt, typeAt}
+use Rattle.lex.specs.Bytes.{if}
+use Rattle.ast.specs.Decode.{low, tokenAt, nodeAt, typeAt}
 use Rattle.ast.specs.Tabulate.{entryAt}
-use Rattle.ast.specs.Answer.{Answer, refused, answer, unlessMalformed, Lent, cellsOf, recordAsked}
-use Rattle.ast.specs.Span.{asStrLength}
+use Rattle.lex.specs.Answer.{Answer, refused, answer}
+use Rattle.ast.specs.Answer.{unlessMalformed, Lent, cellsOf, recordAsked}
 use Rattle.ast.specs.declared.lookup.Start.{Start}
 use Rattle.ast.specs.declared.lookup.Start.the-variants as S
 use Rattle.ast.specs.declared.lookup.TypeToken.{TypeToken}

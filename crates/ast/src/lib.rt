@@ -1,5 +1,4 @@
-// The tree of a reading in lent arrays: its records, the lookups, spans and positions.
-pub mod diagnostic;
+// The tree of a reading in lent arrays: its records, and the lookups.
 pub mod layout;
 pub mod lookup;
 pub mod schema;

@@ -2,24 +2,21 @@
 use crate::layout::NodeRead;
 use crate::layout::TypeRead;
 use crate::layout::token_at;
-use lex::Found;
+use lex::MAX_BYTES;
 use lex::Token;
-use lex::Type;
-use lex::spelling;
+use lex::as_str_len;
+use lex::well_formed;
 use rules::Counts;
 use rules::Node;
 use rules::NodeId;
-use rules::Parsed;
 use rules::Run;
 use rules::TypeExpr;
 use rules::TypeExprId;
 ghost use mathlib.Core.Path.{_≡_};
 ghost use Prim.Native.Nat.{_≤_};
 ghost use lib.ListN.{take};
-ghost use Rattle.rules.specs.Shape.{wellFormed};
 ghost use Rattle.ast.specs.Decode.{nodeAt, typeAt};
 ghost use Rattle.ast.specs.Answer.{lent, refusal as refusalOf};
-ghost use Rattle.ast.specs.Span.{asStrLength};
 ghost use Rattle.ast.specs.Lookup.{tokenStart, matchStart, wellFormedToken, startAt, typeTokenAt, nodeStart, typeToken, startAnswer, typeTokenAnswer};
 ghost use Rattle.ast.specs.Descent.{startOr, asStart, decodeStart, asTypeToken, Innermost, arrayStep, stepOf, innerOf};
 
@@ -43,16 +40,6 @@ enum Step {
 // One more than any start.
 const NOTHING: u64 = 4294967296;
 
-// The kind is known, and a spelling from the script lies in it. A known kind has one of these, or a fixed one.
-pub(crate) fn well_formed(script: &[u8], t: Token) -> bool
-    ensures { λ r. ⌜ r ≡ wellFormed (now (script .entry)) t ⌝ }
-{
-    match spelling(script, t) {
-        Found::At(_) => true,
-        Found::Nothing => 0 < Type::spelling_len(t.kind),
-    }
-}
-
 // 1 or 2 where the call is refused for what is lent, else 0.
 pub fn refusal(
     script: &[u8],
@@ -65,7 +52,7 @@ pub fn refusal(
     ensures { λ r. ⌜ r ≡ refusalOf (lent (now (script .entry)) (now (nodes .entry)) (now (types .entry)) (now (lists .entry)) (now (roots .entry)) counts) ⌝ }
 {
     let n = script.len();
-    if Parsed::MAX_BYTES < n {
+    if MAX_BYTES < n {
         return 1;
     }
     if nodes.len() < Node::WIDTH * n {
@@ -273,20 +260,6 @@ pub fn node_start(
     }
     let cells = used(lists, counts.cells);
     decode_start(start_from(&script, &nodes, &cells, id, Start::Nothing))
-}
-
-// The length of `as_str`: only S, D, I, Ident and Doc have one of their own.
-fn as_str_len(t: Token) -> usize
-    ensures { λ r. ⌜ r ≡ asStrLength t ⌝ }
-{
-    let kind = t.kind;
-    if kind < Type::S {
-        return Type::spelling_len(kind);
-    }
-    if Type::DOC < kind {
-        return Type::spelling_len(kind);
-    }
-    t.len
 }
 
 fn check_token(script: &[u8], t: Token) -> TypeToken

@@ -5,7 +5,7 @@ use mathlib.Core.List.{List}
 use Prim.Native.Nat.{ℕ}
 use Rattle.rules.specs.Promise.{Arrays, Outcome, numbersOf}
 use Rattle.rules.specs.declared.Parsed.{Parsed}
-use Rattle.ast.specs.Answer.{Answer}
+use Rattle.lex.specs.Answer.{Answer}
 use Rattle.c_api.specs.Numbers.{written, asNumbers, numberOf, stored, Answers}
 
 pub answers : {A : Type 0} (cells : A → List ℕ) (out : List ℕ) {a b : Answer A} → b ≡ a → Answers cells a (numberOf b) out (stored cells b out)

@@ -16,7 +16,8 @@ use Rattle.rules.specs.Tree.{Tree}
 use Rattle.rules.specs.Rules.{stageOne}
 use Rattle.rules.specs.Parse.{Reading, read, ended}
 use Rattle.rules.specs.Layout.{nodeWidth, typeWidth, padded, nodeCells, typeCells, diagnosticCells}
-use Rattle.rules.specs.Promise.{maxBytes, Arrays, tooShort, zeroed, holding, Outcome, outcome, promised, numbersOf}
+use Rattle.lex.specs.Answer.{maxBytes, Answer, answer}
+use Rattle.rules.specs.Promise.{Arrays, tooShort, zeroed, holding, Outcome, outcome, promised, numbersOf}
 use Rattle.rules.specs.Shape.{Word}
 use Rattle.rules.specs.Strike.{noDocBeforeImportOrEof, notesOf, strike}
 use Rattle.rules.specs.declared.Counts.{Counts}
@@ -27,7 +28,6 @@ use Rattle.rules.proofs.Counting.Collect.{parseCollect-bounded, parseCollect-er
 use Rattle.rules.proofs.Counting.Cells.{parse-cells, parseCollect-cells}
 use Rattle.rules.proofs.Numbers.{IsError, parse-error, parseCollect-error}
 use Rattle.rules.proofs.Unique.Docs.{no-doc-weaker}
-use Rattle.ast.specs.Answer.{Answer, answer}
 use Rattle.ast.proofs.LayoutLaws.{node-length, type-length}
 use Rattle.compare.specs.Compare.{compare}
 use Rattle.compare.specs.Returned.{Mode, strict, collecting, reading, YesOrNo, yes, no}

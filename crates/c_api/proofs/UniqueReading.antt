@@ -14,7 +14,8 @@ use Rattle.rules.specs.Strike.{noDocBeforeImport, notesOf, strike, Plain}
 use Rattle.rules.specs.declared.Counts.{Counts}
 use Rattle.rules.specs.declared.Parsed.the-variants as P
 use Rattle.rules.proofs.Unique.Whole.{uniqueReading}
-use Rattle.ast.specs.Answer.{Answer, answer, Lent, lent}
+use Rattle.lex.specs.Answer.{Answer, answer}
+use Rattle.ast.specs.Answer.{Lent, lent}
 use Rattle.compare.specs.Compare.{compare, comparisonAnswer}
 use Rattle.compare.specs.Returned.{Mode, strict, reading, returned, YesOrNo, yes, no}
 use Rattle.compare.specs.declared.Comparison.{Comparison}

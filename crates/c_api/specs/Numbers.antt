@@ -10,9 +10,9 @@ use Rattle.rules.specs.Promise.{Arrays, Outcome, Numbers, numbersOf}
 use Rattle.rules.specs.declared.Counts.{Counts}
 use Rattle.rules.specs.declared.Parsed.{Parsed}
 use Rattle.rules.specs.declared.Parsed.the-variants as P
-use Rattle.ast.specs.Answer.{Answer, refused, answer}
-use Rattle.ast.specs.declared.diagnostic.Span.{Span}
-use Rattle.ast.specs.declared.diagnostic.Place.{Place}
+use Rattle.lex.specs.Answer.{Answer, refused, answer}
+use Rattle.positions.specs.declared.Span.{Span}
+use Rattle.positions.specs.declared.Place.{Place}
 
 -- ---- a reading
 

@@ -2,7 +2,7 @@
 use mathlib.Core.Path.{_≡_}
 use mathlib.Core.List.{List, [], _∷_}
 use Prim.Native.Nat.{ℕ}
-use Rattle.ast.specs.Answer.{Answer, refused, answer}
+use Rattle.lex.specs.Answer.{Answer, refused, answer}
 use Rattle.text.specs.Answer as T
 use Rattle.c_api.specs.Numbers.{Answers}
 

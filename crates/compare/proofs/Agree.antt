@@ -12,7 +12,8 @@ use lib.ListN.{length, getD, drop, length-drop}
 use lib.Seq.{drop-drop}
 use Rattle.rules.specs.Shape.{map₁, map₂, andThen, Decoder, decoded, chain, number, token, run, resolve, both, items, from, listAt}
 use Rattle.rules.specs.declared.Run.{Run}
-use Rattle.ast.specs.Decode.{if, tokenAt, runAt}
+use Rattle.lex.specs.Bytes.{if}
+use Rattle.ast.specs.Decode.{tokenAt, runAt}
 use Rattle.compare.specs.Agree.{Agree, Decides}
 
 false≢true : {P : Type 0} → false ≡ true → P

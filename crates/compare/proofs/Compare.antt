@@ -6,8 +6,9 @@ use Prim.Native.Nat.{ℕ, zero, suc}
 use lib.Dec.{eqb}
 use borrow.Author.Tests.{eq-eqb, ne-eqb}
 use Rattle.rules.specs.Shape.{Shapes}
-use Rattle.ast.specs.Decode.{if}
-use Rattle.ast.specs.Answer.{refused, answer, unless, Lent, refusal}
+use Rattle.lex.specs.Bytes.{if}
+use Rattle.lex.specs.Answer.{refused, answer}
+use Rattle.ast.specs.Answer.{unless, Lent, refusal}
 use Rattle.compare.specs.Agree.{Agree, Decides}
 use Rattle.compare.specs.Shapes.{shapeIn}
 use Rattle.compare.specs.Same.{shapesSame, sameShapes}

@@ -10,7 +10,7 @@ use lib.Dec.{leb, ltb}
 use lib.ListN.{length, take, drop, length-append, length-replicate}
 use lib.Seq.{take-at, drop-append-add}
 use borrow.Author.Tests.{le-leb, lt-leb, leb-true, leb-false, ltb-false, le-ltb}
-use Rattle.lex.specs.Bytes.{or}
+use Rattle.lex.specs.Bytes.{or, if}
 use Rattle.lex.specs.declared.diagnostic.Diagnostic.{Diagnostic}
 use Rattle.rules.specs.Tree.{Result, ok, err, Tree}
 use Rattle.rules.specs.Rules.{stageOne}
@@ -18,16 +18,17 @@ use Rattle.rules.specs.Parse.{Reading, read, ended, begin, parse, parseRoots}
 use Rattle.lex.specs.Kind.{kEof}
 use Rattle.rules.specs.Combinators.{choose}
 use Rattle.rules.specs.Layout.{nodeWidth, typeWidth, zeros, padded, nodeCells, typeCells}
-use Rattle.rules.specs.Promise.{maxBytes, Arrays, tooShort, holding, Outcome, outcome, promised}
+use Rattle.lex.specs.Answer.{maxBytes, Answer, answer}
+use Rattle.rules.specs.Promise.{Arrays, tooShort, holding, Outcome, outcome, promised}
 use Rattle.rules.specs.Shape as R
 use Rattle.rules.specs.Shape.{Shapes, tabulate, lookup, andThen, shapeOf}
 use Rattle.rules.specs.declared.Counts.{Counts}
 use Rattle.rules.specs.declared.Parsed.the-variants as P
 use Rattle.rules.proofs.Unique.Whole.{shaped}
 use Rattle.rules.proofs.Unique.Collect.{shapedCollect}
-use Rattle.ast.specs.Decode.{if, fits, nodeOf, typeOf, nodeAt, typeAt}
+use Rattle.ast.specs.Decode.{fits, nodeOf, typeOf, nodeAt, typeAt}
 use Rattle.ast.specs.Tabulate.{rows, entriesBelow}
-use Rattle.ast.specs.Answer.{Answer, answer, Lent, lent, refusal, cellsOf}
+use Rattle.ast.specs.Answer.{Lent, lent, refusal, cellsOf}
 use Rattle.ast.proofs.LayoutLaws.{node-length, type-length, node-trip, type-trip}
 use Rattle.compare.specs.Agree.{Decides}
 use Rattle.compare.specs.Same.{sameShapes}

@@ -13,7 +13,8 @@ use lib.Seq.{drop-drop, getD-drop}
 use borrow.Author.Tests.{le-leb, lt-leb, leb-true, leb-false}
 use Rattle.rules.specs.Shape.{map₁, map₂, Decoder, listAt}
 use Rattle.rules.specs.declared.Run.{Run}
-use Rattle.ast.specs.Decode.{if, tokenAt}
+use Rattle.lex.specs.Bytes.{if}
+use Rattle.ast.specs.Decode.{tokenAt}
 use Rattle.compare.specs.Agree.{Agree}
 use Rattle.compare.proofs.Agree.{agree₂, parts₂, Sized, fold, list-is}
 

@@ -17,7 +17,8 @@ use Rattle.rules.specs.Schema.{nodeSchema}
 use Rattle.rules.specs.Shape as S
 use Rattle.rules.specs.Shape.{Shape, Env, map₁, map₂, map₃, map₄, map₅, andThen, w, nodeShape}
 use Rattle.rules.specs.declared.Run.{Run}
-use Rattle.ast.specs.Decode.{if, fits, runAt, nodeOf, nodesByKind, nodeAt}
+use Rattle.lex.specs.Bytes.{if}
+use Rattle.ast.specs.Decode.{fits, runAt, nodeOf, nodesByKind, nodeAt}
 use Rattle.ast.specs.Tabulate.{entryAt}
 use Rattle.ast.proofs.Tabulate.{entries-below, entries-past}
 use Rattle.ast.proofs.LayoutLaws.{node-inside, node-outside, node-unknown}

@@ -9,7 +9,8 @@ use native.Mathlib.Omega.{arith}
 use lib.ListN.{getD, take, drop}
 use lib.Seq.{getD-take, getD-drop}
 use borrow.Author.Tests.{le-leb, lt-leb}
-use Rattle.ast.specs.Decode.{if, tokenAt, runAt}
+use Rattle.lex.specs.Bytes.{if}
+use Rattle.ast.specs.Decode.{tokenAt, runAt}
 
 -- a kind that is read, and is known or not
 module _ (known : ℕ) (xs : List ℕ) (p : ℕ) {x : ℕ} (e : x ≡ getD xs (p + 0) 0) where

@@ -13,7 +13,7 @@ use lib.Seq.{drop-cons}
 use borrow.Author.Tests.{leb-true}
 use Rattle.rules.specs.Shape as S
 use Rattle.rules.specs.Shape.{Shape, noShape, shape, Env, map₂, shapesOf}
-use Rattle.ast.specs.Decode.{if}
+use Rattle.lex.specs.Bytes.{if}
 use Rattle.compare.specs.Agree.{Agree, Decides}
 use Rattle.compare.specs.Shapes.{View, typesIn, nodesBelow, rootShapes}
 use Rattle.compare.proofs.Lists.{listFrom}

@@ -11,7 +11,8 @@ use lib.ListN.{length, getD}
 use borrow.Author.Tests.{leb-true, leb-false}
 use Rattle.rules.specs.Layout.{typeWidth}
 use Rattle.rules.specs.Shape.{TypeShape, atomT, foreignT, optionT, arrayT, recordT, Env, map₁, map₂, andThen, word, w, params, typeShape}
-use Rattle.ast.specs.Decode.{if, fits, tokenAt, runAt, typeOf, typesByKind, typeAt}
+use Rattle.lex.specs.Bytes.{if}
+use Rattle.ast.specs.Decode.{fits, tokenAt, runAt, typeOf, typesByKind, typeAt}
 use Rattle.ast.specs.Tabulate.{entryAt}
 use Rattle.ast.proofs.Tabulate.{entries-below, entries-past}
 use Rattle.ast.proofs.LayoutLaws.{type-inside, type-outside, type-unknown}

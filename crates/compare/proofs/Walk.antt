@@ -11,9 +11,11 @@ use lib.ListN.{length, getD, drop}
 use lib.Seq.{getD-drop, drop-drop}
 use Rattle.lex.specs.declared.tok.Token.{Token}
 use Rattle.rules.specs.Shape as S
-use Rattle.rules.specs.Shape.{Word, wellFormed, word, TypeShape, Params, FnShape, Shape, Shapes, FieldShapes, CaseShapes, Env, map₁, map₂, andThen, listAt, number, token, run, resolve, both}
+use Rattle.lex.specs.Spelling.{wellFormed}
+use Rattle.rules.specs.Shape.{Word, word, TypeShape, Params, FnShape, Shape, Shapes, FieldShapes, CaseShapes, Env, map₁, map₂, andThen, listAt, number, token, run, resolve, both}
 use Rattle.rules.specs.declared.Run.{Run}
-use Rattle.ast.specs.Decode.{if, tokenAt, runAt}
+use Rattle.lex.specs.Bytes.{if}
+use Rattle.ast.specs.Decode.{tokenAt, runAt}
 use Rattle.compare.specs.Agree.{Agree, Decides}
 use Rattle.compare.proofs.Agree.{agree₂, parts₂, Sized, sized-number, sized-token, sized-run, sized-resolve, sized-both}
 use Rattle.compare.proofs.Lists as Ls

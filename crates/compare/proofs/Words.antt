@@ -9,13 +9,13 @@ use lib.Dec.{ltb, eqb}
 use lib.ListN.{length, take, drop}
 use borrow.Author.Tests.{eq-eqb, eqb-true}
 use Rattle.lex.specs.Kind.{sameBytes, fixedSpelling}
-use Rattle.lex.specs.Spelling.{hasSpelling, spelling}
+use Rattle.lex.specs.Spelling.{hasSpelling, spelling, wellFormed}
 use Rattle.lex.specs.declared.byte_search.Found.the-variants.{At, Nothing}
 use Rattle.lex.specs.declared.tok.Token.{Token}
 use Rattle.lex.proofs.Laws.{cases}
 use Rattle.lex.proofs.Spellings.{spelling-other, spelling-found}
-use Rattle.rules.specs.Shape.{Word, wordOf, wellFormed, word}
-use Rattle.ast.proofs.Tokens.{fixed-is, wellFormed-found, wellFormed-nothing}
+use Rattle.rules.specs.Shape.{Word, wordOf, word}
+use Rattle.lex.proofs.WellFormed.{fixed-is, wellFormed-found, wellFormed-nothing}
 use Rattle.compare.specs.Agree.{Agree, Decides}
 use Rattle.compare.proofs.Agree.{decides-yes, decides-no, decides-by}
 

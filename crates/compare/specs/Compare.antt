@@ -4,8 +4,9 @@ use mathlib.Core.Option.{Option, none, some}
 use Prim.Native.Nat.{ℕ}
 use lib.Dec.{eqb}
 use Rattle.rules.specs.Shape.{Shapes}
-use Rattle.ast.specs.Decode.{if}
-use Rattle.ast.specs.Answer.{Answer, refused, answer, unless, Lent, refusal}
+use Rattle.lex.specs.Bytes.{if}
+use Rattle.lex.specs.Answer.{Answer, refused, answer}
+use Rattle.ast.specs.Answer.{unless, Lent, refusal}
 use Rattle.compare.specs.Shapes.{shapeIn}
 use Rattle.compare.specs.Same.{sameShapes}
 use Rattle.compare.specs.declared.Comparison.{Comparison}

@@ -6,7 +6,8 @@ use lib.Dec.{eqb}
 use lib.ListN.{getD}
 use Rattle.rules.specs.Schema.{Field, cellCount, nodeSchema}
 use Rattle.rules.specs.Shape.{Word, TypeShape, Params, FnShape, Shape, Shapes, FieldShapes, CaseShapes, Env, w, words, params, shapes, fields, cases, fns}
-use Rattle.ast.specs.Decode.{if, tokenAt, runAt}
+use Rattle.lex.specs.Bytes.{if}
+use Rattle.ast.specs.Decode.{tokenAt, runAt}
 use Rattle.ast.specs.Schema.{sortOf}
 use Rattle.compare.specs.Agree.{Agree}
 

@@ -10,7 +10,8 @@ use Rattle.rules.specs.Promise.{Arrays, promised}
 use Rattle.rules.specs.Shape.{shapeOf}
 use Rattle.rules.specs.declared.Counts.{Counts}
 use Rattle.rules.specs.declared.Parsed.the-variants as P
-use Rattle.ast.specs.Answer.{Answer, answer, Lent, lent}
+use Rattle.lex.specs.Answer.{Answer, answer}
+use Rattle.ast.specs.Answer.{Lent, lent}
 
 -- the two ways to read
 pub data Mode : Type 0 where

@@ -8,7 +8,8 @@ use Rattle.rules.specs.Layout.{nodeWidth, typeWidth}
 use Rattle.rules.specs.Shape.{TypeShape, Shape, Shapes, Env, typeShape, nodeShape, shapesOf, andThen}
 use Rattle.rules.specs.declared.Node.{Node}
 use Rattle.rules.specs.declared.TypeExpr.{TypeExpr}
-use Rattle.ast.specs.Decode.{if, fits, nodeAt, typeAt}
+use Rattle.lex.specs.Bytes.{if}
+use Rattle.ast.specs.Decode.{fits, nodeAt, typeAt}
 use Rattle.ast.specs.Tabulate.{entriesBelow}
 use Rattle.ast.specs.Answer.{Lent, cellsOf}
 

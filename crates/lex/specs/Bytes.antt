@@ -7,6 +7,10 @@ use lib.ListN.{length}
 use Rattle.lex.specs.declared.byte_search.Found.{Found}
 use Rattle.lex.specs.declared.byte_search.Found.the-variants.{At, Nothing}
 
+abbrev pub if : {A : Type 0} → Bool → A → A → A
+if true a b = a
+if false a b = b
+
 unfoldable pub or : Bool → Bool → Bool
 or true b = true
 or false b = b

@@ -1,5 +1,5 @@
--- Where a token's own spelling begins. Only S, D, I, Ident and Doc take their spelling from the
--- script.
+-- Where a token's own spelling begins, and whether a token is well formed. Only S, D, I, Ident and
+-- Doc take their spelling from the script.
 use mathlib.Core.Bool.{Bool, true, false}
 use mathlib.Core.List.{List}
 use Prim.Native.Nat.{ℕ, _+_}
@@ -8,7 +8,8 @@ use lib.ListN.{length, drop}
 use Rattle.lex.specs.declared.byte_search.Found.{Found}
 use Rattle.lex.specs.declared.byte_search.Found.the-variants.{At, Nothing}
 use Rattle.lex.specs.declared.tok.Token.{Token}
-use Rattle.lex.specs.Kind.{kS, kDoc}
+use Rattle.lex.specs.Bytes.{if, between}
+use Rattle.lex.specs.Kind.{kS, kDoc, fixedSpelling}
 use Rattle.lex.specs.Lex.{leadingSpace}
 
 -- the kinds whose spelling comes from the script: S, D, I, Ident and Doc, which stand in this order
@@ -38,3 +39,11 @@ spelling script t =
           ]
       | false ↦ Nothing
     ]
+
+-- its kind is one of `Type`, and its spelling lies in the script
+unfoldable pub wellFormed : List ℕ → Token → Bool
+wellFormed script t = elim (between 1 43 (t .kind)) [ true ↦ elim (hasSpelling (t .kind)) [ true ↦ leb (spellingStart script t + t .len) (length script) | false ↦ true ] | false ↦ false ]
+
+-- the length of `as_str`: of a spelling from the script, or of the kind's fixed one, whatever the token says
+unfoldable pub asStrLength : Token → ℕ
+asStrLength t = if (hasSpelling (t .kind)) (t .len) (length (fixedSpelling (t .kind)))

@@ -24,8 +24,10 @@ use tok::Piece;
 pub use tok::Step;
 pub use tok::Token;
 pub use tok::Type;
+pub use tok::as_str_len;
 pub use tok::same_bytes;
 pub use tok::spelling;
+pub use tok::well_formed;
 pub use utf8::is_utf8;
 ghost use mathlib.Core.Path.{_≡_};
 ghost use mathlib.Core.Bool.{false};
@@ -38,6 +40,9 @@ ghost use Rattle.lex.specs.Lex.{beginsComment, skipped, punctuation as p
 ghost use Rattle.lex.specs.Lex.{leadingSpace, doc as docOf, string as stringOf, doubleIn};
 ghost use Rattle.lex.specs.Lex.{number as numberOf, name as nameOf, symbol as symbolOf};
 ghost use Rattle.lex.specs.Lex.{piece as pieceOf, stepAt, nextAt, isPrefixSign};
+
+// The most bytes that a script may have.
+pub const MAX_BYTES: usize = 65536;
 
 // A sign detached from what precedes it and glued to what follows begins a new expression.
 pub fn is_prefix_sign(script: &[u8], at: usize) -> bool

@@ -7,6 +7,7 @@ ghost use lib.ListN.{length};
 ghost use Rattle.lex.specs.Kind.{sameBytes, keywords, nameKind};
 ghost use Rattle.lex.specs.Kind.{punctuatorKind, fixedSpelling};
 ghost use Rattle.lex.specs.Spelling.{spellingOffset, spelling as spellingOf};
+ghost use Rattle.lex.specs.Spelling.{wellFormed, asStrLength};
 
 // A token: its kind, where it starts and how long its spelling is.
 pub struct Token {
@@ -395,4 +396,28 @@ pub fn spelling(script: &[u8], t: Token) -> Found
         return Found::Nothing;
     }
     Found::At(start + offset)
+}
+
+// The kind is known, and a spelling from the script lies in it. A known kind has one of these, or a fixed one.
+pub fn well_formed(script: &[u8], t: Token) -> bool
+    ensures { λ r. ⌜ r ≡ wellFormed (now (script .entry)) t ⌝ }
+{
+    match spelling(script, t) {
+        Found::At(_) => true,
+        Found::Nothing => 0 < Type::spelling_len(t.kind),
+    }
+}
+
+// The length of `as_str`: only S, D, I, Ident and Doc have one of their own.
+pub fn as_str_len(t: Token) -> usize
+    ensures { λ r. ⌜ r ≡ asStrLength t ⌝ }
+{
+    let kind = t.kind;
+    if kind < Type::S {
+        return Type::spelling_len(kind);
+    }
+    if Type::DOC < kind {
+        return Type::spelling_len(kind);
+    }
+    t.len
 }

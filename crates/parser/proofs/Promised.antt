@@ -13,7 +13,8 @@ use Rattle.rules.specs.Tree.{State, Result, ok, err}
 use Rattle.rules.specs.Rules.{stageOne}
 use Rattle.rules.specs.Parse.{Reading, read, ended, Gathered, begin, parse, parseRoots, parseCollect, parseRootsCollect}
 use Rattle.rules.specs.Layout.{zeros, padded, nodeCells, typeCells, diagnosticCells}
-use Rattle.rules.specs.Promise.{maxBytes, Arrays, Outcome, tooShort, zeroed, holding, outcome, promised}
+use Rattle.lex.specs.Answer.{maxBytes}
+use Rattle.rules.specs.Promise.{Arrays, Outcome, tooShort, zeroed, holding, outcome, promised}
 use Rattle.rules.specs.declared.Parsed.{Parsed}
 use Rattle.rules.specs.declared.Parsed.the-variants as P
 use Rattle.parser_state.specs.Represents.{isGoing}

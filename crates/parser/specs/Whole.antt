@@ -14,7 +14,8 @@ use Rattle.rules.specs.Combinators.{Rule, _>>=_, pure, ifKind, withDocs, Contro
 use Rattle.rules.specs.Rules.{maxLevels}
 use Rattle.rules.specs.Parse.{synchronizeStep}
 use Rattle.rules.specs.Layout.{nodeWidth, typeWidth, zeros, padded, nodeCells, typeCells}
-use Rattle.rules.specs.Promise.{maxBytes, Arrays}
+use Rattle.lex.specs.Answer.{maxBytes}
+use Rattle.rules.specs.Promise.{Arrays}
 use Rattle.parser_state.specs.Represents.{lowToken, Going, Failed, Code, ahead, isGoing, EnoughLent, Represents, FailedAt}
 use Rattle.parser_state.specs.Refines.{deeper}
 use Rattle.parser_state.specs.declared.Parser.{Parser}

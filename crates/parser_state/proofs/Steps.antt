@@ -13,7 +13,7 @@ use Rattle.lex.specs.declared.diagnostic.Diagnostic.{Diagnostic}
 use Rattle.rules.specs.Tree.{Notes, State, Result, ok, err}
 use Rattle.rules.specs.Combinators.{Rule, _>>=_, _>>_, pure, current, cur, byKind, ifKind, failExpecting}
 use Rattle.lex.specs.declared.tok.Token.{Token}
-use Rattle.rules.specs.Promise.{maxBytes}
+use Rattle.lex.specs.Answer.{maxBytes}
 use Rattle.parser_state.specs.Represents.{low, lowToken, InRange, Code, going, isGoing, from, ahead, Related, Represents, FailedAt}
 use Rattle.parser_state.specs.Refines.{Ends, kept, allGrown, Collected, Refines, Refuses, Pushes, Lists}
 

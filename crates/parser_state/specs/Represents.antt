@@ -14,7 +14,7 @@ use Rattle.lex.specs.declared.tok.Token.{Token}
 use Rattle.rules.specs.Tree.{State}
 use Rattle.rules.specs.Combinators.{tokenCells}
 use Rattle.rules.specs.Layout.{nodeCells, typeCells, zeros}
-use Rattle.rules.specs.Promise.{maxBytes}
+use Rattle.lex.specs.Answer.{maxBytes}
 use Rattle.rules.specs.declared.Node.{Node}
 use Rattle.rules.specs.declared.Node.the-variants as N
 use Rattle.parser_state.specs.declared.WideNode.{WideNode}

@@ -6,7 +6,6 @@ use lex::Type;
 use lex::next_token;
 use rules::NodeId;
 use rules::NodeKind;
-use rules::Parsed;
 use rules::Run;
 use rules::TypeExpr;
 use rules::TypeExprId;
@@ -50,7 +49,7 @@ pub struct Parser {
 }
 
 impl Parser {
-    pub const MAX_BYTES: usize = Parsed::MAX_BYTES;
+    pub const MAX_BYTES: usize = lex::MAX_BYTES;
 
     pub const MAX_LEVELS: usize = 128;
 }

@@ -15,7 +15,8 @@ use Rattle.lex.proofs.Laws.{cases, agree}
 use Rattle.rules.specs.Tree.{Tree}
 use Rattle.rules.specs.declared.Counts.{Counts}
 use Rattle.rules.specs.Parse.{parse}
-use Rattle.rules.specs.Promise.{maxBytes, outcome, promised}
+use Rattle.lex.specs.Answer.{maxBytes}
+use Rattle.rules.specs.Promise.{outcome, promised}
 use Rattle.text.specs.Text.{bytes, digits, number as decimal}
 use Rattle.text.specs.Emit.{plain}
 use Rattle.text.proofs.Plain.{plain-append, number-plain}

@@ -8,7 +8,8 @@ use lib.ListN.{length, take}
 use Rattle.lex.specs.Kind.{kEof, kBraceRight, kPlus, kLet}
 use Rattle.rules.specs.Tree.{Tree}
 use Rattle.rules.specs.Parse.{read, parse}
-use Rattle.rules.specs.Promise.{maxBytes, Arrays, tooShort, promised}
+use Rattle.lex.specs.Answer.{maxBytes}
+use Rattle.rules.specs.Promise.{Arrays, tooShort, promised}
 use Rattle.rules.specs.declared.Counts.{Counts}
 use Rattle.rules.specs.declared.Parsed.the-variants as P
 use Rattle.practice.specs.Practice.{maxLines, sheet}

@@ -4,6 +4,7 @@ use mathlib.Core.List.{List, map, flatten}
 use Prim.Native.Nat.{ℕ, _*_}
 use lib.Dec.{ltb}
 use lib.ListN.{length}
+use Rattle.lex.specs.Answer.{maxBytes}
 use Rattle.lex.specs.Bytes.{or}
 use Rattle.lex.specs.declared.diagnostic.Diagnostic.{Diagnostic}
 use Rattle.rules.specs.Tree.{Tree}
@@ -12,9 +13,6 @@ use Rattle.rules.specs.Layout.{nodeWidth, typeWidth, zeros, padded, node
 use Rattle.rules.specs.declared.Counts.{Counts}
 use Rattle.rules.specs.declared.Parsed.{Parsed}
 use Rattle.rules.specs.declared.Parsed.the-variants as P
-
-abbrev pub maxBytes : ℕ
-maxBytes = 65536
 
 -- the five arrays
 pub record Arrays : Type 0 where

@@ -3,10 +3,8 @@ use mathlib.Core.Bool.{Bool, true, false}
 use mathlib.Core.Option.{Option, none, some}
 use mathlib.Core.List.{List, [], _∷_, _++_}
 use Prim.Native.Nat.{ℕ, zero, suc, _+_}
-use lib.Dec.{leb}
 use lib.ListN.{length, take, drop}
-use Rattle.lex.specs.Bytes.{between}
-use Rattle.lex.specs.Spelling.{hasSpelling, spellingStart}
+use Rattle.lex.specs.Spelling.{hasSpelling, spellingStart, wellFormed}
 use Rattle.rules.specs.Tree.{Arena, Tree}
 use Rattle.lex.specs.declared.tok.Token.{Token}
 use Rattle.rules.specs.declared.Run.{Run}
@@ -25,10 +23,6 @@ pub record Word : Type 0 where
 -- what a token says
 unfoldable pub wordOf : List ℕ → Token → Word
 wordOf script t = record { kind = t .kind; spelling = elim (hasSpelling (t .kind)) [ true ↦ take (t .len) (drop (spellingStart script t) script) | false ↦ [] ] }
-
--- its kind is one of `Type`, and its spelling lies in the script
-unfoldable pub wellFormed : List ℕ → Token → Bool
-wellFormed script t = elim (between 1 43 (t .kind)) [ true ↦ elim (hasSpelling (t .kind)) [ true ↦ leb (spellingStart script t + t .len) (length script) | false ↦ true ] | false ↦ false ]
 
 unfoldable pub word : List ℕ → Token → Option Word
 word script t = elim (wellFormed script t) [ true ↦ some (wordOf script t) | false ↦ none ]

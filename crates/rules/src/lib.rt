@@ -177,8 +177,3 @@ pub enum Parsed {
     Error(Diagnostic),
     Refused(u32),
 }
-
-impl Parsed {
-    // The most bytes that a script may have.
-    pub const MAX_BYTES: usize = 65536;
-}

@@ -11,11 +11,10 @@ use lib.Dec.{leb, ltb}
 use lib.ListN.{length, take, drop, length-append, length-drop}
 use borrow.Author.Tests.{le-leb, lt-leb, leb-true, leb-false, ltb-true, ltb-false}
 use Rattle.lex.specs.declared.diagnostic.Diagnostic.{Diagnostic}
-use Rattle.rules.specs.Promise.{maxBytes}
-use Rattle.ast.specs.Answer.{Answer, refused, answer}
-use Rattle.ast.specs.Position.{placeOf, placeAt}
-use Rattle.ast.specs.declared.diagnostic.Place.{Place}
-use Rattle.ast.proofs.Position.{place-outside, place-inside}
+use Rattle.lex.specs.Answer.{maxBytes, Answer, refused, answer}
+use Rattle.positions.specs.Position.{placeOf, placeAt}
+use Rattle.positions.specs.declared.Place.{Place}
+use Rattle.positions.proofs.Places.{place-outside, place-inside}
 use Rattle.words.specs.Words.{words, printable}
 use Rattle.words.proofs.Forms.{worded, script-error-small, script-error-two-digits}
 use Rattle.words.proofs.Lines.{is-line}

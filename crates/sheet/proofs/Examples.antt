@@ -4,8 +4,8 @@ use mathlib.Core.Path.{_≡_, refl}
 use mathlib.Core.List.{List, [], _∷_, _++_}
 use Prim.Native.Nat.{ℕ}
 use lib.ListN.{take}
-use Rattle.ast.specs.Answer.{refused, answer}
-use Rattle.ast.specs.Position.{feeds, since, placeOf, placeAt}
+use Rattle.lex.specs.Answer.{refused, answer}
+use Rattle.positions.specs.Position.{feeds, since, placeOf, placeAt}
 use Rattle.text.specs.Text.{bytes, digits, number}
 use Rattle.words.specs.Words.{isKind, isScriptError, isWanted, isSeen, hasWords, words}
 use Rattle.sheet.specs.Sheet.{right, heading, pieces, body, entry, upTo, sheetOf}

@@ -10,8 +10,7 @@ use native.Mathlib.Omega.{arith}
 use lib.Dec.{ltb}
 use lib.ListN.{length, length-append}
 use borrow.Author.Tests.{lt-ltb, le-ltb, ltb-true, ltb-false}
-use Rattle.rules.specs.Promise.{maxBytes}
-use Rattle.ast.specs.Answer.{Answer, refused, answer}
+use Rattle.lex.specs.Answer.{maxBytes, Answer, refused, answer}
 use Rattle.text.specs.Emit.{Emits, last, plain}
 use Rattle.text.specs.Answer.{result, answerOf}
 use Rattle.text.proofs.EmitLaws.{whole, then, nothing, by}

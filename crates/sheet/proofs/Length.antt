@@ -8,9 +8,9 @@ use native.Mathlib.Omega.{arith}
 use lib.Dec.{leb, ltb, eqb}
 use lib.ListN.{length, take, drop, length-append, length-take, length-drop, length-replicate}
 use borrow.Author.Tests.{leb-true, leb-false, ltb-true, ltb-false, ne-eqb}
-use Rattle.rules.specs.Promise.{maxBytes}
-use Rattle.ast.specs.Position.{feeds, since, placeOf}
-use Rattle.ast.specs.declared.diagnostic.Place.{Place}
+use Rattle.lex.specs.Answer.{maxBytes}
+use Rattle.positions.specs.Position.{feeds, since, placeOf}
+use Rattle.positions.specs.declared.Place.{Place}
 use Rattle.text.specs.Text.{number}
 use Rattle.text.proofs.EmitLaws.{one-digit, more-digits}
 use Rattle.sheet.specs.Sheet.{blanks, right, heading, margin, pieces, blank}

@@ -10,7 +10,7 @@ use lib.Dec.{leb, ltb, eqb}
 use lib.ListN.{length, getD, take, drop, length-append, length-take, length-drop, length-replicate, take-append-drop, List·getD-eq-default}
 use lib.Seq.{take-at, drop-at, drop-drop, drop-cons, getD-at}
 use borrow.Author.Tests.{leb-true, leb-false, le-leb, ltb-true, ltb-false, eqb-true}
-use Rattle.ast.specs.declared.diagnostic.Place.{Place}
+use Rattle.positions.specs.declared.Place.{Place}
 use Rattle.text.specs.Text.{digits, number}
 use Rattle.text.specs.Emit.{plain}
 use Rattle.text.proofs.EmitLaws.{and-left, and-right}

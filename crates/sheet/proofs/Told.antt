@@ -6,13 +6,12 @@ use Prim.Native.Nat.{ℕ, _<_, _≤_}
 use native.Mathlib.Omega.{arith}
 use lib.ListN.{length, take}
 use Rattle.lex.specs.declared.diagnostic.Diagnostic.{Diagnostic}
-use Rattle.rules.specs.Promise.{maxBytes}
-use Rattle.ast.specs.Answer.{refused, answer}
-use Rattle.ast.specs.Position.{feeds, since, placeOf, placeAt, advanced, positionAnswer}
-use Rattle.ast.proofs.Position.{place-is, advanced-known}
-use Rattle.ast.specs.declared.diagnostic.Place.{Place}
-use Rattle.ast.specs.declared.diagnostic.Position.{Position}
-use Rattle.ast.specs.declared.diagnostic.Position.the-variants as Q
+use Rattle.lex.specs.Answer.{maxBytes, refused, answer}
+use Rattle.positions.specs.Position.{feeds, since, placeOf, placeAt, advanced, positionAnswer}
+use Rattle.positions.proofs.Places.{place-is, advanced-known}
+use Rattle.positions.specs.declared.Place.{Place}
+use Rattle.positions.specs.declared.Position.{Position}
+use Rattle.positions.specs.declared.Position.the-variants as Q
 use Rattle.text.specs.Emit.{Emits}
 use Rattle.text.specs.Answer.{result, answerOf}
 use Rattle.text.proofs.EmitLaws.{then, nothing, by}

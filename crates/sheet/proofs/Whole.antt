@@ -9,8 +9,7 @@ use lib.Dec.{leb, ltb}
 use lib.ListN.{length, take, drop, length-append, length-take, length-drop, length-replicate, take-append-drop}
 use lib.Seq.{take-at, drop-drop}
 use borrow.Author.Tests.{leb-true, leb-false, ltb-false}
-use Rattle.rules.specs.Promise.{maxBytes}
-use Rattle.ast.specs.Answer.{refused, answer}
+use Rattle.lex.specs.Answer.{maxBytes, refused, answer}
 use Rattle.words.specs.Words.{words}
 use Rattle.words.proofs.Lines.{is-line}
 use Rattle.sheet.specs.Sheet.{blanks, margin, pieces, body, entry, errorAt, upTo, sheetOf, blank, Gathered, tell, gather, allWords, wordsOr, wordsUpTo}

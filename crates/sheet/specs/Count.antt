@@ -6,9 +6,9 @@ use mathlib.Core.List.{List, [], _++_}
 use Prim.Native.Nat.{ℕ, zero, suc, _*_, _/_}
 use lib.ListN.{length, take}
 use Rattle.lex.specs.declared.diagnostic.Diagnostic.{Diagnostic}
-use Rattle.ast.specs.Answer.{Answer, refused, answer}
-use Rattle.ast.specs.Position.{placeOf}
-use Rattle.ast.specs.declared.diagnostic.Place.{Place}
+use Rattle.lex.specs.Answer.{Answer, refused, answer}
+use Rattle.positions.specs.Position.{placeOf}
+use Rattle.positions.specs.declared.Place.{Place}
 use Rattle.text.specs.Emit.{Emits}
 use Rattle.words.specs.Words.{words}
 use Rattle.sheet.specs.declared.Counted.{Counted}

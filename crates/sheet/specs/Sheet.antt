@@ -7,10 +7,9 @@ use Prim.Native.Nat.{ℕ, zero, suc, _+_, _-_, _*_, _/_}
 use lib.Dec.{leb, ltb, eqb}
 use lib.ListN.{length, getD, take, drop, replicate}
 use Rattle.lex.specs.declared.diagnostic.Diagnostic.{Diagnostic}
-use Rattle.rules.specs.Promise.{maxBytes}
-use Rattle.ast.specs.Answer.{Answer, refused, answer}
-use Rattle.ast.specs.Position.{placeAt}
-use Rattle.ast.specs.declared.diagnostic.Place.{Place}
+use Rattle.lex.specs.Answer.{maxBytes, Answer, refused, answer}
+use Rattle.positions.specs.Position.{placeAt}
+use Rattle.positions.specs.declared.Place.{Place}
 use Rattle.text.specs.Text.{number}
 use Rattle.text.specs.Answer.{Result, refuse, inFront}
 use Rattle.words.specs.Words.{words, printable}

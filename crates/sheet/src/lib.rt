@@ -1,11 +1,11 @@
 // The correction sheet of a paper: each error by line and column, in words.
-use ast::diagnostic::Place;
-use ast::diagnostic::Position;
-use ast::diagnostic::advance;
 use ast::layout::cell;
 use lex::Diagnostic;
+use lex::MAX_BYTES;
+use positions::Place;
+use positions::Position;
+use positions::advance;
 use rules::DIAGNOSTIC_WIDTH;
-use rules::Parsed;
 use text::Writing;
 use text::write_byte;
 use text::write_number;
@@ -237,7 +237,7 @@ pub fn print_sheet(script: &[u8], errors: &[u32], sheet: &mut [u8]) -> Writing
         let left = result (answerOf r) (now (sheet .exit)) in
         ⌜ left ≡ printed (now (script .entry)) (now (errors .entry)) (now (sheet .entry)) ⌝ }
 {
-    if Parsed::MAX_BYTES < script.len() {
+    if MAX_BYTES < script.len() {
         return Writing::Refused(1);
     }
     match count_all(script, errors) {

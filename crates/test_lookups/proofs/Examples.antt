@@ -5,20 +5,21 @@ use mathlib.Core.Option.{none, some}
 use mathlib.Core.List.{List, [], _∷_}
 use Prim.Native.Nat.{ℕ}
 use lib.ListN.{replicate}
+use Rattle.lex.specs.Answer.{refused, answer}
 use Rattle.lex.specs.Bytes.{between}
 use Rattle.lex.specs.Lex.{leadingSpace}
 use Rattle.lex.specs.Kind.{keywords, fixedSpellings, fixedSpelling}
-use Rattle.lex.specs.Spelling.{spellingOffset, spellingStart}
+use Rattle.lex.specs.Spelling.{spellingOffset, spellingStart, wellFormed, asStrLength}
 use Rattle.rules.specs.Layout.{padded}
 use Rattle.rules.specs.Shape as R
-use Rattle.rules.specs.Shape.{wellFormed, andThen, lookup, tabulate, map₁, map₂, map₃, map₄, map₅}
+use Rattle.rules.specs.Shape.{andThen, lookup, tabulate, map₁, map₂, map₃, map₄, map₅}
 use Rattle.rules.specs.declared.Counts.{Counts}
 use Rattle.ast.specs.Decode.{nodeOf, nodesByKind, nodeAt, typeOf, typesByKind, typeAt}
 use Rattle.ast.specs.Tabulate.{rows, entriesBelow, entryAt}
-use Rattle.ast.specs.Answer.{refused, answer, unless, unlessMalformed, lent, refusal, recordAsked}
+use Rattle.ast.specs.Answer.{unless, unlessMalformed, lent, refusal, recordAsked}
 use Rattle.ast.specs.Lookup.{tokenStart, orElse, matchStart, startOf, nodeStart, spelled, wellFormedToken, typeTokenOf, typeToken}
-use Rattle.ast.specs.Span.{asStrLength, spanOf, tokenSpan}
-use Rattle.ast.specs.Position.{feeds, since, placeOf, placeAt}
+use Rattle.positions.specs.Span.{spanOf, tokenSpan}
+use Rattle.positions.specs.Position.{feeds, since, placeOf, placeAt}
 use Rattle.compare.specs.Shapes.{typesBelow, nodesBelow, rootShapes}
 use Rattle.compare.specs.Same.{computed}
 use Rattle.compare.specs.Compare.{refusals, compareShapes, compare}

@@ -1,9 +1,5 @@
 // Lookups and comparison on arrays made by hand, whole and damaged. The cases come from standard input, as tools/cases writes them: a name,
 // which lookup, what is asked about, what is lent. Each gives a line: its name and the answer. proofs/Examples.antt has what the definitions say.
-use ast::diagnostic::Position;
-use ast::diagnostic::Span;
-use ast::diagnostic::SpanRead;
-use ast::diagnostic::line_column;
 use ast::lookup::Start;
 use ast::lookup::TypeToken;
 use ast::lookup::node_start;
@@ -16,6 +12,10 @@ use console::frames::read_up_to;
 use console::output::write;
 use console::output::write_number;
 use lex::Token;
+use positions::Position;
+use positions::Span;
+use positions::SpanRead;
+use positions::line_column;
 use rules::Counts;
 use rules::NodeId;
 use rules::TypeExprId;

@@ -20,7 +20,8 @@ use Rattle.rules.specs.Combinators.{Rule, withDocs, ControlFlow, continue, brea
 use Rattle.rules.specs.Rules.{readers, maxLevels}
 use Rattle.rules.specs.Parse.{Reading, read, ended, begin, synchronizeRoot, Gathered, merged, parse, parseRoots, recover, parseCollect, parseRootsCollect}
 use Rattle.rules.specs.Layout.{diagnosticCells, zeros}
-use Rattle.rules.specs.Promise.{Arrays, Outcome, outcome, holding, maxBytes, tooShort, promised}
+use Rattle.lex.specs.Answer.{maxBytes}
+use Rattle.rules.specs.Promise.{Arrays, Outcome, outcome, holding, tooShort, promised}
 use Rattle.rules.specs.declared.Counts.{Counts}
 use Rattle.rules.specs.declared.NodeId.{NodeId}
 use Rattle.rules.specs.declared.Parsed.the-variants as P

@@ -3,7 +3,7 @@
 use mathlib.Core.Path.{_∙_, sym, ap}
 use Rattle.c_api.specs.Numbers.{numberOf, stored, placeCells}
 use Rattle.c_api.proofs.Answers.{answers}
-use Rattle.ast.specs.Position.{positionAnswer}
+use Rattle.positions.specs.Position.{positionAnswer}
 use borrow.Author.Needs.{needs}
 use Rattle.c_api.proofs.purple_garden_line_column.Statement.{statement}
 use Rattle.c_api.proofs.purple_garden_line_column.Tie as tie

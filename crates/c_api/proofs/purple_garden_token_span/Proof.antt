@@ -1,7 +1,7 @@
 -- `purple_garden_token_span` meets its contract.
 -- Assumes nothing.
 use mathlib.Core.Path.{_∙_, sym, ap}
-use Rattle.ast.specs.Span.{spanAnswer}
+use Rattle.positions.specs.Span.{spanAnswer}
 use Rattle.c_api.specs.Numbers.{numberOf, stored, spanCells}
 use Rattle.c_api.proofs.Answers.{answers}
 use borrow.Author.Needs.{needs}

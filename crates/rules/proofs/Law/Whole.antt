@@ -15,7 +15,8 @@ use Rattle.rules.specs.Combinators as R
 use Rattle.rules.specs.Combinators.{withDocs, ControlFlow, continue}
 use Rattle.rules.specs.Rules.{readers, maxLevels, stageOne}
 use Rattle.rules.specs.Parse.{Reading, read, ended, begin, synchronizeRoot, Gathered, merged, recover, parse, parseRoots, parseCollect, parseRootsCollect}
-use Rattle.rules.specs.Promise.{maxBytes, Arrays, tooShort, holding, Outcome, outcome, promised, numbersOf}
+use Rattle.lex.specs.Answer.{maxBytes}
+use Rattle.rules.specs.Promise.{Arrays, tooShort, holding, Outcome, outcome, promised, numbersOf}
 use Rattle.rules.specs.declared.Parsed.the-variants as P
 use Rattle.rules.specs.Shape.{map₁, map₂, andThen}
 use Rattle.rules.specs.Law.{Child, aNode, aType, childrenOf, innerOf, times, allOf, occurrences, nth, childrenAt, innerAt, allArguments, resynchronisings, Rising, Below, Law, TreeLaw}

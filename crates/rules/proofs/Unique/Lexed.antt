@@ -7,11 +7,11 @@ use lib.Dec.{eqb, T}
 use borrow.Author.Tests.{le-leb}
 use Rattle.lex.specs.Bytes.{between}
 use Rattle.lex.specs.Kind.{kImport, kDoc}
-use Rattle.lex.specs.Spelling.{hasSpelling, spellingStart}
+use Rattle.lex.specs.Spelling.{hasSpelling, spellingStart, wellFormed}
 use Rattle.lex.specs.declared.tok.Token.{Token}
 use Rattle.lex.proofs.Spellings.{Spelled, spelling-found, Ended}
 use Rattle.rules.specs.Strike.{noDocBeforeImport}
-use Rattle.rules.specs.Shape.{word, wellFormed}
+use Rattle.rules.specs.Shape.{word}
 use Rattle.rules.proofs.Results.{not-kind}
 use Rattle.rules.proofs.Unique.Step.{WellFormed, TokensOk}
 

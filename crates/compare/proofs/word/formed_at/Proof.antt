@@ -1,7 +1,7 @@
 -- `compare::word::formed_at` meets its contract.
 use mathlib.Core.Path.{_∙_, sym, ap}
-use Rattle.rules.specs.Shape.{wellFormed}
-use Rattle.ast.proofs.Tokens.{wellFormed-found, wellFormed-nothing}
+use Rattle.lex.specs.Spelling.{wellFormed}
+use Rattle.lex.proofs.WellFormed.{wellFormed-found, wellFormed-nothing}
 use borrow.Author.Needs.{needs}
 use Rattle.compare.proofs.word.formed_at.Statement.{statement}
 use Rattle.compare.proofs.word.formed_at.Tie as tie

@@ -1,0 +1,3 @@
+-- The span of a token; the line and column of a position.
+pub mod Span
+pub mod Position

@@ -1,0 +1,150 @@
+// Spans of tokens; the line and column of a position.
+use lex::MAX_BYTES;
+use lex::Token;
+use lex::Type;
+use lex::well_formed;
+ghost use mathlib.Core.Path.{_≡_};
+ghost use mathlib.Core.Bool.{true};
+ghost use Prim.Native.Nat.{_≤_};
+ghost use lib.ListN.{length};
+ghost use Rattle.lex.specs.Spelling.{wellFormed};
+ghost use Rattle.positions.specs.Span.{spanOf, tokenSpan, spanAnswer};
+ghost use Rattle.positions.specs.Position.{onward, goesOn, advanced, placeAt, positionAnswer};
+
+pub struct Span {
+    pub start: usize,
+    pub len: usize,
+}
+
+pub enum SpanRead {
+    Found(Span),
+    Refused(u32),
+}
+
+impl Span {
+    // The span of a token. A string's starts one byte later.
+    pub fn from_token(script: &[u8], t: Token) -> SpanRead
+        ensures { λ r. ⌜ spanAnswer r ≡ tokenSpan (now (script .entry)) t ⌝ }
+    {
+        if MAX_BYTES < script.len() {
+            return SpanRead::Refused(1);
+        }
+        if well_formed(script, t) {
+            SpanRead::Found(span_of(script, t))
+        } else {
+            SpanRead::Refused(4)
+        }
+    }
+}
+
+fn span_of(script: &[u8], t: Token) -> Span
+    requires { ⌜ wellFormed (now script) t ≡ true ⌝ }
+    ensures { λ r. ⌜ r ≡ spanOf t ⌝ }
+{
+    let kind = t.kind;
+    if kind == Type::S {
+        return Span {
+            start: t.start + 1,
+            len: t.len,
+        };
+    }
+    if kind < Type::S {
+        return Span {
+            start: t.start,
+            len: Type::spelling_len(kind),
+        };
+    }
+    if Type::DOC < kind {
+        return Span {
+            start: t.start,
+            len: Type::spelling_len(kind),
+        };
+    }
+    Span {
+        start: t.start,
+        len: t.len,
+    }
+}
+
+pub struct Place {
+    pub line: u32,
+    pub column: u32,
+}
+
+pub enum Position {
+    At(Place),
+    Refused(u32),
+}
+
+const LINE_FEED: u8 = 10;
+
+// The greatest line and the greatest column of a script that is not too long.
+const MAX_PLACE: u32 = 65537;
+
+// The place behind some bytes, from the place before them.
+fn place_after(before: Place, bytes: &[u8]) -> Place
+    requires { ⌜ (1 ≤ before .column)
+        × (before .column ≤ 65537)
+        × (before .line ≤ 65537)
+        × (length (now bytes) ≤ 65536) ⌝ }
+    ensures { λ r. ⌜ r ≡ onward before (now (bytes .entry)) ⌝ }
+{
+    let mut feeds: u32 = 0;
+    let mut since: u32 = before.column - 1;
+    let mut i = 0;
+    while i < bytes.len() {
+        if bytes[i] == LINE_FEED {
+            feeds += 1;
+            since = 0;
+        } else {
+            since += 1;
+        }
+        i += 1;
+    }
+    Place {
+        line: before.line + feeds,
+        column: 1 + since,
+    }
+}
+
+// The walk to `to` goes on from `known`, the place of `from`.
+fn goes_on(from: u32, known: Place, to: u32) -> bool
+    ensures { λ r. ⌜ r ≡ goesOn from known to ⌝ }
+{
+    if to < from {
+        return false;
+    }
+    if known.column < 1 {
+        return false;
+    }
+    if MAX_PLACE < known.column {
+        return false;
+    }
+    known.line <= MAX_PLACE
+}
+
+// The line and column of the position `to`. Where `known` is the place of `from`, only the bytes
+// between the two are gone through; where `to` lies before `from`, all before `to`.
+pub fn advance(script: &[u8], from: u32, known: Place, to: u32) -> Position
+    ensures { λ r. ⌜ positionAnswer r ≡ advanced (now (script .entry)) from known to ⌝ }
+{
+    if MAX_BYTES < script.len() {
+        return Position::Refused(1);
+    }
+    let n = to as usize;
+    if script.len() < n {
+        return Position::Refused(3);
+    }
+    if goes_on(from, known, to) {
+        let start = from as usize;
+        return Position::At(place_after(known, &script[start..n]));
+    }
+    Position::At(place_after(Place { line: 1, column: 1 }, &script[..n]))
+}
+
+// The line and column of the position `at`, both from 1 on.
+pub fn line_column(script: &[u8], at: u32) -> Position
+    ensures { λ r. ⌜ positionAnswer r ≡ placeAt (now (script .entry)) at ⌝ }
+{
+    advance(script, 0, Place { line: 1, column: 1 }, at)
+}
