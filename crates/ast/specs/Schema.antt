@@ -3,9 +3,10 @@ use mathlib.Core.List.{List, [], _∷_}
 use Prim.Native.Nat.{ℕ, _+_}
 use lib.Dec.{eqb}
 use lib.ListN.{getD}
+use Rattle.lex.specs.Bytes.{if}
 use Rattle.rules.specs.Schema as S
 use Rattle.rules.specs.Schema.{Field, Members, Part, cellCount}
-use Rattle.ast.specs.Decode.{if, tokenAt, runAt}
+use Rattle.ast.specs.Decode.{tokenAt, runAt}
 
 -- what a field holds that stands from cell `i` on
 abbrev pub partAt : List ℕ → ℕ → Field → Part
