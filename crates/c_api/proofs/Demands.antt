@@ -1,8 +1,9 @@
--- The user's three demands of the exported functions, one theorem each (`demand1`, `demand2`, `demand3`), from what these functions ensure.
+-- The user's three demands of the exported functions, one theorem each (`demand1`, `demand2`,
+-- `demand3`), from what these functions ensure.
 use mathlib.Core.Path.{_≡_, refl, sym, ap, _∙_, subst}
 use mathlib.Core.Bool.{Bool, true, false}
-use mathlib.Core.List.{List, [], _∷_, _++_, map, flatten}
-use Prim.Native.Nat.{ℕ, zero, suc, _+_, _*_, _≤_, _<_}
+use mathlib.Core.List.{List, [], _∷_, map, flatten}
+use Prim.Native.Nat.{ℕ, _*_, _≤_, _<_}
 use native.Mathlib.Omega.{arith}
 use native.Mathlib.Nat.{mul-suc, mul-zero}
 use lib.Dec.{ltb}
@@ -21,7 +22,6 @@ use Rattle.rules.specs.Promise.{Arrays, tooShort, zeroed, holding, Outcome, out
 use Rattle.rules.specs.Shape.{Word}
 use Rattle.rules.specs.Strike.{noDocBeforeImportOrEof, notesOf, strike}
 use Rattle.rules.specs.declared.Counts.{Counts}
-use Rattle.rules.specs.declared.Parsed.{Parsed}
 use Rattle.rules.specs.declared.Parsed.the-variants as P
 use Rattle.rules.proofs.Counting.Whole.{InBytes, in-bytes, parse-bounded}
 use Rattle.rules.proofs.Counting.Collect.{parseCollect-bounded, parseCollect-errors}
@@ -35,7 +35,9 @@ use Rattle.compare.proofs.Held.{or-false, no-eof, strict-read, strict-errors}
 use Rattle.c_api.specs.Numbers.{countsAt, numberCells, written, Returned, asNumbers, stored, Answers, yesCells}
 use Rattle.c_api.proofs.UniqueReading.{Read, lentBy, compared-trees, same-tokens}
 
--- a call of `purple_garden_parse` (strict) or `purple_garden_parse_collect` (collecting) with what the function ensures: `lent` and `numbersLent` before, `number` returned, `left` and `numbers` after
+-- a call of `purple_garden_parse` (strict) or `purple_garden_parse_collect` (collecting) with what
+-- the function ensures: `lent` and `numbersLent` before, `number` returned, `left` and `numbers`
+-- after
 pub record ReadingCall (mode : Mode) (script : List ℕ) : Type 0 where
   pub lent : Arrays
   pub numbersLent : List ℕ
@@ -58,10 +60,6 @@ demand2 mode script c = record {
   numbers = sym (ap (λ (r : Returned). r .numbers) (c .ensured));
   arrays = sym (ap (λ (r : Returned). r .arrays) (c .ensured));
 }
-
--- the same of `parser::parse` and `parser::parse_collect`, which answer an enum: document 01's numbers of what they answer are those of the rules
-pub answer-numbers : (mode : Mode) (script : List ℕ) (l l′ : Arrays) (r : Parsed) → promised (reading mode) script l ≡ record { answer = r; arrays = l′ } → numbersOf r ≡ numbersOf (promised (reading mode) script l .answer)
-answer-numbers mode script l l′ r e = ap (λ (o : Outcome). numbersOf (o .answer)) (sym e)
 
 -- ---- how a reading comes out
 
@@ -207,14 +205,17 @@ module _ (mode : Mode) (script : List ℕ) (c : ReadingCall mode script) where
           let q : promised (reading mode) script (c .lent) ≡ record { answer = P.Tree counts; arrays = c .left } = e ∙ ap (λ (x : Arrays). record { answer = P.Tree counts; arrays = x }) (sym (a ∙ ap (λ (x : Outcome). x .arrays) e)) in
           record { lent = c .lent; ensured = q ∙ ap (λ (x : Counts). record { answer = P.Tree x; arrays = c .left }) (sym m) }
 
--- a call of `purple_garden_same_shape` on the scripts, arrays and counts that two readings left, with what the function ensures: `before` in the cell, `number` returned, `after` in the cell
+-- a call of `purple_garden_same_shape` on the scripts, arrays and counts that two readings left,
+-- with what the function ensures: `before` in the cell, `number` returned, `after` in the cell
 pub record ComparingCall (s₁ s₂ : List ℕ) (a : ReadingCall strict s₁) (b : ReadingCall strict s₂) : Type 0 where
   pub before : List ℕ
   pub number : ℕ
   pub after : List ℕ
   pub ensured : Answers yesCells (compare (lentBy s₁ (a .left) (countsIn (a .numbers))) (lentBy s₂ (b .left) (countsIn (b .numbers)))) number before after
 
--- the user's conditions on a script: no doc comment whose next token is an import or Eof; one default in each match, written last. (An accepted match has a default (18); it is the only one and last where no block follows one)
+-- the user's conditions on a script: no doc comment whose next token is an import or Eof; one
+-- default in each match, written last. (An accepted match has a default (18); it is the only one
+-- and last where no block follows one)
 pub record Conditions (script : List ℕ) : Type 0 where
   pub docs : noDocBeforeImportOrEof (tokensOf (cut script)) ≡ true
   pub defaults : notesOf stageOne script .afterDefault ≡ 0
@@ -236,7 +237,8 @@ same-words : {xs ys : List Word} → xs ≡ ys → SameTokens xs ys
 same-words e = record { equallyMany = ap length e; kinds = λ i h. ap (λ (l : List Word). getD l i noToken .kind) e; spellings = λ i h. ap (λ (l : List Word). spellingOf (getD l i noToken)) e }
 
 module _ (s₁ s₂ : List ℕ) (a : ReadingCall strict s₁) (b : ReadingCall strict s₂) (x : ComparingCall s₁ s₂ a b) where
-  -- two strict readings answer 0, the comparison of what they left answers 0 with 1 in its cell: then striking leaves the same tokens of both scripts
+  -- two strict readings answer 0, the comparison of what they left answers 0 with 1 in its cell:
+  -- then striking leaves the same tokens of both scripts
   pub demand3 : a .number ≡ 0 → b .number ≡ 0 → x .number ≡ 0 → x .after ≡ 1 ∷ [] → Conditions s₁ → Conditions s₂ → SameTokens (strike stageOne s₁) (strike stageOne s₂)
   unfolding stored yesCells
   demand3 a₀ b₀ x₀ one p q =

@@ -1,4 +1,5 @@
--- What the proofs of the exported functions share; the user's demands and the law of what is delivered.
+-- What the proofs of the exported functions share; the user's demands and the law of what is
+-- delivered.
 pub mod Answers
 pub mod Described
 pub mod UniqueReading

@@ -1,4 +1,5 @@
--- Demand 3 of what is delivered: what `parser::parse` and `parser::parse_collect` ensure of two readings and `compare::same_shape` of the arrays that these leave, composed with unique reading.
+-- Demand 3 of what is delivered: what `parser::parse` and `parser::parse_collect` ensure of two
+-- readings and `compare::same_shape` of the arrays that these leave, composed with unique reading.
 use mathlib.Core.Path.{_≡_, sym, ap, ap₂}
 use mathlib.Core.Bool.{Bool, true}
 use mathlib.Core.List.{List}
@@ -21,7 +22,8 @@ use Rattle.compare.specs.Returned.{Mode, strict, reading, returned, YesOrNo, ye
 use Rattle.compare.specs.declared.Comparison.{Comparison}
 use Rattle.compare.proofs.Held.{strict-read, compared}
 
--- a reading of the script has left these arrays and counts, whatever the arrays held before: what `parse` and `parse_collect` ensure
+-- a reading of the script has left these arrays and counts, whatever the arrays held before: what
+-- `parse` and `parse_collect` ensure
 pub record Read (mode : Mode) (script : List ℕ) (left : Arrays) (counts : Counts) : Type 0 where
   pub lent : Arrays
   pub ensured : promised (reading mode) script lent ≡ record { answer = P.Tree counts; arrays = left }
@@ -33,7 +35,8 @@ module _ (m₁ m₂ : Mode) (s₁ s₂ : List ℕ) (l₁ l₂ : Arrays) (c₁ c�
   as-returned : compare (lentBy s₁ l₁ c₁) (lentBy s₂ l₂ c₂) ≡ compare (returned m₁ s₁ (first .lent) c₁) (returned m₂ s₂ (second .lent) c₂)
   as-returned = ap₂ (λ (o p : Outcome). compare (lentBy s₁ (o .arrays) c₁) (lentBy s₂ (p .arrays) c₂)) (sym (first .ensured)) (sym (second .ensured))
 
-  -- of two readings, each in either mode: the comparison of their trees is yes or no, and yes exactly where the shapes are the same
+  -- of two readings, each in either mode: the comparison of their trees is yes or no, and yes
+  -- exactly where the shapes are the same
   pub compared-trees : (t₁ : Tree) × (t₂ : Tree) × (es₁ : List Diagnostic) × (es₂ : List Diagnostic) × (reading m₁ s₁ ≡ read t₁ es₁) × (reading m₂ s₂ ≡ read t₂ es₂) × YesOrNo s₁ t₁ s₂ t₂ (compare (lentBy s₁ l₁ c₁) (lentBy s₂ l₂ c₂))
   compared-trees = rw as-returned (compared m₁ m₂ s₁ s₂ (first .lent) (second .lent) c₁ c₂ (ap (λ (o : Outcome). o .answer) (first .ensured)) (ap (λ (o : Outcome). o .answer) (second .ensured)))
 

@@ -8,7 +8,8 @@ use Rattle.lex.specs.declared.byte_search.Found.{Found}
 use Rattle.lex.specs.declared.byte_search.Found.the-variants.{At, Nothing}
 use Rattle.lex.specs.declared.tok.Step.{Step}
 
--- 0 for a token, 1 for a fault, 2 for the end; its kind or number, start, length and seen byte; the next position
+-- 0 for a token, 1 for a fault, 2 for the end; its kind or number, start, length and seen byte; the
+-- next position
 abbrev pub cellsOf : Step → List ℕ
 cellsOf (Step.Token t next) = 0 ∷ t .kind ∷ t .start ∷ t .len ∷ 0 ∷ next ∷ []
 cellsOf (Step.Fault e next) = 1 ∷ e .number ∷ e .start ∷ e .len ∷ e .seen ∷ next ∷ []

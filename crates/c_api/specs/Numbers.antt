@@ -20,7 +20,15 @@ abbrev pub countCells : Counts → List ℕ
 countCells c = c .nodes ∷ c .types ∷ c .cells ∷ c .roots ∷ c .values ∷ c .diagnostics ∷ []
 
 abbrev pub countsAt : List ℕ → Counts
-countsAt cs = record { nodes = getD cs 0 0; types = getD cs 1 0; cells = getD cs 2 0; roots = getD cs 3 0; values = getD cs 4 0; diagnostics = getD cs 5 0 }
+countsAt cs =
+    record {
+      nodes = getD cs 0 0;
+      types = getD cs 1 0;
+      cells = getD cs 2 0;
+      roots = getD cs 3 0;
+      values = getD cs 4 0;
+      diagnostics = getD cs 5 0;
+    }
 
 -- the number, the five numbers of an error, the six counts
 unfoldable pub numberCells : Numbers → List ℕ
@@ -38,7 +46,12 @@ pub record Returned : Type 0 where
   pub arrays : Arrays
 
 unfoldable pub asNumbers : Outcome → List ℕ → Returned
-asNumbers o out = record { number = numbersOf (o .answer) .number; numbers = written (o .answer) out; arrays = o .arrays }
+asNumbers o out =
+    record {
+      number = numbersOf (o .answer) .number;
+      numbers = written (o .answer) out;
+      arrays = o .arrays;
+    }
 
 -- ---- a lookup or a comparison
 

@@ -18,7 +18,8 @@ lengthCells n = n ∷ []
 abbrev pub AnswersLength : T.Answer → ℕ → List ℕ → List ℕ → Type 0
 AnswersLength a r out out′ = Answers lengthCells (lengthOf a) r out out′
 
--- of a whole call: the number that is returned, the length's cell before and after, and the buffer after
+-- of a whole call: the number that is returned, the length's cell before and after, and the buffer
+-- after
 pub record Writes (o : T.Result) (r : ℕ) (out out′ buffer′ : List ℕ) : Type 0 where
   pub answers : AnswersLength (o .answer) r out out′
   pub buffer : buffer′ ≡ o .buffer

@@ -27,8 +27,8 @@ pub extern "C" fn purple_garden_describe(
     length: &mut [u64; 1],
 ) -> u32
     ensures { λ r.
-        let told = described (errorOf (now (error .entry))) (now (line .entry)) in
-        ⌜ Writes told r (now (length .entry)) (now (length .exit)) (now (line .exit)) ⌝ }
+        let due = described (errorOf (now (error .entry))) (now (line .entry)) in
+        ⌜ Writes due r (now (length .entry)) (now (length .exit)) (now (line .exit)) ⌝ }
 {
     let e = diagnostic_of(error);
     let answer = describe(e, line);

@@ -23,7 +23,9 @@ pub extern "C" fn lex_is_utf8(bytes: &[u8]) -> bool
 // Six cells at the front of `out`.
 fn put(out: &mut [u64], tag: u64, number: u64, start: u64, len: u64, seen: u64, next: u64)
     requires { ⌜ 6 ≤ length (now out) ⌝ }
-    ensures { λ _. ⌜ now (out .exit) ≡ (tag ∷ number ∷ start ∷ len ∷ seen ∷ next ∷ []) ++ drop 6 (now (out .entry)) ⌝ }
+    ensures { λ _.
+        let cells = tag ∷ number ∷ start ∷ len ∷ seen ∷ next ∷ [] in
+        ⌜ now (out .exit) ≡ cells ++ drop 6 (now (out .entry)) ⌝ }
 {
     out[0] = tag;
     out[1] = number;
@@ -33,12 +35,16 @@ fn put(out: &mut [u64], tag: u64, number: u64, start: u64, len: u64, seen: u64, 
     out[5] = next;
 }
 
-// What stands at a position after blanks and comments, in the first six cells of `out`: 0 and a token's kind, start and length,
-// or 1 and a fault's number, start, length and byte, and then the next position; or 2 and where the script ends. Answers whether
-// `out` has six cells; a shorter one is left as it is.
+// What stands at a position after blanks and comments, in the first six cells of `out`: 0 and a
+// token's kind, start and length, or 1 and a fault's number, start, length and byte, and then the
+// next position; or 2 and where the script ends. Answers whether `out` has six cells; a shorter one
+// is left as it is.
 #[no_mangle]
 pub extern "C" fn lex_step(script: &[u8], pos: usize, out: &mut [u64]) -> bool
-    ensures { λ r. ⌜ (r ≡ leb 6 (length (now (out .entry)))) × (now (out .exit) ≡ stored (cellsOf (stepAt (now (script .entry)) pos)) (now (out .entry))) ⌝ }
+    ensures { λ r.
+        let cells = cellsOf (stepAt (now (script .entry)) pos) in
+        let before = now (out .entry) in
+        ⌜ (r ≡ leb 6 (length before)) × (now (out .exit) ≡ stored cells before) ⌝ }
 {
     if out.len() < 6 {
         return false;
@@ -67,7 +73,8 @@ pub extern "C" fn lex_step(script: &[u8], pos: usize, out: &mut [u64]) -> bool
     true
 }
 
-// Where the spelling of any token begins, into `out`. Answers whether it has one within the script; `out` keeps what it has where not.
+// Where the spelling of any token begins, into `out`. Answers whether it has one within the script;
+// `out` keeps what it has where not.
 #[no_mangle]
 pub extern "C" fn lex_spelling(
     script: &[u8],
@@ -76,7 +83,10 @@ pub extern "C" fn lex_spelling(
     len: usize,
     out: &mut u64,
 ) -> bool
-    ensures { λ r. ⌜ (r ≡ isAt (spelling (now (script .entry)) (record { kind = kind; start = start; len = len }))) × (now (out .exit) ≡ placeOr (now (out .entry)) (spelling (now (script .entry)) (record { kind = kind; start = start; len = len }))) ⌝ }
+    ensures { λ r.
+        let bytes = now (script .entry) in
+        let place = spelling bytes (record { kind = kind; start = start; len = len }) in
+        ⌜ (r ≡ isAt place) × (now (out .exit) ≡ placeOr (now (out .entry)) place) ⌝ }
 {
     match lex::spelling(script, Token { kind, start, len }) {
         Found::At(i) => {

@@ -1,4 +1,5 @@
-// The reader for programs in other languages: readings, lookups and comparison on numbers and slices.
+// The reader for programs in other languages: readings, lookups and comparison on numbers and
+// slices.
 mod describe;
 mod lexer;
 mod practice_sheet;
@@ -33,13 +34,17 @@ ghost use Rattle.ast.specs.Lookup.{nodeStart, typeToken, startAnswer, typeToken
 ghost use Rattle.positions.specs.Span.{tokenSpan};
 ghost use Rattle.positions.specs.Position.{placeAt};
 ghost use Rattle.compare.specs.Compare.{compare, comparisonAnswer};
-ghost use Rattle.c_api.specs.Numbers.{countsAt, written, asNumbers, startCells, spanCells, placeCells, yesCells, Answers};
+ghost use Rattle.c_api.specs.Numbers.{countsAt, written, asNumbers, startCells};
+ghost use Rattle.c_api.specs.Numbers.{spanCells, placeCells, yesCells, Answers};
 
 // ---- readings
 
-// The numbers of a reading: its number, the five numbers of an error and the six counts. What is lent for them stays as it is where the call was refused.
+// The numbers of a reading: its number, the five numbers of an error and the six counts. What is
+// lent for them stays as it is where the call was refused.
 fn put_numbers(numbers: &mut [u32; 12], answer: Parsed) -> u32
-    ensures { λ r. ⌜ (r ≡ numbersOf answer .number) × (now (numbers .exit) ≡ written answer (now (numbers .entry))) ⌝ }
+    ensures { λ r.
+        let after = written answer (now (numbers .entry)) in
+        ⌜ (r ≡ numbersOf answer .number) × (now (numbers .exit) ≡ after) ⌝ }
 {
     match answer {
         Parsed::Tree(c) => {
@@ -91,7 +96,14 @@ pub extern "C" fn purple_garden_parse(
     diagnostics: &mut [u32],
     numbers: &mut [u32; 12],
 ) -> u32
-    ensures { λ r. ⌜ asNumbers (promised (parse stageOne) (now (script .entry)) (arrays (now (nodes .entry)) (now (types .entry)) (now (lists .entry)) (now (roots .entry)) (now (diagnostics .entry)))) (now (numbers .entry)) ≡ record { number = r; numbers = now (numbers .exit); arrays = arrays (now (nodes .exit)) (now (types .exit)) (now (lists .exit)) (now (roots .exit)) (now (diagnostics .exit)) } ⌝ }
+    ensures { λ r.
+        let before = arrays (now (nodes .entry)) (now (types .entry)) (now (lists .entry))
+        (now (roots .entry)) (now (diagnostics .entry)) in
+        let after = arrays (now (nodes .exit)) (now (types .exit)) (now (lists .exit))
+        (now (roots .exit)) (now (diagnostics .exit)) in
+        let due = promised (parse stageOne) (now (script .entry)) before in
+        ⌜ asNumbers due (now (numbers .entry))
+        ≡ record { number = r; numbers = now (numbers .exit); arrays = after } ⌝ }
 {
     let answer = parse(script, nodes, types, lists, roots, diagnostics);
     put_numbers(numbers, answer)
@@ -108,7 +120,14 @@ pub extern "C" fn purple_garden_parse_collect(
     diagnostics: &mut [u32],
     numbers: &mut [u32; 12],
 ) -> u32
-    ensures { λ r. ⌜ asNumbers (promised (parseCollect stageOne) (now (script .entry)) (arrays (now (nodes .entry)) (now (types .entry)) (now (lists .entry)) (now (roots .entry)) (now (diagnostics .entry)))) (now (numbers .entry)) ≡ record { number = r; numbers = now (numbers .exit); arrays = arrays (now (nodes .exit)) (now (types .exit)) (now (lists .exit)) (now (roots .exit)) (now (diagnostics .exit)) } ⌝ }
+    ensures { λ r.
+        let before = arrays (now (nodes .entry)) (now (types .entry)) (now (lists .entry))
+        (now (roots .entry)) (now (diagnostics .entry)) in
+        let after = arrays (now (nodes .exit)) (now (types .exit)) (now (lists .exit))
+        (now (roots .exit)) (now (diagnostics .exit)) in
+        let due = promised (parseCollect stageOne) (now (script .entry)) before in
+        ⌜ asNumbers due (now (numbers .entry))
+        ≡ record { number = r; numbers = now (numbers .exit); arrays = after } ⌝ }
 {
     let answer = parse_collect(script, nodes, types, lists, roots, diagnostics);
     put_numbers(numbers, answer)
@@ -131,7 +150,9 @@ fn counts_of(counts: &[u32; 6]) -> Counts
 
 // 1 and a start, or 0 and 0.
 fn put_start(start: &mut [u64; 2], answer: Start) -> u32
-    ensures { λ r. ⌜ Answers startCells (startAnswer answer) r (now (start .entry)) (now (start .exit)) ⌝ }
+    ensures { λ r.
+        let due = startAnswer answer in
+        ⌜ Answers startCells due r (now (start .entry)) (now (start .exit)) ⌝ }
 {
     match answer {
         Start::At(p) => {
@@ -158,7 +179,10 @@ pub extern "C" fn purple_garden_node_start(
     node: u32,
     start: &mut [u64; 2],
 ) -> u32
-    ensures { λ r. ⌜ Answers startCells (nodeStart (lent (now (script .entry)) (now (nodes .entry)) (now (types .entry)) (now (lists .entry)) (now (roots .entry)) (countsAt (now (counts .entry)))) node) r (now (start .entry)) (now (start .exit)) ⌝ }
+    ensures { λ r.
+        let tree = lent (now (script .entry)) (now (nodes .entry)) (now (types .entry))
+        (now (lists .entry)) (now (roots .entry)) (countsAt (now (counts .entry))) in
+        ⌜ Answers startCells (nodeStart tree node) r (now (start .entry)) (now (start .exit)) ⌝ }
 {
     let counts = counts_of(counts);
     let answer = node_start(script, nodes, types, lists, roots, counts, NodeId(node));
@@ -167,7 +191,9 @@ pub extern "C" fn purple_garden_node_start(
 
 // A token's kind, start and length.
 fn put_token(token: &mut [u64; 3], answer: TypeToken) -> u32
-    ensures { λ r. ⌜ Answers tokenCells (typeTokenAnswer answer) r (now (token .entry)) (now (token .exit)) ⌝ }
+    ensures { λ r.
+        let due = typeTokenAnswer answer in
+        ⌜ Answers tokenCells due r (now (token .entry)) (now (token .exit)) ⌝ }
 {
     match answer {
         TypeToken::Found(t) => {
@@ -190,7 +216,10 @@ pub extern "C" fn purple_garden_type_token(
     ty: u32,
     token: &mut [u64; 3],
 ) -> u32
-    ensures { λ r. ⌜ Answers tokenCells (typeToken (lent (now (script .entry)) (now (nodes .entry)) (now (types .entry)) (now (lists .entry)) (now (roots .entry)) (countsAt (now (counts .entry)))) ty) r (now (token .entry)) (now (token .exit)) ⌝ }
+    ensures { λ r.
+        let tree = lent (now (script .entry)) (now (nodes .entry)) (now (types .entry))
+        (now (lists .entry)) (now (roots .entry)) (countsAt (now (counts .entry))) in
+        ⌜ Answers tokenCells (typeToken tree ty) r (now (token .entry)) (now (token .exit)) ⌝ }
 {
     let counts = counts_of(counts);
     let answer = type_token(script, nodes, types, lists, roots, counts, TypeExprId(ty));
@@ -206,7 +235,10 @@ pub extern "C" fn purple_garden_token_span(
     len: usize,
     span: &mut [u64; 2],
 ) -> u32
-    ensures { λ r. ⌜ Answers spanCells (tokenSpan (now (script .entry)) (record { kind = kind; start = start; len = len })) r (now (span .entry)) (now (span .exit)) ⌝ }
+    ensures { λ r.
+        let bytes = now (script .entry) in
+        let due = tokenSpan bytes (record { kind = kind; start = start; len = len }) in
+        ⌜ Answers spanCells due r (now (span .entry)) (now (span .exit)) ⌝ }
 {
     match Span::from_token(script, Token { kind, start, len }) {
         SpanRead::Found(s) => {
@@ -220,7 +252,9 @@ pub extern "C" fn purple_garden_token_span(
 // The line and column of a byte position: `place` gets both.
 #[no_mangle]
 pub extern "C" fn purple_garden_line_column(script: &[u8], at: u32, place: &mut [u64; 2]) -> u32
-    ensures { λ r. ⌜ Answers placeCells (placeAt (now (script .entry)) at) r (now (place .entry)) (now (place .exit)) ⌝ }
+    ensures { λ r.
+        let due = placeAt (now (script .entry)) at in
+        ⌜ Answers placeCells due r (now (place .entry)) (now (place .exit)) ⌝ }
 {
     match line_column(script, at) {
         Position::At(p) => {
@@ -233,7 +267,9 @@ pub extern "C" fn purple_garden_line_column(script: &[u8], at: u32, place: &mut 
 
 // 1 for yes, 0 for no.
 fn put_same(same: &mut [u64; 1], answer: Comparison) -> u32
-    ensures { λ r. ⌜ Answers yesCells (comparisonAnswer answer) r (now (same .entry)) (now (same .exit)) ⌝ }
+    ensures { λ r.
+        let due = comparisonAnswer answer in
+        ⌜ Answers yesCells due r (now (same .entry)) (now (same .exit)) ⌝ }
 {
     match answer {
         Comparison::Same => {
@@ -248,7 +284,7 @@ fn put_same(same: &mut [u64; 1], answer: Comparison) -> u32
     }
 }
 
-// Two trees have the same shape: `compare` gets 1 for yes and 0 for no.
+// Two trees have the same shape: `same` gets 1 for yes and 0 for no.
 #[no_mangle]
 pub extern "C" fn purple_garden_same_shape(
     script: &[u8],
@@ -265,7 +301,12 @@ pub extern "C" fn purple_garden_same_shape(
     counts2: &[u32; 6],
     same: &mut [u64; 1],
 ) -> u32
-    ensures { λ r. ⌜ Answers yesCells (compare (lent (now (script .entry)) (now (nodes .entry)) (now (types .entry)) (now (lists .entry)) (now (roots .entry)) (countsAt (now (counts .entry)))) (lent (now (script2 .entry)) (now (nodes2 .entry)) (now (types2 .entry)) (now (lists2 .entry)) (now (roots2 .entry)) (countsAt (now (counts2 .entry))))) r (now (same .entry)) (now (same .exit)) ⌝ }
+    ensures { λ r.
+        let first = lent (now (script .entry)) (now (nodes .entry)) (now (types .entry))
+        (now (lists .entry)) (now (roots .entry)) (countsAt (now (counts .entry))) in
+        let second = lent (now (script2 .entry)) (now (nodes2 .entry)) (now (types2 .entry))
+        (now (lists2 .entry)) (now (roots2 .entry)) (countsAt (now (counts2 .entry))) in
+        ⌜ Answers yesCells (compare first second) r (now (same .entry)) (now (same .exit)) ⌝ }
 {
     let left = counts_of(counts);
     let right = counts_of(counts2);

@@ -5,7 +5,9 @@ ghost use Rattle.c_api.specs.Texts.{AnswersLength};
 
 // The text's length.
 pub(crate) fn put_length(length: &mut [u64; 1], answer: Writing) -> u32
-    ensures { λ r. ⌜ AnswersLength (answerOf answer) r (now (length .entry)) (now (length .exit)) ⌝ }
+    ensures { λ r.
+        let due = answerOf answer in
+        ⌜ AnswersLength due r (now (length .entry)) (now (length .exit)) ⌝ }
 {
     match answer {
         Writing::Written(n) => {

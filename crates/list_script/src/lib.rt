@@ -4,7 +4,8 @@ use libc::STDOUT_FILENO;
 use listing::Listing;
 use rules::Parsed;
 
-// Room for the listing of a script of 960 bytes: nodes, types, errors and list members are each at most 960, and none takes over 64 bytes.
+// Room for the listing of a script of 960 bytes: nodes, types, errors and list members are each at
+// most 960, and none takes over 64 bytes.
 const ROOM: usize = 262144;
 
 // The listing of what a reading answered and left in the arrays.
@@ -30,7 +31,8 @@ pub fn print(
     }
 }
 
-// The listing of a script, read in collecting or in strict mode; `(long)` for one of more than 960 bytes.
+// The listing of a script, read in collecting or in strict mode; `(long)` for one of more than 960
+// bytes.
 pub fn print_script(script: &[u8], collecting: bool) {
     if 960 < script.len() {
         io::write_all(STDOUT_FILENO, b"(long)\n");

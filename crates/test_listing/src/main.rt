@@ -1,4 +1,5 @@
-// Lists arrays that hold trees of the fixed list, and the answers without a tree; what it writes is the Rust's text.
+// Lists arrays that hold trees of the fixed list, and the answers without a tree; what it writes is
+// the Rust's text.
 use lex::Diagnostic;
 use rules::Counts;
 use rules::Parsed;

@@ -1,4 +1,5 @@
--- What the definitions say of the cases that `test_lookups` reads, in their order: written by tools/cases, with the program's stdin and stdout.
+-- What the definitions say of the cases that `test_lookups` reads, in their order: written by
+-- tools/cases, with the program's stdin and stdout.
 use mathlib.Core.Path.{_≡_, refl}
 use mathlib.Core.Bool.{true, false}
 use mathlib.Core.Option.{none, some}

@@ -1,5 +1,6 @@
-// Lookups and comparison on arrays made by hand, whole and damaged. The cases come from standard input, as tools/cases writes them: a name,
-// which lookup, what is asked about, what is lent. Each gives a line: its name and the answer. proofs/Examples.antt has what the definitions say.
+// Lookups and comparison on arrays made by hand, whole and damaged. The cases come from standard
+// input, as tools/cases writes them: a name, which lookup, what is asked about, what is lent. Each
+// gives a line: its name and the answer. proofs/Examples.antt has what the definitions say.
 use ast::lookup::Start;
 use ast::lookup::TypeToken;
 use ast::lookup::node_start;
@@ -44,8 +45,9 @@ fn write_refused(n: u32) {
     write_number(n as u64);
 }
 
-// ---- what a case says. What is missing or malformed is taken for 0: what is written is held to `stdout`.
+// ---- what a case says
 
+// A number; what is missing or malformed is taken for 0, for what is written is held to `stdout`.
 fn read_cell() -> u32 {
     read_up_to(4294967295) as u32
 }

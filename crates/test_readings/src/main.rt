@@ -1,5 +1,6 @@
-// Readings on lent arrays that are exactly long enough, one cell short, and longer, all full of rubbish. The cases come from standard input, as
-// tools/cases writes them: a name, the mode, the lengths of the five arrays, the script. Printed are the answer and every cell of the arrays.
+// Readings on lent arrays that are exactly long enough, one cell short, and longer, all full of
+// rubbish. The cases come from standard input, as tools/cases writes them: a name, the mode, the
+// lengths of the five arrays, the script. Printed are the answer and every cell of the arrays.
 // proofs/Examples.antt has what the definitions say.
 use console::frames::Frame;
 use console::frames::read_script;
@@ -74,7 +75,8 @@ fn length_without(cells: &[u32], cell: u32) -> usize
     0
 }
 
-// The cells up to the last that is not zero, and how many zeros follow; or that all are as they were.
+// The cells up to the last that is not zero, and how many zeros follow; or that all are as they
+// were.
 fn write_cells(name: &[u8], cells: &[u32]) {
     write(name);
     if length_without(cells, RUBBISH) == 0 {

@@ -1,5 +1,6 @@
-// Reads a list of scripts on standard input and prints of each what the lexer yields, the listing of strict mode, the start of each node and
-// the token of each type where strict mode accepts, and the listing of collecting mode. A script is a frame of at most 960 bytes. What is framed
+// Reads a list of scripts on standard input and prints of each what the lexer yields, the listing
+// of strict mode, the start of each node and the token of each type where strict mode accepts, and
+// the listing of collecting mode. A script is a frame of at most 960 bytes. What is framed
 // otherwise ends the program.
 use ast::lookup::Start;
 use ast::lookup::TypeToken;

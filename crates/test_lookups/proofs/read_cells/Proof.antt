@@ -1,4 +1,5 @@
--- `read_cells` meets its contract, is safe and ends: the array keeps its length, and no more cells are given than are lent.
+-- `read_cells` meets its contract, is safe and ends: the array keeps its length, and no more cells
+-- are given than are lent.
 -- Assumes nothing.
 use borrow.Author.Needs.{needs}
 use mathlib.Core.Path.{_≡_, sym}
