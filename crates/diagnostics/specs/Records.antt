@@ -5,7 +5,7 @@ use Prim.Native.Nat.{ℕ, _+_, _*_, _-_}
 use lib.Dec.{leb, ltb}
 use lib.ListN.{length, take, drop}
 use Rattle.lex.specs.declared.diagnostic.Diagnostic.{Diagnostic}
-use Rattle.rules.specs.Layout.{zeros, diagnosticCells}
+use Rattle.rules.specs.Layout.{diagnosticWidth, zeros, diagnosticCells}
 
 -- the array's cells, and how many of its records are in use
 pub record Diagnostics : Type 0 where
@@ -18,7 +18,8 @@ diagnostics cells n = record { cells = cells; count = n }
 -- an array of `size` cells that holds `ds`, with zeros behind them
 abbrev pub holding : ℕ → List Diagnostic → Diagnostics
 holding size ds =
-    diagnostics (flatten (map diagnosticCells ds) ++ zeros (size - 5 * length ds)) (length ds)
+    diagnostics (flatten (map diagnosticCells ds) ++ zeros (size - diagnosticWidth * length ds))
+    (length ds)
 
 -- the greatest count, for it has 32 bits
 abbrev pub maxCount : ℕ
@@ -28,11 +29,11 @@ maxCount = 4294967295
 unfoldable pub pushed : Diagnostics → Diagnostic → Diagnostics
 pushed a d =
     elim (ltb (a .count) maxCount) [
-      | true ↦ elim (leb (5 * a .count + 5) (length (a .cells))) [
+      | true ↦ elim (leb (diagnosticWidth * a .count + diagnosticWidth) (length (a .cells))) [
         | true ↦
-            let at = 5 * a .count in
+            let at = diagnosticWidth * a .count in
             diagnostics
-            (take at (a .cells) ++ diagnosticCells d ++ drop (at + 5) (a .cells))
+            (take at (a .cells) ++ diagnosticCells d ++ drop (at + diagnosticWidth) (a .cells))
             (a .count + 1)
         | false ↦ a
       ]

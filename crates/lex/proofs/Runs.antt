@@ -13,6 +13,7 @@ use Rattle.lex.specs.declared.byte_search.Found.the-variants.{At, Nothin
 use Rattle.lex.specs.declared.tok.Piece.{Piece}
 use Rattle.lex.specs.Bytes.{or, between, isDigit, isIdentStart, isNumCont, countWhile, differsFrom, before, findByte}
 use Rattle.lex.specs.Kind.{kI, kD}
+use Rattle.lex.specs.Errors.{eInvalidNumber}
 use Rattle.lex.specs.Lex.{doubleIn, numberIn, number}
 use Rattle.lex.proofs.Laws.{run-le, run-more, run-split, find-hit, find-miss, nonzero-inside}
 
@@ -138,8 +139,8 @@ module _ (s : List ℕ) (from m : ℕ) (more : m ≡ countWhile isDigit (drop fr
     unfolding doubleIn
     double-field e = rw (left, dot-found rest m more (behind ∙ dot), e, doubleIn)
 
-    pub double-fault : isIdentStart (getD s (from + m + 1) 0) ≡ false → (n : ℕ) → n ≡ from + m + countWhile isNumCont (drop (from + m) s) → Piece.Fault 34 n 0 n ≡ doubleIn all from s
+    pub double-fault : isIdentStart (getD s (from + m + 1) 0) ≡ false → (n : ℕ) → n ≡ from + m + countWhile isNumCont (drop (from + m) s) → Piece.Fault eInvalidNumber n 0 n ≡ doubleIn all from s
     unfolding doubleIn
     double-fault e n run =
         let whole : n ≡ all = omega (arith, rw (drop-drop m from s) at (run-on rest m more)) in
-        rw (left, dot-found rest m more (behind ∙ dot), e, doubleIn) (ap (λ (k : ℕ). Piece.Fault 34 k 0 k) whole)
+        rw (left, dot-found rest m more (behind ∙ dot), e, doubleIn) (ap (λ (k : ℕ). Piece.Fault eInvalidNumber k 0 k) whole)

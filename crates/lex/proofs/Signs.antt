@@ -9,6 +9,7 @@ use native.Mathlib.Omega.{arith}
 use lib.Dec.{ltb, eqb}
 use lib.ListN.{getD}
 use borrow.Author.Tests.{lt-ltb, ne-eqb}
+use Rattle.lex.specs.Errors.{eUnknownCharacter}
 use Rattle.lex.specs.declared.tok.Piece.{Piece}
 use Rattle.lex.specs.Bytes.{or, between, isDigit, isIdentStart, countWhile, differsFrom, before, findByte}
 use Rattle.lex.specs.Kind.{punctuators, punctuatorKinds, punctuatorKind}
@@ -61,7 +62,7 @@ quote-no-name b e = rw e
 
 -- ---- a byte that is no sign
 
-pub no-sign : (b : ℕ) → punctuatorKind b ≡ 0 → punctuator b ≡ Piece.Fault 33 1 b 1
+pub no-sign : (b : ℕ) → punctuatorKind b ≡ 0 → punctuator b ≡ Piece.Fault eUnknownCharacter 1 b 1
 unfolding punctuator
 no-sign b e = rw (e, punctuator)
 
@@ -76,9 +77,9 @@ exclaim = refl
 differs : (b x k : ℕ) → punctuatorKind b ≡ 0 → punctuatorKind x ≡ suc k → eqb b x ≡ false
 differs b x k e f = ne-eqb b x (λ z. omega (arith, sym e ∙ ap punctuatorKind z ∙ f))
 
-pub no-punctuation : (b next : ℕ) → punctuatorKind b ≡ 0 → punctuation b next ≡ Piece.Fault 33 1 b 1
+pub no-punctuation : (b next : ℕ) → punctuatorKind b ≡ 0 → punctuation b next ≡ Piece.Fault eUnknownCharacter 1 b 1
 unfolding punctuation
 no-punctuation b next e =
-    cases (λ (p : Piece). p ≡ Piece.Fault 33 1 b 1) (eqb next 61)
+    cases (λ (p : Piece). p ≡ Piece.Fault eUnknownCharacter 1 b 1) (eqb next 61)
     (λ q. rw (differs b 61 8 e equal, differs b 33 12 e exclaim) (no-sign b e))
     (λ q. no-sign b e)

@@ -13,6 +13,8 @@ use Rattle.lex.specs.declared.tok.Step.{Step}
 use Rattle.lex.specs.declared.tok.Next.{Next}
 use Rattle.lex.specs.Bytes.{or, isWs, isDigit, isIdentStart, isIdentCont}
 use Rattle.lex.specs.Bytes.{isNumCont, countWhile, before, findByte}
+use Rattle.lex.specs.Errors.{eUnterminatedString, eInvalidUtf8}
+use Rattle.lex.specs.Errors.{eUnknownCharacter, eInvalidNumber}
 use Rattle.lex.specs.Kind.{kEof, kDoubleEqual, kNotEqual, kS, kD, kI}
 use Rattle.lex.specs.Kind.{kDoc, keywords, nameKind, punctuatorKind}
 use Rattle.lex.specs.Utf8.{utf8}
@@ -37,7 +39,7 @@ unfoldable pub punctuator : ℕ → Piece
 punctuator b =
     elim (ltb 0 (punctuatorKind b)) [
       | true ↦ Piece.Token (punctuatorKind b) 1 1
-      | false ↦ Piece.Fault 33 1 b 1
+      | false ↦ Piece.Fault eUnknownCharacter 1 b 1
     ]
 
 -- a sign of two bytes, `==` or `!=`, or what one byte is
@@ -62,7 +64,7 @@ docIn n bs =
     let line = take n bs in
     elim (utf8 (drop (leadingSpace line) line)) [
       | true ↦ Piece.Token kDoc (n - leadingSpace line) (n + 2)
-      | false ↦ Piece.Fault 32 (n + 1) 0 (n + 1)
+      | false ↦ Piece.Fault eInvalidUtf8 (n + 1) 0 (n + 1)
     ]
 
 unfoldable pub doc : List ℕ → Piece
@@ -75,9 +77,9 @@ string bs =
       | At n ↦
           elim (utf8 (take n bs)) [
             | true ↦ Piece.Token kS n (n + 2)
-            | false ↦ Piece.Fault 32 (n + 1) 0 (n + 2)
+            | false ↦ Piece.Fault eInvalidUtf8 (n + 1) 0 (n + 2)
           ]
-      | Nothing ↦ Piece.Fault 31 (before 10 bs + 1) 0 (before 10 bs + 1)
+      | Nothing ↦ Piece.Fault eUnterminatedString (before 10 bs + 1) 0 (before 10 bs + 1)
     ]
 
 -- a number with a dot before `from`, in a run of `n` digits and dots: a second dot ends it where a
@@ -89,7 +91,7 @@ doubleIn n from bs =
       | At more ↦
           elim (isIdentStart (getD bs (from + more + 1) 0)) [
             | true ↦ Piece.Token kD (from + more) (from + more)
-            | false ↦ Piece.Fault 34 n 0 n
+            | false ↦ Piece.Fault eInvalidNumber n 0 n
           ]
     ]
 

@@ -9,3 +9,43 @@ pub struct Diagnostic {
     pub wanted: u32,
     pub seen: u32,
 }
+
+impl Diagnostic {
+    // The errors of the rules.
+    pub const TOO_DEEP: u32 = 10;
+
+    pub const EXPECTED_TOKEN: u32 = 11;
+
+    pub const EXPECTED_IDENTIFIER: u32 = 12;
+
+    pub const DOCS_ATTACHED_TO_NOTHING: u32 = 13;
+
+    pub const DOCS_BEFORE_SOMETHING_ELSE: u32 = 14;
+
+    pub const IMPORT_PATH_NOT_A_STRING: u32 = 15;
+
+    pub const EXTERN_WITHOUT_A_STRING: u32 = 16;
+
+    pub const NESTED_EXTERN: u32 = 17;
+
+    pub const MATCH_WITHOUT_A_DEFAULT: u32 = 18;
+
+    pub const EXPECTED_EXPRESSION: u32 = 19;
+
+    pub const EMPTY_FOREIGN: u32 = 20;
+
+    pub const EMPTY_OPTION: u32 = 21;
+
+    pub const EMPTY_ARRAY: u32 = 22;
+
+    pub const BAD_TYPE: u32 = 23;
+
+    // The faults of the lexer.
+    pub const UNTERMINATED_STRING: u32 = 31;
+
+    pub const INVALID_UTF8: u32 = 32;
+
+    pub const UNKNOWN_CHARACTER: u32 = 33;
+
+    pub const INVALID_NUMBER: u32 = 34;
+}

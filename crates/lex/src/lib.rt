@@ -36,6 +36,7 @@ ghost use lib.ListN.{length, getD, drop};
 ghost use Rattle.lex.specs.declared.tok.Piece.{Piece};
 ghost use Rattle.lex.specs.Bytes.{isNumCont, countWhile};
 ghost use Rattle.lex.specs.Kind.{punctuatorKind};
+ghost use Rattle.lex.specs.Errors.{eUnknownCharacter};
 ghost use Rattle.lex.specs.Lex.{beginsComment, skipped, punctuation as punctuationOf};
 ghost use Rattle.lex.specs.Lex.{leadingSpace, doc as docOf, string as stringOf, doubleIn};
 ghost use Rattle.lex.specs.Lex.{number as numberOf, name as nameOf, symbol as symbolOf};
@@ -173,7 +174,7 @@ fn doc(rest: &[u8]) -> Piece
         }
     } else {
         Piece::Fault {
-            number: 32,
+            number: Diagnostic::INVALID_UTF8,
             len: n + 1,
             seen: 0,
             taken: n + 1, // at the line's last byte
@@ -196,7 +197,7 @@ fn string(rest: &[u8]) -> Piece
     let Found::At(n) = find_byte(b'"', rest) else {
         let line = line_end(rest) + 1;
         return Piece::Fault {
-            number: 31,
+            number: Diagnostic::UNTERMINATED_STRING,
             len: line,
             seen: 0,
             taken: line,
@@ -210,7 +211,7 @@ fn string(rest: &[u8]) -> Piece
         }
     } else {
         Piece::Fault {
-            number: 32,
+            number: Diagnostic::INVALID_UTF8,
             len: n + 1,
             seen: 0,
             taken: n + 2, // after the quote
@@ -243,7 +244,7 @@ fn double(rest: &[u8], from: usize) -> Piece
     }
     let n = second + skip_num_cont(&rest[second..]);
     Piece::Fault {
-        number: 34,
+        number: Diagnostic::INVALID_NUMBER,
         len: n,
         seen: 0,
         taken: n,
@@ -287,10 +288,10 @@ fn name(rest: &[u8]) -> Piece
 
 // The fault of a byte that begins nothing.
 fn unknown_character(b: u8) -> Piece
-    ensures { λ r. ⌜ r ≡ Piece.Fault 33 1 b 1 ⌝ }
+    ensures { λ r. ⌜ r ≡ Piece.Fault eUnknownCharacter 1 b 1 ⌝ }
 {
     Piece::Fault {
-        number: 33,
+        number: Diagnostic::UNKNOWN_CHARACTER,
         len: 1,
         seen: b,
         taken: 1,

@@ -5,6 +5,7 @@ use mathlib.Core.List.{List, [], _∷_, _++_}
 use Prim.Native.Nat.{ℕ, zero, suc, _+_, _*_, _/_, _%_, _^_}
 use lib.Dec.{eqb, ltb}
 use lib.ListN.{length}
+use Rattle.rules.specs.Refusals.{rTooManyLines, rPracticeTooShort}
 use Rattle.text.specs.Text.{bytes, number as decimal}
 use Rattle.text.specs.Answer.{Result, refuse, inFront}
 
@@ -101,10 +102,10 @@ maxLines = 16
 unfoldable pub promised : ℕ → ℕ → List ℕ → Result
 promised seed lines buffer =
     elim (ltb maxLines lines) [
-      | true ↦ refuse 47 buffer
+      | true ↦ refuse rTooManyLines buffer
       | false ↦
           elim (ltb (length buffer) (length (sheet seed lines))) [
-            | true ↦ refuse 48 buffer
+            | true ↦ refuse rPracticeTooShort buffer
             | false ↦ inFront (sheet seed lines) buffer
           ]
     ]

@@ -2,6 +2,7 @@
 mod draw;
 
 use crate::draw::next;
+use rules::Refusal;
 use text::Writing;
 use text::write_byte;
 use text::write_number;
@@ -107,11 +108,11 @@ pub fn write_sheet(seed: u32, lines: u32, out: &mut [u8]) -> Writing
         ⌜ left ≡ promised seed lines (now (out .entry)) ⌝ }
 {
     if MAX_LINES < lines {
-        return Writing::Refused(47);
+        return Writing::Refused(Refusal::TOO_MANY_LINES);
     }
     let n = write_lines(seed, lines, &mut out[..0]);
     if out.len() < n {
-        return Writing::Refused(48);
+        return Writing::Refused(Refusal::PRACTICE_TOO_SHORT);
     }
     Writing::Written(write_lines(seed, lines, out))
 }

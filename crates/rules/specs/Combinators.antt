@@ -7,6 +7,7 @@ use lib.ListN.{length, replicate}
 use Rattle.lex.specs.Kind.{kEof, kS, kIdent, kDoc}
 use Rattle.lex.specs.declared.diagnostic.Diagnostic.{Diagnostic}
 use Rattle.lex.specs.declared.tok.Token.{Token}
+use Rattle.lex.specs.Errors.{eExpectedToken, eExpectedIdentifier}
 use Rattle.rules.specs.Tree.{Arena, State, Result, ok, err}
 use Rattle.rules.specs.declared.Run.{Run}
 use Rattle.rules.specs.declared.NodeId.{NodeId}
@@ -82,10 +83,10 @@ abbrev pub fail : {A : Type 0} → ℕ → Rule A
 fail number = failExpecting number 0
 
 unfoldable pub expect : ℕ → Rule Token
-expect k = ifKind k advance (failExpecting 11 k)
+expect k = ifKind k advance (failExpecting eExpectedToken k)
 
 unfoldable pub expectIdent : Rule Token
-expectIdent = ifKind kIdent advance (fail 12)
+expectIdent = ifKind kIdent advance (fail eExpectedIdentifier)
 
 -- a token of the kind `k` has no place here
 unfoldable pub rejectKind : ℕ → ℕ → Rule ℕ

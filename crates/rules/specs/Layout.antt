@@ -16,6 +16,9 @@ nodeWidth = 16
 abbrev pub typeWidth : ℕ
 typeWidth = 8
 
+abbrev pub diagnosticWidth : ℕ
+diagnosticWidth = 5
+
 abbrev pub zeros : ℕ → List ℕ
 zeros n = replicate n 0
 

@@ -8,6 +8,7 @@ use lib.ListN.{length}
 use Rattle.lex.specs.Kind.{kEof, kImport, kExtern, kLet, kFn, kMatch, kCurlyRight}
 use Rattle.lex.specs.Lex.{Occurrence, cut, tokensOf, faultsOf}
 use Rattle.lex.specs.declared.diagnostic.Diagnostic.{Diagnostic}
+use Rattle.lex.specs.Errors.{eTooDeep}
 use Rattle.rules.specs.Tree.{emptyArena, State, Result, ok, err, Tree}
 use Rattle.rules.specs.Combinators.{Rule, _>>=_, _>>_, pure, advance, byKind, ifKind, choose, withDocs, ControlFlow, continue, break, loop}
 use Rattle.rules.specs.Rules.{readers, maxLevels}
@@ -64,7 +65,7 @@ module _ (power : ℕ → Option ℕ) (script : List ℕ) where
 
   -- 10 ends a reading; any other error is gathered
   unfoldable pub recover : Gathered → Diagnostic → State → Result (ControlFlow Gathered)
-  recover g e s = elim (eqb (e .number) 10) [
+  recover g e s = elim (eqb (e .number) eTooDeep) [
     | true ↦ err e s
     | false ↦ (synchronizeRoot >> pure (continue (record { roots = g .roots; errors = g .errors ++ (record { after = length (begin script .left) - length (s .left); diagnostic = e } ∷ []) }))) s
   ]

@@ -9,7 +9,9 @@ use Rattle.lex.specs.Bytes.{or}
 use Rattle.lex.specs.declared.diagnostic.Diagnostic.{Diagnostic}
 use Rattle.rules.specs.Tree.{Tree}
 use Rattle.rules.specs.Parse.{Reading, read, ended}
-use Rattle.rules.specs.Layout.{nodeWidth, typeWidth, zeros, padded, nodeCells, typeCells, diagnosticCells}
+use Rattle.rules.specs.Layout.{nodeWidth, typeWidth, diagnosticWidth, zeros, padded}
+use Rattle.rules.specs.Layout.{nodeCells, typeCells, diagnosticCells}
+use Rattle.rules.specs.Refusals.{rTooLong, rTooShort}
 use Rattle.rules.specs.declared.Counts.{Counts}
 use Rattle.rules.specs.declared.Parsed.{Parsed}
 use Rattle.rules.specs.declared.Parsed.the-variants as P
@@ -26,7 +28,11 @@ pub record Arrays : Type 0 where
 unfoldable pub tooShort : List ℕ → Arrays → Bool
 tooShort script l =
     let n = length script in
-    or (ltb (length (l .nodes)) (nodeWidth * n)) (or (ltb (length (l .types)) (typeWidth * n)) (or (ltb (length (l .lists)) (8 * n)) (or (ltb (length (l .roots)) n) (ltb (length (l .diagnostics)) (5 * n)))))
+    or (ltb (length (l .nodes)) (nodeWidth * n))
+    (or (ltb (length (l .types)) (typeWidth * n))
+    (or (ltb (length (l .lists)) (8 * n))
+    (or (ltb (length (l .roots)) n)
+    (ltb (length (l .diagnostics)) (diagnosticWidth * n)))))
 
 unfoldable pub zeroed : Arrays → Arrays
 zeroed l = record {
@@ -62,8 +68,12 @@ outcome (ended e) l = record { answer = P.Error e; arrays = zeroed l }
 unfoldable pub promised : (List ℕ → Reading) → List ℕ → Arrays → Outcome
 promised how script l =
     elim (ltb maxBytes (length script)) [
-      | true ↦ record { answer = P.Refused 1; arrays = l }
-      | false ↦ elim (tooShort script l) [ true ↦ record { answer = P.Refused 2; arrays = l } | false ↦ outcome (how script) l ]
+      | true ↦ record { answer = P.Refused rTooLong; arrays = l }
+      | false ↦
+          elim (tooShort script l) [
+            | true ↦ record { answer = P.Refused rTooShort; arrays = l }
+            | false ↦ outcome (how script) l
+          ]
     ]
 
 -- ---- document 01's number and values for each case of an answer

@@ -8,6 +8,10 @@ use lib.ListN.{length, getD}
 use Rattle.lex.specs.Kind.{kEof, kBraceLeft, kBraceRight, kPlus, kMinus, kAsteriks, kSlash, kPercent, kEqual, kDoubleEqual, kLessThan, kGreaterThan, kColon, kDot, kBraketLeft, kBraketRight, kCurlyLeft, kCurlyRight, kS, kD, kI, kIdent, kImport, kExtern, kLet, kFn, kMatch, kAs, kTrue, kFalse, kStr, kInt, kDouble, kBool, kVoid, kOption, kArray, kForeign, kRecord}
 use Rattle.lex.specs.Lex.{isPrefixSign}
 use Rattle.lex.specs.declared.tok.Token.{Token}
+use Rattle.lex.specs.Errors.{eTooDeep, eDocsAttachedToNothing, eDocsBeforeSomethingElse}
+use Rattle.lex.specs.Errors.{eImportPathNotAString, eExternWithoutAString, eNestedExtern}
+use Rattle.lex.specs.Errors.{eMatchWithoutADefault, eExpectedExpression, eEmptyForeign}
+use Rattle.lex.specs.Errors.{eEmptyOption, eEmptyArray, eBadType}
 use Rattle.rules.specs.Tree.{ok, err}
 use Rattle.rules.specs.Combinators.{Rule, _>>=_, _>>_, pure, cur, advance, struck, byKind, ifKind, choose, atToken, fail, expect, expectIdent, rejectKind, pushNode, pushNodeAnd, pushType, allocSlice, tokenCells, runCells, ControlFlow, continue, break, loop, members, listUntil, collectDocs, takeDocs, Readers}
 use Rattle.rules.specs.declared.Run.{Run}
@@ -49,7 +53,7 @@ atomType = do
 
 unfoldable pub foreignType : Rule TypeExprId
 foreignType = do
-  openAngle 20
+  openAngle eEmptyForeign
   name ← expectIdent
   expect kGreaterThan
   pushType (T.Foreign name)
@@ -61,7 +65,7 @@ suppliedVoid = do
   pushType (T.Atom (record { kind = kVoid; start = t .start; len = 4 }))
 
 unfoldable pub importPath : Rule (List ℕ)
-importPath = ifKind kS (advance >>= (λ p. pure (tokenCells p))) (fail 15)
+importPath = ifKind kS (advance >>= (λ p. pure (tokenCells p))) (fail eImportPathNotAString)
 
 unfoldable pub bracketedPaths : Rule (List (List ℕ))
 bracketedPaths = do
@@ -94,7 +98,7 @@ parseImport = do
   pushNode (λ id. N.Import id src pkgs)
 
 abbrev pub externName : Rule Token
-externName = ifKind kS advance (fail 16)
+externName = ifKind kS advance (fail eExternWithoutAString)
 
 unfoldable pub atom : Rule NodeId
 atom = do
@@ -144,7 +148,7 @@ lastOf d (e ∷ es) = lastOf e es
 unfoldable pub requireNoDocs : {A : Type 0} → Rule A → Rule A
 requireNoDocs x = λ s. elim (s .docs) [
   | [] ↦ x s
-  | d ∷ ds ↦ ifKind kEof (λ t. err (atToken 13 0 (lastOf d ds)) t) (λ t. err (atToken 14 0 d) t) s
+  | d ∷ ds ↦ ifKind kEof (λ t. err (atToken eDocsAttachedToNothing 0 (lastOf d ds)) t) (λ t. err (atToken eDocsBeforeSomethingElse 0 d) t) s
 ]
 
 -- the cases of a match so far, and its default
@@ -177,14 +181,14 @@ module _ (deeper : Readers) where
 
   unfoldable pub optionType : Rule TypeExprId
   optionType = do
-    openAngle 21
+    openAngle eEmptyOption
     t ← deeper .type
     expect kGreaterThan
     pushType (T.Option t)
 
   unfoldable pub arrayType : Rule TypeExprId
   arrayType = do
-    openAngle 22
+    openAngle eEmptyArray
     t ← deeper .type
     expect kGreaterThan
     pushType (T.Array t)
@@ -200,7 +204,7 @@ module _ (deeper : Readers) where
   typeByKind = choose
       ((kStr, atomType) ∷ (kInt, atomType) ∷ (kBool, atomType) ∷ (kVoid, atomType) ∷ (kDouble, atomType) ∷
       (kForeign, foreignType) ∷ (kOption, optionType) ∷ (kArray, arrayType) ∷ (kRecord, recordType) ∷ [])
-      (fail 23)
+      (fail eBadType)
 
   unfoldable pub parseType : Rule TypeExprId
   parseType = byKind typeByKind
@@ -249,7 +253,7 @@ module _ (deeper : Readers) where
   unfoldable pub externFn : Rule (List ℕ)
   externFn = do
     collectDocs
-    rejectKind kExtern 17
+    rejectKind kExtern eNestedExtern
     docs ← takeDocs
     expect kFn
     name ← expectIdent
@@ -295,7 +299,7 @@ module _ (deeper : Readers) where
     expect kCurlyRight
     cases ← allocSlice (c .cases)
     elim (c .default) [
-      | none ↦ (λ s. err (atToken 18 0 t) s)
+      | none ↦ (λ s. err (atToken eMatchWithoutADefault 0 t) s)
       | some d ↦ pushNode (λ id. N.Match id cases (d .0) (d .1))
     ]
 
@@ -352,7 +356,7 @@ module _ (deeper : Readers) where
       ((kCurlyLeft, recordLiteral) ∷ (kBraketLeft, arrayLiteral) ∷
       (kS, atom) ∷ (kI, atom) ∷ (kD, atom) ∷ (kTrue, atom) ∷ (kFalse, atom) ∷ (kIdent, ident) ∷
       (kBraceLeft, group) ∷ (kPlus, unary) ∷ (kMinus, unary) ∷ [])
-      (fail 19)
+      (fail eExpectedExpression)
 
   unfoldable pub operand : Rule NodeId
   operand = byKind operandByKind
@@ -415,7 +419,7 @@ module _ (deeper : Readers) where
 
 -- the readers with so many levels left; a read below the last would stand too deep
 unfoldable pub readers : (ℕ → Option ℕ) → List ℕ → ℕ → Readers
-readers power script zero = record { prefix = fail 10; expr = λ least. fail 10; type = fail 10 }
+readers power script zero = record { prefix = fail eTooDeep; expr = λ least. fail eTooDeep; type = fail eTooDeep }
 readers power script (suc l) =
     let d = readers power script l in
     record { prefix = parsePrefix d; expr = parseExpr d power script; type = parseType d }

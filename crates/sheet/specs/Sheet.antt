@@ -8,6 +8,8 @@ use lib.Dec.{leb, ltb, eqb}
 use lib.ListN.{length, getD, take, drop, replicate}
 use Rattle.lex.specs.declared.diagnostic.Diagnostic.{Diagnostic}
 use Rattle.lex.specs.Answer.{maxBytes, Answer, refused, answer}
+use Rattle.rules.specs.Layout.{diagnosticWidth}
+use Rattle.rules.specs.Refusals.{rTooLong, rNoWords, rSheetTooShort}
 use Rattle.positions.specs.Position.{placeAt}
 use Rattle.positions.specs.declared.Place.{Place}
 use Rattle.text.specs.Text.{number}
@@ -51,7 +53,7 @@ body w = pieces (suc (length w)) w
 unfoldable pub entry : List ℕ → Diagnostic → Answer (List ℕ)
 entry script e =
     elim (words e) [
-      | none ↦ refused 42
+      | none ↦ refused rNoWords
       | some w ↦
           elim (placeAt script (e .start)) [
             | refused n ↦ refused n
@@ -65,11 +67,11 @@ entry script e =
 abbrev pub errorAt : List ℕ → ℕ → Diagnostic
 errorAt cells i =
     record {
-      number = getD cells (5 * i) 0;
-      start = getD cells (5 * i + 1) 0;
-      len = getD cells (5 * i + 2) 0;
-      wanted = getD cells (5 * i + 3) 0;
-      seen = getD cells (5 * i + 4) 0;
+      number = getD cells (diagnosticWidth * i) 0;
+      start = getD cells (diagnosticWidth * i + 1) 0;
+      len = getD cells (diagnosticWidth * i + 2) 0;
+      wanted = getD cells (diagnosticWidth * i + 3) 0;
+      seen = getD cells (diagnosticWidth * i + 4) 0;
     }
 
 abbrev pub joinTo : List ℕ → Answer (List ℕ) → Answer (List ℕ)
@@ -87,12 +89,12 @@ upTo f (suc n) = continue (upTo f n) (f n)
 
 -- the list is read up to its last whole record
 abbrev pub entries : List ℕ → List ℕ → Answer (List ℕ)
-entries script cells = upTo (λ i. entry script (errorAt cells i)) (length cells / 5)
+entries script cells = upTo (λ i. entry script (errorAt cells i)) (length cells / diagnosticWidth)
 
 -- 1 is tested first
 unfoldable pub sheetOf : List ℕ → List ℕ → Answer (List ℕ)
 sheetOf script cells =
-    elim (ltb maxBytes (length script)) [ true ↦ refused 1 | false ↦ entries script cells ]
+    elim (ltb maxBytes (length script)) [ true ↦ refused rTooLong | false ↦ entries script cells ]
 
 -- ---- into a lent buffer
 
@@ -103,7 +105,7 @@ printed script cells buffer =
       | refused n ↦ refuse n buffer
       | answer t ↦
           elim (ltb (length buffer) (length t)) [
-            | true ↦ refuse 44 buffer
+            | true ↦ refuse rSheetTooShort buffer
             | false ↦ inFront t buffer
           ]
     ]

@@ -6,14 +6,17 @@ use positions::Place;
 use positions::Position;
 use positions::advance;
 use rules::DIAGNOSTIC_WIDTH;
+use rules::Refusal;
 use text::Writing;
 use text::write_byte;
 use text::write_number;
 use text::write_text;
+use words::MAX_LINE;
 use words::describe;
 ghost use mathlib.Core.Path.{_≡_};
 ghost use Prim.Native.Nat.{_-_, _*_, _≤_};
 ghost use lib.ListN.{length};
+ghost use Rattle.rules.specs.Promise.{maxBytes};
 ghost use Rattle.text.specs.Answer.{result, answerOf};
 ghost use Rattle.text.specs.Emit.{Emits};
 ghost use Rattle.text.specs.Text.{number as numberOf};
@@ -137,7 +140,7 @@ fn error_at(errors: &[u32], i: usize) -> Diagnostic
 fn write_lines(p: Place, e: Diagnostic, out: &mut [u8], at: usize) -> usize
     ensures { λ r. ⌜ Emits (linesAt p e) (now (out .entry)) at (now (out .exit)) r ⌝ }
 {
-    let mut line = [0u8; 160];
+    let mut line = [0u8; MAX_LINE];
     match describe(e, &mut line) {
         Writing::Refused(_) => at,
         Writing::Written(n) => {
@@ -169,16 +172,16 @@ fn write_entry(script: &[u8], e: Diagnostic, w: Progress, out: &mut [u8]) -> Pro
 
 // How many lines an error takes.
 fn count_lines(script: &[u8], e: Diagnostic) -> Counted
-    requires { ⌜ length (now script) ≤ 65536 ⌝ }
+    requires { ⌜ length (now script) ≤ maxBytes ⌝ }
     ensures { λ r. ⌜ countedOf r ≡ sized (entry (now (script .entry)) e) ⌝ }
 {
-    let mut line = [0u8; 160];
+    let mut line = [0u8; MAX_LINE];
     match describe(e, &mut line) {
         Writing::Refused(n) => Counted::Refused(n),
         Writing::Written(n) => {
             let start = e.start as usize;
             if script.len() < start {
-                return Counted::Refused(3);
+                return Counted::Refused(Refusal::OUTSIDE);
             }
             if n <= PIECE {
                 return Counted::Lines(1);
@@ -193,7 +196,7 @@ fn count_lines(script: &[u8], e: Diagnostic) -> Counted
 
 // How many lines all errors take, or the first refusal.
 fn count_all(script: &[u8], errors: &[u32]) -> Counted
-    requires { ⌜ length (now script) ≤ 65536 ⌝ }
+    requires { ⌜ length (now script) ≤ maxBytes ⌝ }
     ensures { λ r.
         ⌜ countedOf r ≡ sized (entries (now (script .entry)) (now (errors .entry))) ⌝ }
 {
@@ -238,13 +241,13 @@ pub fn print_sheet(script: &[u8], errors: &[u32], sheet: &mut [u8]) -> Writing
         ⌜ left ≡ printed (now (script .entry)) (now (errors .entry)) (now (sheet .entry)) ⌝ }
 {
     if MAX_BYTES < script.len() {
-        return Writing::Refused(1);
+        return Writing::Refused(Refusal::TOO_LONG);
     }
     match count_all(script, errors) {
         Counted::Refused(n) => Writing::Refused(n),
         Counted::Lines(lines) => {
             if sheet.len() / LINE_BYTES < lines {
-                return Writing::Refused(44);
+                return Writing::Refused(Refusal::SHEET_TOO_SHORT);
             }
             Writing::Written(write_all(script, errors, sheet))
         }

@@ -8,7 +8,10 @@ use Prim.Native.Nat.{ℕ, _+_, _/_, _%_, _≤_}
 use lib.Dec.{leb, ltb, eqb}
 use lib.ListN.{length, getD}
 use Rattle.lex.specs.Kind.{kEof, kRecord}
+use Rattle.lex.specs.Errors.{eTooDeep, eExpectedToken, eBadType}
+use Rattle.lex.specs.Errors.{eUnterminatedString, eUnknownCharacter, eInvalidNumber}
 use Rattle.lex.specs.declared.diagnostic.Diagnostic.{Diagnostic}
+use Rattle.rules.specs.Refusals.{rLineTooShort, rNoWords}
 use Rattle.text.specs.Text.{bytes}
 use Rattle.text.specs.Answer.{Result, refuse, inFront}
 
@@ -79,11 +82,11 @@ butFound = bytes ", but found "
 -- nothing, else the seen kind
 unfoldable pub details : ℕ → ℕ → ℕ → List ℕ
 details number wanted seen =
-    elim (eqb number 11) [
+    elim (eqb number eExpectedToken) [
       | true ↦ kindName wanted ++ (butFound ++ kindName seen)
-      | false ↦ elim (leb number 23) [
+      | false ↦ elim (leb number eBadType) [
         | true ↦ kindName seen
-        | false ↦ elim (eqb number 33) [ true ↦ hex seen | false ↦ [] ]
+        | false ↦ elim (eqb number eUnknownCharacter) [ true ↦ hex seen | false ↦ [] ]
       ]
     ]
 
@@ -98,18 +101,21 @@ isKind k = leb kEof k && leb k kRecord
 
 -- the numbers that 01 lists for scripts
 unfoldable pub isScriptError : ℕ → Bool
-isScriptError number = (leb 10 number && leb number 23) || (leb 31 number && leb number 34)
+isScriptError number =
+    (leb eTooDeep number && leb number eBadType)
+    || (leb eUnterminatedString number && leb number eInvalidNumber)
 
 -- for 11 a kind, else 0
 unfoldable pub isWanted : ℕ → ℕ → Bool
-isWanted number wanted = elim (eqb number 11) [ true ↦ isKind wanted | false ↦ eqb wanted 0 ]
+isWanted number wanted =
+    elim (eqb number eExpectedToken) [ true ↦ isKind wanted | false ↦ eqb wanted 0 ]
 
 -- for 10 to 23 a kind, for 33 a byte, else 0
 unfoldable pub isSeen : ℕ → ℕ → Bool
 isSeen number seen =
-    elim (leb number 23) [
+    elim (leb number eBadType) [
       | true ↦ isKind seen
-      | false ↦ elim (eqb number 33) [ true ↦ leb seen 255 | false ↦ eqb seen 0 ]
+      | false ↦ elim (eqb number eUnknownCharacter) [ true ↦ leb seen 255 | false ↦ eqb seen 0 ]
     ]
 
 unfoldable pub hasWords : Diagnostic → Bool
@@ -163,6 +169,6 @@ pub record Alike (e f : Diagnostic) : Type 0 where
 unfoldable pub described : Diagnostic → List ℕ → Result
 described e buffer =
     elim (ltb (length buffer) maxLine) [
-      | true ↦ refuse 41 buffer
-      | false ↦ elim (words e) [ none ↦ refuse 42 buffer | some w ↦ inFront w buffer ]
+      | true ↦ refuse rLineTooShort buffer
+      | false ↦ elim (words e) [ none ↦ refuse rNoWords buffer | some w ↦ inFront w buffer ]
     ]

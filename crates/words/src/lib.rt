@@ -1,6 +1,7 @@
 // An error of a script in words. docs/WORDS.md has the table.
 use lex::Diagnostic;
 use lex::Type;
+use rules::Refusal;
 use text::Writing;
 use text::write_byte;
 use text::write_text;
@@ -173,7 +174,7 @@ const KIND_BOUNDS: [usize; 45] = [
 fn write_phrase(number: u32, out: &mut [u8], at: usize) -> usize
     ensures { λ r. ⌜ Emits (phrase number) (now (out .entry)) at (now (out .exit)) r ⌝ }
 {
-    if 34 < number {
+    if Diagnostic::INVALID_NUMBER < number {
         return at;
     }
     let k = number as usize;
@@ -215,15 +216,15 @@ fn write_details(number: u32, wanted: u32, seen: u32, out: &mut [u8], at: usize)
         let text = details number wanted seen in
         ⌜ Emits text (now (out .entry)) at (now (out .exit)) r ⌝ }
 {
-    if number == 11 {
+    if number == Diagnostic::EXPECTED_TOKEN {
         let a = write_kind(wanted, out, at);
         let b = write_text(b", but found ", out, a);
         return write_kind(seen, out, b);
     }
-    if number <= 23 {
+    if number <= Diagnostic::BAD_TYPE {
         return write_kind(seen, out, at);
     }
-    if number == 33 {
+    if number == Diagnostic::UNKNOWN_CHARACTER {
         return write_hex(seen, out, at);
     }
     at
@@ -238,13 +239,14 @@ fn is_kind(k: u32) -> bool
 fn is_script_error(number: u32) -> bool
     ensures { λ r. ⌜ r ≡ isScriptError number ⌝ }
 {
-    ((10 <= number) & (number <= 23)) | ((31 <= number) & (number <= 34))
+    ((Diagnostic::TOO_DEEP <= number) & (number <= Diagnostic::BAD_TYPE))
+        | ((Diagnostic::UNTERMINATED_STRING <= number) & (number <= Diagnostic::INVALID_NUMBER))
 }
 
 fn is_wanted(number: u32, wanted: u32) -> bool
     ensures { λ r. ⌜ r ≡ isWanted number wanted ⌝ }
 {
-    if number == 11 {
+    if number == Diagnostic::EXPECTED_TOKEN {
         return is_kind(wanted);
     }
     wanted == 0
@@ -253,10 +255,10 @@ fn is_wanted(number: u32, wanted: u32) -> bool
 fn is_seen(number: u32, seen: u32) -> bool
     ensures { λ r. ⌜ r ≡ isSeen number seen ⌝ }
 {
-    if number <= 23 {
+    if number <= Diagnostic::BAD_TYPE {
         return is_kind(seen);
     }
-    if number == 33 {
+    if number == Diagnostic::UNKNOWN_CHARACTER {
         return seen <= 255;
     }
     seen == 0
@@ -275,11 +277,11 @@ pub fn describe(e: Diagnostic, line: &mut [u8]) -> Writing
         ⌜ result (answerOf r) (now (line .exit)) ≡ described e (now (line .entry)) ⌝ }
 {
     if line.len() < MAX_LINE {
-        return Writing::Refused(41);
+        return Writing::Refused(Refusal::LINE_TOO_SHORT);
     }
     if has_words(e) {
         let at = write_phrase(e.number, line, 0);
         return Writing::Written(write_details(e.number, e.wanted, e.seen, line, at));
     }
-    Writing::Refused(42)
+    Writing::Refused(Refusal::NO_WORDS)
 }
