@@ -1,4 +1,4 @@
-// Diagnostics: document 01's five numbers for an error of the script.
+// Diagnostics: document 01's five numbers for an error of the script. Refusals: the papers' numbers.
 
 // An error: its number, where its span starts and how long it is, the wanted kind (0 but for 11)
 // and the seen kind (for 33 the byte).
@@ -48,4 +48,27 @@ impl Diagnostic {
     pub const UNKNOWN_CHARACTER: u32 = 33;
 
     pub const INVALID_NUMBER: u32 = 34;
+}
+
+// Why a call is refused, by number. Nothing that is lent changes then.
+pub struct Refusal(pub u32);
+
+impl Refusal {
+    pub const TOO_LONG: u32 = 1; // the script is over 65,536 bytes
+
+    pub const TOO_SHORT: u32 = 2; // an array is shorter than its least length
+
+    pub const OUTSIDE: u32 = 3; // what is asked about lies outside
+
+    pub const MALFORMED: u32 = 4; // something visited is malformed
+
+    pub const LINE_TOO_SHORT: u32 = 41; // the buffer for an error in words is too short
+
+    pub const NO_WORDS: u32 = 42; // the numbers are no error of a script
+
+    pub const SHEET_TOO_SHORT: u32 = 44; // the buffer for a correction sheet is too short
+
+    pub const TOO_MANY_LINES: u32 = 47; // a practice sheet has at most 16 lines
+
+    pub const PRACTICE_TOO_SHORT: u32 = 48; // the buffer for a practice sheet is too short
 }

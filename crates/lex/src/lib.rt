@@ -18,6 +18,7 @@ use class::is_digit;
 use class::is_ident_start;
 use class::is_ws;
 pub use diagnostic::Diagnostic;
+pub use diagnostic::Refusal;
 pub use tok::Fault;
 pub use tok::Next;
 use tok::Piece;

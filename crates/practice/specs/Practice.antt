@@ -5,7 +5,7 @@ use mathlib.Core.List.{List, [], _∷_, _++_}
 use Prim.Native.Nat.{ℕ, zero, suc, _+_, _*_, _/_, _%_, _^_}
 use lib.Dec.{eqb, ltb}
 use lib.ListN.{length}
-use Rattle.rules.specs.Refusals.{rTooManyLines, rPracticeTooShort}
+use Rattle.lex.specs.Refusals.{rTooManyLines, rPracticeTooShort}
 use Rattle.text.specs.Text.{bytes, number as decimal}
 use Rattle.text.specs.Answer.{Result, refuse, inFront}
 

@@ -2,7 +2,7 @@
 mod draw;
 
 use crate::draw::next;
-use rules::Refusal;
+use lex::Refusal;
 use text::Writing;
 use text::write_byte;
 use text::write_number;

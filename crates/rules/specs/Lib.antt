@@ -5,7 +5,6 @@ pub mod Rules
 pub mod Parse
 pub mod Schema
 pub mod Layout
-pub mod Refusals
 pub mod Promise
 pub mod Shape
 pub mod Strike

@@ -11,7 +11,7 @@ use Rattle.rules.specs.Tree.{Tree}
 use Rattle.rules.specs.Parse.{Reading, read, ended}
 use Rattle.rules.specs.Layout.{nodeWidth, typeWidth, diagnosticWidth, zeros, padded}
 use Rattle.rules.specs.Layout.{nodeCells, typeCells, diagnosticCells}
-use Rattle.rules.specs.Refusals.{rTooLong, rTooShort}
+use Rattle.lex.specs.Refusals.{rTooLong, rTooShort}
 use Rattle.rules.specs.declared.Counts.{Counts}
 use Rattle.rules.specs.declared.Parsed.{Parsed}
 use Rattle.rules.specs.declared.Parsed.the-variants as P

@@ -2,11 +2,11 @@
 use ast::layout::cell;
 use lex::Diagnostic;
 use lex::MAX_BYTES;
+use lex::Refusal;
 use positions::Place;
 use positions::Position;
 use positions::advance;
 use rules::DIAGNOSTIC_WIDTH;
-use rules::Refusal;
 use text::Writing;
 use text::write_byte;
 use text::write_number;

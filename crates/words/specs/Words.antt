@@ -11,7 +11,7 @@ use Rattle.lex.specs.Kind.{kEof, kRecord}
 use Rattle.lex.specs.Errors.{eTooDeep, eExpectedToken, eBadType}
 use Rattle.lex.specs.Errors.{eUnterminatedString, eUnknownCharacter, eInvalidNumber}
 use Rattle.lex.specs.declared.diagnostic.Diagnostic.{Diagnostic}
-use Rattle.rules.specs.Refusals.{rLineTooShort, rNoWords}
+use Rattle.lex.specs.Refusals.{rLineTooShort, rNoWords}
 use Rattle.text.specs.Text.{bytes}
 use Rattle.text.specs.Answer.{Result, refuse, inFront}
 

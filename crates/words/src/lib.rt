@@ -1,7 +1,7 @@
 // An error of a script in words. docs/WORDS.md has the table.
 use lex::Diagnostic;
+use lex::Refusal;
 use lex::Type;
-use rules::Refusal;
 use text::Writing;
 use text::write_byte;
 use text::write_text;
