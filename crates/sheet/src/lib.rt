@@ -16,7 +16,7 @@ use words::describe;
 ghost use mathlib.Core.Path.{_≡_};
 ghost use Prim.Native.Nat.{_-_, _*_, _≤_};
 ghost use lib.ListN.{length};
-ghost use Rattle.rules.specs.Promise.{maxBytes};
+ghost use Rattle.lex.specs.Answer.{maxBytes};
 ghost use Rattle.text.specs.Answer.{result, answerOf};
 ghost use Rattle.text.specs.Emit.{Emits};
 ghost use Rattle.text.specs.Text.{number as numberOf};
