@@ -177,7 +177,9 @@ uint32_t purple_garden_token_span(const uint8_t *script, size_t script_len,
                                   uint32_t kind, size_t start, size_t length, uint64_t span[2]);
 
 /* The line and column of the byte at offset `at`, both counted from 1: `place` gets both. `at` may
- * be the script's length. */
+ * be the script's length. A column is 1 plus the number of bytes since the last line feed that are
+ * not UTF-8 continuation bytes, that is, not 128 to 191: a letter with an accent counts once. In
+ * `"Jos\u00e9" x` the x is the byte at offset 8, in column 8. */
 uint32_t purple_garden_line_column(const uint8_t *script, size_t script_len, uint32_t at,
                                    uint64_t place[2]);
 

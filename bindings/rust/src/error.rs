@@ -21,7 +21,9 @@ pub struct Diagnostic {
     pub span: Range<usize>,
     /// The kind of that token; nothing for what is no token.
     pub seen: Option<Kind>,
+    /// The line of the span's start, from 1.
     pub line: usize,
+    /// Its column, from 1, as [`Tree::line_column`](crate::Tree::line_column) counts it.
     pub column: usize,
 }
 

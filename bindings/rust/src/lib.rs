@@ -156,7 +156,15 @@ impl Tree {
         ffi::token_span(&self.script, token).unwrap_or_else(|number| panic!("no token of this script: refused with {number}"))
     }
 
-    /// The line and column of a byte position, both from 1; nothing where it lies past the script's end.
+    /// The line and column of a byte position, both from 1; nothing where it lies past the script's end. A column is
+    /// 1 plus the number of bytes since the last line feed that are not UTF-8 continuation bytes, that is, not 128 to
+    /// 191: a letter with an accent counts once, as an editor shows it.
+    ///
+    /// ```
+    /// let tree = purple_garden_reader::Tree::parse("\"José\" x")?;
+    /// assert_eq!((tree.script()[8], tree.line_column(8)), (b'x', Some((1, 8))));
+    /// # Ok::<(), purple_garden_reader::Error>(())
+    /// ```
     pub fn line_column(&self, at: usize) -> Option<(usize, usize)> {
         ffi::line_column(&self.script, at).ok()
     }

@@ -176,6 +176,17 @@ fn lookups() {
     assert_eq!((t.types().len(), t.nodes().len(), t.values()), (3, 2, 2));
 }
 
+/// A column counts the bytes since the last line feed that are no UTF-8 continuation bytes.
+#[test]
+fn columns() {
+    let t = Tree::parse_collect("let n = \"José\" $\nlet é = 1").unwrap();
+    let places: Vec<_> = t.diagnostics().map(|d| (d.problem.number(), d.span.start, d.line, d.column)).collect();
+    assert_eq!(places, [(33, 16, 1, 16), (33, 22, 2, 5), (33, 23, 2, 6), (12, 25, 2, 7)]);
+    let t = Tree::parse_collect(b"\x80\xbf\xc0\xff\x7f".as_slice()).unwrap();
+    let columns: Vec<_> = (0..=5).map(|at| t.line_column(at).unwrap().1).collect();
+    assert_eq!(columns, [1, 1, 1, 2, 3, 4]);
+}
+
 #[test]
 fn shapes() {
     for (left, right, same) in [

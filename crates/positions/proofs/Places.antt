@@ -7,11 +7,12 @@ use native.Mathlib.Omega.{arith}
 use native.Mathlib.Nat.{add-zero, zero-add}
 use native.Mathlib.Numerals.{add-one}
 use lib.Dec.{eqb, leb, ltb}
-use lib.ListN.{length, getD, take, drop, drop-of-length-le}
+use lib.ListN.{length, getD, take, drop, drop-of-length-le, length-take}
 use lib.Seq.{drop-cons, take-add}
-use borrow.Author.Tests.{lt-ltb, le-ltb, ltb-true, ltb-false, leb-true, eq-eqb, ne-eqb}
+use borrow.Author.Tests.{lt-ltb, le-ltb, ltb-true, ltb-false, lt-leb, le-leb, leb-true, eq-eqb, ne-eqb}
 use Rattle.lex.specs.Answer.{maxBytes, refused, answer}
-use Rattle.positions.specs.Position.{feeds, since, placeOf, placeAt, onward, maxPlace, goesOn, advanced}
+use Rattle.lex.specs.Bytes.{if, between}
+use Rattle.positions.specs.Position.{feeds, columnsOf, since, placeOf, placeAt, onward, maxPlace, goesOn, advanced}
 use Rattle.positions.specs.declared.Place.{Place}
 
 module _ (script : List ℕ) (at : ℕ) where
@@ -41,6 +42,32 @@ place-is script at p e = go (ltb maxBytes (length script)) (ltb (length script) 
         let h : answer (placeOf (take at script)) ≡ answer p = place-inside script at (ltb-false maxBytes (length script) a) (ltb-false (length script) at b) ∙ e in
         cc
 
+-- the columns of a byte
+module _ (b : ℕ) where
+  columns-is : (t : Bool) → between 128 191 b ≡ t → if t 0 1 ≡ columnsOf b
+  unfolding columnsOf
+  columns-is t e = ap (λ (u : Bool). if u 0 1) (sym e)
+
+  pub columns-below : b < 128 → 1 ≡ columnsOf b
+  unfolding between
+  columns-below h = columns-is false (rw (lt-leb 128 b h, between))
+
+  pub columns-above : 128 ≤ b → 191 < b → 1 ≡ columnsOf b
+  unfolding between
+  columns-above h l = columns-is false (rw (le-leb 128 b h, lt-leb b 191 l, between))
+
+  pub columns-none : 128 ≤ b → b ≤ 191 → 0 ≡ columnsOf b
+  unfolding between
+  columns-none h l = columns-is true (rw (le-leb 128 b h, le-leb b 191 l, between))
+
+  pub columns-le : columnsOf b ≤ 1
+  unfolding columnsOf
+  columns-le = go (between 128 191 b) refl
+    where
+      go : (t : Bool) → between 128 191 b ≡ t → columnsOf b ≤ 1
+      go true e = rw (e, columnsOf) (omega arith)
+      go false e = rw (e, columnsOf) (omega arith)
+
 -- a byte more
 module _ (b : ℕ) (bs : List ℕ) where
   pub feeds-feed : b ≡ 10 → feeds (b ∷ bs) ≡ suc (feeds bs)
@@ -55,7 +82,7 @@ module _ (b : ℕ) (bs : List ℕ) where
   unfolding since
   since-feed n e = rw (eq-eqb b 10 e)
 
-  pub since-other : (n : ℕ) → (b ≡ 10 → ⊥) → since n (b ∷ bs) ≡ since (n + 1) bs
+  pub since-other : (n : ℕ) → (b ≡ 10 → ⊥) → since n (b ∷ bs) ≡ since (n + columnsOf b) bs
   unfolding since
   since-other n e = rw (ne-eqb b 10 e)
 
@@ -86,14 +113,14 @@ module _ (n : ℕ) (bs : List ℕ) (i f s : ℕ) (h : i < length bs) (c : Counte
         passed = sym (since-feed (getD bs i 0) (drop (i + 1) bs) s e) ∙ ap (since s) (sym next) ∙ c .passed;
       }
 
-  pub counted-other : (getD bs i 0 ≡ 10 → ⊥) → Counted n bs (i + 1) f (s + 1)
+  pub counted-other : (getD bs i 0 ≡ 10 → ⊥) → Counted n bs (i + 1) f (s + columnsOf (getD bs i 0))
   counted-other e =
       let g : feeds (drop i bs) ≡ feeds (drop (i + 1) bs) = ap feeds next ∙ feeds-other (getD bs i 0) (drop (i + 1) bs) e in
       let k : f + feeds (drop i bs) ≡ feeds bs = c .fed in
       record {
         at = omega arith;
         lines = omega (arith, c .lines);
-        columns = omega (arith, c .columns);
+        columns = omega (arith, c .columns, columns-le (getD bs i 0));
         fed = omega arith;
         passed = sym (since-other (getD bs i 0) (drop (i + 1) bs) s e) ∙ ap (since s) (sym next) ∙ c .passed;
       }
@@ -105,6 +132,39 @@ counted-all p bs i f s h c =
     let k : f ≡ feeds bs = sym (add-zero f) ∙ ap (λ (l : List ℕ). f + feeds l) (sym d) ∙ c .fed in
     let q : s ≡ since (p .column - 1) bs = ap (since s) (sym d) ∙ c .passed in
     rw (← k, ← q)
+
+-- ---- a place in a script that is not too long
+
+feeds-le : (bs : List ℕ) → feeds bs ≤ length bs
+unfolding feeds
+feeds-le [] = omega arith
+feeds-le (b ∷ bs) = go (eqb b 10) refl (feeds-le bs)
+  where
+    go : (t : Bool) → eqb b 10 ≡ t → feeds bs ≤ length bs → feeds (b ∷ bs) ≤ suc (length bs)
+    go true e h = rw (e, feeds) (omega arith)
+    go false e h = rw (e, feeds) (omega arith)
+
+since-le : (n : ℕ) (bs : List ℕ) → since n bs ≤ n + length bs
+unfolding since
+since-le n [] = omega arith
+since-le n (b ∷ bs) = go (eqb b 10) refl (columns-le b) (since-le 0 bs) (since-le (n + columnsOf b) bs)
+  where
+    go : (t : Bool) → eqb b 10 ≡ t → columnsOf b ≤ 1 → since 0 bs ≤ 0 + length bs → since (n + columnsOf b) bs ≤ n + columnsOf b + length bs → since n (b ∷ bs) ≤ n + suc (length bs)
+    go true e o h k = rw (e, since) (omega arith)
+    go false e o h k = rw (e, since) (omega arith)
+
+pub record Near (p : Place) : Type 0 where
+  pub one : 1 ≤ p .column
+  pub column : p .column ≤ maxPlace
+  pub line : p .line ≤ maxPlace
+
+pub near : (script : List ℕ) (at : ℕ) → length script ≤ maxBytes → Near (placeOf (take at script))
+unfolding placeOf
+near script at h =
+    let l : length (take at script) ≤ length script = let k = length-take at script in omega arith in
+    let f = feeds-le (take at script) in
+    let s = since-le 0 (take at script) in
+    record { one = omega arith; column = omega arith; line = omega arith }
 
 -- ---- from a place that is known
 
@@ -120,9 +180,9 @@ feeds-append (x ∷ a) b = go (eqb x 10) refl (feeds-append a b)
 since-append : (n : ℕ) (a b : List ℕ) → since n (a ++ b) ≡ since (since n a) b
 unfolding since
 since-append n [] b = refl
-since-append n (x ∷ a) b = go (eqb x 10) refl (since-append 0 a b) (since-append (n + 1) a b)
+since-append n (x ∷ a) b = go (eqb x 10) refl (since-append 0 a b) (since-append (n + columnsOf x) a b)
   where
-    go : (t : Bool) → eqb x 10 ≡ t → since 0 (a ++ b) ≡ since (since 0 a) b → since (n + 1) (a ++ b) ≡ since (since (n + 1) a) b → since n (x ∷ (a ++ b)) ≡ since (since n (x ∷ a)) b
+    go : (t : Bool) → eqb x 10 ≡ t → since 0 (a ++ b) ≡ since (since 0 a) b → since (n + columnsOf x) (a ++ b) ≡ since (since (n + columnsOf x) a) b → since n (x ∷ (a ++ b)) ≡ since (since n (x ∷ a)) b
     go true e h k = rw (e, since) h
     go false e h k = rw (e, since) k
 
@@ -134,6 +194,13 @@ onward-append a b =
     let k : 1 + since 0 a - 1 ≡ since 0 a = omega arith in
     let s : since (1 + since 0 a - 1) b ≡ since 0 (a ++ b) = ap (λ (n : ℕ). since n b) k ∙ sym (since-append 0 a b) in
     rw (l, s)
+
+-- from the place of an earlier position
+pub onward-between : (script : List ℕ) (from to : ℕ) → from ≤ to → onward (placeOf (take from script)) (take (to - from) (drop from script)) ≡ placeOf (take to script)
+onward-between script from to h =
+    let sum : from + (to - from) ≡ to = omega arith in
+    onward-append (take from script) (take (to - from) (drop from script))
+    ∙ ap placeOf (sym (take-add from (to - from) script) ∙ ap (λ (n : ℕ). take n script) sum)
 
 pub onward-start : (before : List ℕ) → onward (record { line = 1; column = 1 }) before ≡ placeOf before
 unfolding onward placeOf
@@ -217,13 +284,9 @@ advanced-known script from known to is = go (ltb maxBytes (length script)) (ltb 
     go false false true a b d =
         let h = ltb-false maxBytes (length script) a in
         let l = ltb-false (length script) to b in
-        let x = ahead from known to d .ahead in
-        let sum : from + (to - from) ≡ to = omega arith in
-        let joined : take from script ++ take (to - from) (drop from script) ≡ take to script = sym (take-add from (to - from) script) ∙ ap (λ (n : ℕ). take n script) sum in
         let place : onward known (take (to - from) (drop from script)) ≡ placeOf (take to script) =
         ap (λ (p : Place). onward p (take (to - from) (drop from script))) is
-        ∙ onward-append (take from script) (take (to - from) (drop from script))
-        ∙ ap placeOf joined in
+        ∙ onward-between script from to (ahead from known to d .ahead) in
         sym (advanced-on script from known to h l d) ∙ ap answer place ∙ place-inside script to h l
 
 pub advanced-start : (script : List ℕ) (to : ℕ) → advanced script 0 (record { line = 1; column = 1 }) to ≡ placeAt script to

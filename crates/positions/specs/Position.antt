@@ -5,7 +5,7 @@ use Prim.Native.Nat.{ℕ, suc, _+_, _-_}
 use lib.Dec.{eqb, leb, ltb}
 use lib.ListN.{length, take, drop}
 use Rattle.lex.specs.Answer.{maxBytes, Answer, refused, answer}
-use Rattle.lex.specs.Bytes.{if}
+use Rattle.lex.specs.Bytes.{if, between}
 use Rattle.positions.specs.declared.Place.{Place}
 use Rattle.positions.specs.declared.Position.{Position}
 use Rattle.positions.specs.declared.Position.the-variants as P
@@ -15,10 +15,14 @@ unfoldable pub feeds : List ℕ → ℕ
 feeds [] = 0
 feeds (b ∷ bs) = if (eqb b 10) (suc (feeds bs)) (feeds bs)
 
--- the bytes since the last line feed, `n` having been passed since it before
+-- the columns that a byte takes: none if it is a UTF-8 continuation byte, that is, 128 to 191
+unfoldable pub columnsOf : ℕ → ℕ
+columnsOf b = if (between 128 191 b) 0 1
+
+-- the columns since the last line feed, `n` having been passed since it before
 unfoldable pub since : ℕ → List ℕ → ℕ
 since n [] = n
-since n (b ∷ bs) = if (eqb b 10) (since 0 bs) (since (n + 1) bs)
+since n (b ∷ bs) = if (eqb b 10) (since 0 bs) (since (n + columnsOf b) bs)
 
 unfoldable pub placeOf : List ℕ → Place
 placeOf before = record { line = 1 + feeds before; column = 1 + since 0 before }

@@ -9,7 +9,7 @@ ghost use Prim.Native.Nat.{_≤_};
 ghost use lib.ListN.{length};
 ghost use Rattle.lex.specs.Spelling.{wellFormed};
 ghost use Rattle.positions.specs.Span.{spanOf, tokenSpan, spanAnswer};
-ghost use Rattle.positions.specs.Position.{onward, goesOn, advanced, placeAt, positionAnswer};
+ghost use Rattle.positions.specs.Position.{columnsOf, onward, goesOn, advanced, placeAt, positionAnswer};
 
 pub struct Span {
     pub start: usize,
@@ -78,8 +78,26 @@ pub enum Position {
 
 const LINE_FEED: u8 = 10;
 
+// The UTF-8 continuation bytes.
+const FIRST_CONTINUATION: u8 = 128;
+
+const LAST_CONTINUATION: u8 = 191;
+
 // The greatest line and the greatest column of a script that is not too long.
 const MAX_PLACE: u32 = 65537;
+
+// The columns that a byte takes: none if it is a UTF-8 continuation byte.
+fn columns_of(b: u8) -> u32
+    ensures { λ r. ⌜ r ≡ columnsOf b ⌝ }
+{
+    if b < FIRST_CONTINUATION {
+        return 1;
+    }
+    if LAST_CONTINUATION < b {
+        return 1;
+    }
+    0
+}
 
 // The place behind some bytes, from the place before them.
 fn place_after(before: Place, bytes: &[u8]) -> Place
@@ -93,11 +111,12 @@ fn place_after(before: Place, bytes: &[u8]) -> Place
     let mut since: u32 = before.column - 1;
     let mut i = 0;
     while i < bytes.len() {
-        if bytes[i] == LINE_FEED {
+        let b = bytes[i];
+        if b == LINE_FEED {
             feeds += 1;
             since = 0;
         } else {
-            since += 1;
+            since += columns_of(b);
         }
         i += 1;
     }

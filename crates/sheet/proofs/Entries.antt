@@ -14,13 +14,13 @@ use Rattle.lex.specs.declared.diagnostic.Diagnostic.{Diagnostic}
 use Rattle.lex.specs.Answer.{maxBytes, Answer, refused, answer}
 use Rattle.positions.specs.Position.{placeOf, placeAt}
 use Rattle.positions.specs.declared.Place.{Place}
-use Rattle.positions.proofs.Places.{place-outside, place-inside}
+use Rattle.positions.proofs.Places.{place-outside, place-inside, near}
 use Rattle.words.specs.Words.{words, printable}
 use Rattle.words.proofs.Forms.{worded, script-error-small, script-error-two-digits}
 use Rattle.words.proofs.Lines.{is-line}
 use Rattle.sheet.specs.Sheet.{heading, body, entry, wordsIn, blank}
 use Rattle.sheet.specs.Count.{sized, textIn, linesAt}
-use Rattle.sheet.proofs.Length.{heading-length, heading-seen, near, lineCount, pieces-length}
+use Rattle.sheet.proofs.Length.{heading-length, heading-seen, lineCount, pieces-length}
 use Rattle.sheet.proofs.Back.{words-back}
 use Rattle.sheet.proofs.Rows.{InLines, printable-heading, lines-of}
 
@@ -80,7 +80,7 @@ module _ (script : List ℕ) (e : Diagnostic) (w : List ℕ) (small : length scr
       let n = near script (e .start) small in
       let r = worded e w p in
       let l : e .number < 35 = script-error-small (e .number) (r .listed) in
-      heading-length (placeOf (take (e .start) script)) (e .number) (n .line) (n .column) (script-error-two-digits (e .number) (r .listed)) (omega arith)
+      heading-length (placeOf (take (e .start) script)) (e .number) (omega arith) (omega arith) (script-error-two-digits (e .number) (r .listed)) (omega arith)
 
   front-ascii : printable front ≡ true
   unfolding front

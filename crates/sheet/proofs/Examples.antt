@@ -5,7 +5,8 @@ use mathlib.Core.List.{List, [], _∷_, _++_}
 use Prim.Native.Nat.{ℕ}
 use lib.ListN.{take}
 use Rattle.lex.specs.Answer.{refused, answer}
-use Rattle.positions.specs.Position.{feeds, since, placeOf, placeAt}
+use Rattle.lex.specs.Bytes.{between}
+use Rattle.positions.specs.Position.{feeds, columnsOf, since, placeOf, placeAt}
 use Rattle.text.specs.Text.{bytes, digits, number}
 use Rattle.words.specs.Words.{isKind, isScriptError, isWanted, isSeen, hasWords, words}
 use Rattle.sheet.specs.Sheet.{right, heading, pieces, body, entry, upTo, sheetOf}
@@ -16,7 +17,7 @@ script = bytes "let x = 1" ++ (10 ∷ bytes "let y 2")
 
 -- places 1 to 15
 places : heading (placeOf (take 16 script)) 11 ≡ bytes "    2     7 11 "
-unfolding script heading right number digits bytes placeOf feeds since
+unfolding script heading right number digits bytes placeOf feeds since columnsOf between
 places = refl
 
 -- words of 57 bytes fill their line

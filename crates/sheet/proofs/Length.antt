@@ -8,8 +8,6 @@ use native.Mathlib.Omega.{arith}
 use lib.Dec.{leb, ltb, eqb}
 use lib.ListN.{length, take, drop, length-append, length-take, length-drop, length-replicate}
 use borrow.Author.Tests.{leb-true, leb-false, ltb-true, ltb-false, ne-eqb}
-use Rattle.lex.specs.Answer.{maxBytes}
-use Rattle.positions.specs.Position.{feeds, since, placeOf}
 use Rattle.positions.specs.declared.Place.{Place}
 use Rattle.text.specs.Text.{number}
 use Rattle.text.proofs.EmitLaws.{one-digit, more-digits}
@@ -123,39 +121,6 @@ unfolding heading right
 heading-seen p n =
     blank-left (right (number (p .line))) (blanks 1 ++ (right (number (p .column)) ++ (blanks 1 ++ (number n ++ blanks 1))))
     (blank-right (blanks (5 - length (number (p .line)))) (number (p .line)) (number-seen (p .line)))
-
--- ---- a place in a script that is not too long
-
-feeds-le : (bs : List ℕ) → feeds bs ≤ length bs
-unfolding feeds
-feeds-le [] = omega arith
-feeds-le (b ∷ bs) = go (eqb b 10) refl (feeds-le bs)
-  where
-    go : (t : Bool) → eqb b 10 ≡ t → feeds bs ≤ length bs → feeds (b ∷ bs) ≤ suc (length bs)
-    go true e h = rw (e, feeds) (omega arith)
-    go false e h = rw (e, feeds) (omega arith)
-
-since-le : (n : ℕ) (bs : List ℕ) → since n bs ≤ n + length bs
-unfolding since
-since-le n [] = omega arith
-since-le n (b ∷ bs) = go (eqb b 10) refl (since-le 0 bs) (since-le (n + 1) bs)
-  where
-    go : (t : Bool) → eqb b 10 ≡ t → since 0 bs ≤ 0 + length bs → since (n + 1) bs ≤ n + 1 + length bs → since n (b ∷ bs) ≤ n + suc (length bs)
-    go true e h k = rw (e, since) (omega arith)
-    go false e h k = rw (e, since) (omega arith)
-
--- five digits are enough for a line and for a column
-pub record Near (p : Place) : Type 0 where
-  pub line : p .line < 100000
-  pub column : p .column < 100000
-
-pub near : (script : List ℕ) (at : ℕ) → length script ≤ maxBytes → Near (placeOf (take at script))
-unfolding placeOf
-near script at h =
-    let l : length (take at script) ≤ length script = let k = length-take at script in omega arith in
-    let f = feeds-le (take at script) in
-    let s = since-le 0 (take at script) in
-    record { line = omega arith; column = omega arith }
 
 -- ---- the pieces
 

@@ -20,7 +20,7 @@ use Rattle.ast.specs.Tabulate.{rows, entriesBelow, entryAt}
 use Rattle.ast.specs.Answer.{unless, unlessMalformed, lent, refusal, recordAsked}
 use Rattle.ast.specs.Lookup.{tokenStart, orElse, matchStart, startOf, nodeStart, spelled, wellFormedToken, typeTokenOf, typeToken}
 use Rattle.positions.specs.Span.{spanOf, tokenSpan}
-use Rattle.positions.specs.Position.{feeds, since, placeOf, placeAt}
+use Rattle.positions.specs.Position.{feeds, columnsOf, since, placeOf, placeAt}
 use Rattle.compare.specs.Shapes.{typesBelow, nodesBelow, rootShapes}
 use Rattle.compare.specs.Same.{computed}
 use Rattle.compare.specs.Compare.{refusals, compareShapes, compare}
@@ -50,7 +50,7 @@ unfolding tokens tokenSpan spanOf asStrLength
 span = tt
 
 unfoldable place : Unit {0}
-unfolding placeAt placeOf feeds since
+unfolding placeAt placeOf feeds since columnsOf between
 place = tt
 
 unfoldable comparison : Unit {0}
@@ -377,252 +377,267 @@ case-63 : placeAt (97 ∷ 10 ∷ 10 ∷ 98 ∷ 99 ∷ []) 6 ≡ refused 3
 unfolding place
 case-63 = refl
 
--- place in 65,536 bytes
-case-64 : placeAt (replicate 65536 32) 3 ≡ answer (record { line = 1; column = 4 })
+-- place behind an accent
+case-64 : placeAt (195 ∷ 169 ∷ 33 ∷ 120 ∷ []) 3 ≡ answer (record { line = 1; column = 3 })
 unfolding place
 case-64 = refl
 
--- place past the end of 65,536 bytes
-case-65 : placeAt (replicate 65536 32) 65537 ≡ refused 3
+-- place between the two bytes of an accent
+case-65 : placeAt (195 ∷ 169 ∷ 33 ∷ 120 ∷ []) 1 ≡ answer (record { line = 1; column = 2 })
 unfolding place
 case-65 = refl
 
--- place past the end of 65,537 bytes
-case-66 : placeAt (replicate 65537 32) 65538 ≡ refused 1
+-- place behind broken UTF-8
+case-66 : placeAt (191 ∷ 10 ∷ 128 ∷ 127 ∷ 191 ∷ 192 ∷ 255 ∷ 33 ∷ []) 8 ≡ answer (record { line = 2; column = 5 })
 unfolding place
 case-66 = refl
 
--- a + b and a+b, its nodes in another order
-case-67 : compare (lent (97 ∷ 32 ∷ 43 ∷ 32 ∷ 98 ∷ []) (padded 80 (2 ∷ 0 ∷ 25 ∷ 0 ∷ 1 ∷ 0 ∷ 0 ∷ 0 ∷ 0 ∷ 0 ∷ 0 ∷ 0 ∷ 0 ∷ 0 ∷ 0 ∷ 0 ∷ 2 ∷ 0 ∷ 25 ∷ 4 ∷ 1 ∷ 0 ∷ 0 ∷ 0 ∷ 0 ∷ 0 ∷ 0 ∷ 0 ∷ 0 ∷ 0 ∷ 0 ∷ 0 ∷ 3 ∷ 2 ∷ 4 ∷ 2 ∷ 1 ∷ 0 ∷ 1 ∷ [])) (padded 40 ([])) (padded 40 ([])) (padded 5 (2 ∷ [])) (counts 3 0 0 1)) (lent (97 ∷ 43 ∷ 98 ∷ []) (padded 48 (2 ∷ 0 ∷ 25 ∷ 2 ∷ 1 ∷ 0 ∷ 0 ∷ 0 ∷ 0 ∷ 0 ∷ 0 ∷ 0 ∷ 0 ∷ 0 ∷ 0 ∷ 0 ∷ 2 ∷ 0 ∷ 25 ∷ 0 ∷ 1 ∷ 0 ∷ 0 ∷ 0 ∷ 0 ∷ 0 ∷ 0 ∷ 0 ∷ 0 ∷ 0 ∷ 0 ∷ 0 ∷ 3 ∷ 9 ∷ 4 ∷ 1 ∷ 1 ∷ 1 ∷ [])) (padded 24 ([])) (padded 24 ([])) (padded 3 (2 ∷ [])) (counts 3 0 0 1)) ≡ answer true
-unfolding comparison
+-- place in 65,536 bytes
+case-67 : placeAt (replicate 65536 32) 3 ≡ answer (record { line = 1; column = 4 })
+unfolding place
 case-67 = refl
 
--- a + b and a+c
-case-68 : compare (lent (97 ∷ 32 ∷ 43 ∷ 32 ∷ 98 ∷ []) (padded 80 (2 ∷ 0 ∷ 25 ∷ 0 ∷ 1 ∷ 0 ∷ 0 ∷ 0 ∷ 0 ∷ 0 ∷ 0 ∷ 0 ∷ 0 ∷ 0 ∷ 0 ∷ 0 ∷ 2 ∷ 0 ∷ 25 ∷ 4 ∷ 1 ∷ 0 ∷ 0 ∷ 0 ∷ 0 ∷ 0 ∷ 0 ∷ 0 ∷ 0 ∷ 0 ∷ 0 ∷ 0 ∷ 3 ∷ 2 ∷ 4 ∷ 2 ∷ 1 ∷ 0 ∷ 1 ∷ [])) (padded 40 ([])) (padded 40 ([])) (padded 5 (2 ∷ [])) (counts 3 0 0 1)) (lent (97 ∷ 43 ∷ 99 ∷ []) (padded 48 (2 ∷ 0 ∷ 25 ∷ 0 ∷ 1 ∷ 0 ∷ 0 ∷ 0 ∷ 0 ∷ 0 ∷ 0 ∷ 0 ∷ 0 ∷ 0 ∷ 0 ∷ 0 ∷ 2 ∷ 0 ∷ 25 ∷ 2 ∷ 1 ∷ 0 ∷ 0 ∷ 0 ∷ 0 ∷ 0 ∷ 0 ∷ 0 ∷ 0 ∷ 0 ∷ 0 ∷ 0 ∷ 3 ∷ 2 ∷ 4 ∷ 1 ∷ 1 ∷ 0 ∷ 1 ∷ [])) (padded 24 ([])) (padded 24 ([])) (padded 3 (2 ∷ [])) (counts 3 0 0 1)) ≡ answer false
-unfolding comparison
+-- place past the end of 65,536 bytes
+case-68 : placeAt (replicate 65536 32) 65537 ≡ refused 3
+unfolding place
 case-68 = refl
 
--- a + b and a*b
-case-69 : compare (lent (97 ∷ 32 ∷ 43 ∷ 32 ∷ 98 ∷ []) (padded 80 (2 ∷ 0 ∷ 25 ∷ 0 ∷ 1 ∷ 0 ∷ 0 ∷ 0 ∷ 0 ∷ 0 ∷ 0 ∷ 0 ∷ 0 ∷ 0 ∷ 0 ∷ 0 ∷ 2 ∷ 0 ∷ 25 ∷ 4 ∷ 1 ∷ 0 ∷ 0 ∷ 0 ∷ 0 ∷ 0 ∷ 0 ∷ 0 ∷ 0 ∷ 0 ∷ 0 ∷ 0 ∷ 3 ∷ 2 ∷ 4 ∷ 2 ∷ 1 ∷ 0 ∷ 1 ∷ [])) (padded 40 ([])) (padded 40 ([])) (padded 5 (2 ∷ [])) (counts 3 0 0 1)) (lent (97 ∷ 42 ∷ 98 ∷ []) (padded 48 (2 ∷ 0 ∷ 25 ∷ 0 ∷ 1 ∷ 0 ∷ 0 ∷ 0 ∷ 0 ∷ 0 ∷ 0 ∷ 0 ∷ 0 ∷ 0 ∷ 0 ∷ 0 ∷ 2 ∷ 0 ∷ 25 ∷ 2 ∷ 1 ∷ 0 ∷ 0 ∷ 0 ∷ 0 ∷ 0 ∷ 0 ∷ 0 ∷ 0 ∷ 0 ∷ 0 ∷ 0 ∷ 3 ∷ 2 ∷ 6 ∷ 1 ∷ 1 ∷ 0 ∷ 1 ∷ [])) (padded 24 ([])) (padded 24 ([])) (padded 3 (2 ∷ [])) (counts 3 0 0 1)) ≡ answer false
-unfolding comparison
+-- place past the end of 65,537 bytes
+case-69 : placeAt (replicate 65537 32) 65538 ≡ refused 1
+unfolding place
 case-69 = refl
 
--- one root more
-case-70 : compare (lent (97 ∷ 32 ∷ 43 ∷ 32 ∷ 98 ∷ []) (padded 80 (2 ∷ 0 ∷ 25 ∷ 0 ∷ 1 ∷ 0 ∷ 0 ∷ 0 ∷ 0 ∷ 0 ∷ 0 ∷ 0 ∷ 0 ∷ 0 ∷ 0 ∷ 0 ∷ 2 ∷ 0 ∷ 25 ∷ 4 ∷ 1 ∷ 0 ∷ 0 ∷ 0 ∷ 0 ∷ 0 ∷ 0 ∷ 0 ∷ 0 ∷ 0 ∷ 0 ∷ 0 ∷ 3 ∷ 2 ∷ 4 ∷ 2 ∷ 1 ∷ 0 ∷ 1 ∷ [])) (padded 40 ([])) (padded 40 ([])) (padded 5 (2 ∷ [])) (counts 3 0 0 1)) (lent (97 ∷ 43 ∷ 98 ∷ []) (padded 48 (2 ∷ 0 ∷ 25 ∷ 0 ∷ 1 ∷ 0 ∷ 0 ∷ 0 ∷ 0 ∷ 0 ∷ 0 ∷ 0 ∷ 0 ∷ 0 ∷ 0 ∷ 0 ∷ 2 ∷ 0 ∷ 25 ∷ 2 ∷ 1 ∷ 0 ∷ 0 ∷ 0 ∷ 0 ∷ 0 ∷ 0 ∷ 0 ∷ 0 ∷ 0 ∷ 0 ∷ 0 ∷ 3 ∷ 2 ∷ 4 ∷ 1 ∷ 1 ∷ 0 ∷ 1 ∷ [])) (padded 24 ([])) (padded 24 ([])) (padded 3 (2 ∷ [])) (counts 3 0 0 2)) ≡ answer false
+-- a + b and a+b, its nodes in another order
+case-70 : compare (lent (97 ∷ 32 ∷ 43 ∷ 32 ∷ 98 ∷ []) (padded 80 (2 ∷ 0 ∷ 25 ∷ 0 ∷ 1 ∷ 0 ∷ 0 ∷ 0 ∷ 0 ∷ 0 ∷ 0 ∷ 0 ∷ 0 ∷ 0 ∷ 0 ∷ 0 ∷ 2 ∷ 0 ∷ 25 ∷ 4 ∷ 1 ∷ 0 ∷ 0 ∷ 0 ∷ 0 ∷ 0 ∷ 0 ∷ 0 ∷ 0 ∷ 0 ∷ 0 ∷ 0 ∷ 3 ∷ 2 ∷ 4 ∷ 2 ∷ 1 ∷ 0 ∷ 1 ∷ [])) (padded 40 ([])) (padded 40 ([])) (padded 5 (2 ∷ [])) (counts 3 0 0 1)) (lent (97 ∷ 43 ∷ 98 ∷ []) (padded 48 (2 ∷ 0 ∷ 25 ∷ 2 ∷ 1 ∷ 0 ∷ 0 ∷ 0 ∷ 0 ∷ 0 ∷ 0 ∷ 0 ∷ 0 ∷ 0 ∷ 0 ∷ 0 ∷ 2 ∷ 0 ∷ 25 ∷ 0 ∷ 1 ∷ 0 ∷ 0 ∷ 0 ∷ 0 ∷ 0 ∷ 0 ∷ 0 ∷ 0 ∷ 0 ∷ 0 ∷ 0 ∷ 3 ∷ 9 ∷ 4 ∷ 1 ∷ 1 ∷ 1 ∷ [])) (padded 24 ([])) (padded 24 ([])) (padded 3 (2 ∷ [])) (counts 3 0 0 1)) ≡ answer true
 unfolding comparison
 case-70 = refl
 
--- no roots
-case-71 : compare (lent ([]) (padded 0 ([])) (padded 0 ([])) (padded 0 ([])) (padded 0 ([])) (counts 0 0 0 0)) (lent (97 ∷ []) (padded 16 ([])) (padded 8 ([])) (padded 8 ([])) (padded 1 ([])) (counts 0 0 0 0)) ≡ answer true
+-- a + b and a+c
+case-71 : compare (lent (97 ∷ 32 ∷ 43 ∷ 32 ∷ 98 ∷ []) (padded 80 (2 ∷ 0 ∷ 25 ∷ 0 ∷ 1 ∷ 0 ∷ 0 ∷ 0 ∷ 0 ∷ 0 ∷ 0 ∷ 0 ∷ 0 ∷ 0 ∷ 0 ∷ 0 ∷ 2 ∷ 0 ∷ 25 ∷ 4 ∷ 1 ∷ 0 ∷ 0 ∷ 0 ∷ 0 ∷ 0 ∷ 0 ∷ 0 ∷ 0 ∷ 0 ∷ 0 ∷ 0 ∷ 3 ∷ 2 ∷ 4 ∷ 2 ∷ 1 ∷ 0 ∷ 1 ∷ [])) (padded 40 ([])) (padded 40 ([])) (padded 5 (2 ∷ [])) (counts 3 0 0 1)) (lent (97 ∷ 43 ∷ 99 ∷ []) (padded 48 (2 ∷ 0 ∷ 25 ∷ 0 ∷ 1 ∷ 0 ∷ 0 ∷ 0 ∷ 0 ∷ 0 ∷ 0 ∷ 0 ∷ 0 ∷ 0 ∷ 0 ∷ 0 ∷ 2 ∷ 0 ∷ 25 ∷ 2 ∷ 1 ∷ 0 ∷ 0 ∷ 0 ∷ 0 ∷ 0 ∷ 0 ∷ 0 ∷ 0 ∷ 0 ∷ 0 ∷ 0 ∷ 3 ∷ 2 ∷ 4 ∷ 1 ∷ 1 ∷ 0 ∷ 1 ∷ [])) (padded 24 ([])) (padded 24 ([])) (padded 3 (2 ∷ [])) (counts 3 0 0 1)) ≡ answer false
 unfolding comparison
 case-71 = refl
 
--- a name and a number
-case-72 : compare (lent (97 ∷ []) (padded 16 (2 ∷ 0 ∷ 25 ∷ 0 ∷ 1 ∷ [])) (padded 8 ([])) (padded 8 ([])) (padded 1 ([])) (counts 1 0 0 1)) (lent (49 ∷ []) (padded 16 (1 ∷ 0 ∷ 24 ∷ 0 ∷ 1 ∷ [])) (padded 8 ([])) (padded 8 ([])) (padded 1 ([])) (counts 1 0 0 1)) ≡ answer false
+-- a + b and a*b
+case-72 : compare (lent (97 ∷ 32 ∷ 43 ∷ 32 ∷ 98 ∷ []) (padded 80 (2 ∷ 0 ∷ 25 ∷ 0 ∷ 1 ∷ 0 ∷ 0 ∷ 0 ∷ 0 ∷ 0 ∷ 0 ∷ 0 ∷ 0 ∷ 0 ∷ 0 ∷ 0 ∷ 2 ∷ 0 ∷ 25 ∷ 4 ∷ 1 ∷ 0 ∷ 0 ∷ 0 ∷ 0 ∷ 0 ∷ 0 ∷ 0 ∷ 0 ∷ 0 ∷ 0 ∷ 0 ∷ 3 ∷ 2 ∷ 4 ∷ 2 ∷ 1 ∷ 0 ∷ 1 ∷ [])) (padded 40 ([])) (padded 40 ([])) (padded 5 (2 ∷ [])) (counts 3 0 0 1)) (lent (97 ∷ 42 ∷ 98 ∷ []) (padded 48 (2 ∷ 0 ∷ 25 ∷ 0 ∷ 1 ∷ 0 ∷ 0 ∷ 0 ∷ 0 ∷ 0 ∷ 0 ∷ 0 ∷ 0 ∷ 0 ∷ 0 ∷ 0 ∷ 2 ∷ 0 ∷ 25 ∷ 2 ∷ 1 ∷ 0 ∷ 0 ∷ 0 ∷ 0 ∷ 0 ∷ 0 ∷ 0 ∷ 0 ∷ 0 ∷ 0 ∷ 0 ∷ 3 ∷ 2 ∷ 6 ∷ 1 ∷ 1 ∷ 0 ∷ 1 ∷ [])) (padded 24 ([])) (padded 24 ([])) (padded 3 (2 ∷ [])) (counts 3 0 0 1)) ≡ answer false
 unfolding comparison
 case-72 = refl
 
--- a call with one argument more
-case-73 : compare (lent (102 ∷ 32 ∷ 97 ∷ 32 ∷ []) (padded 64 (2 ∷ 0 ∷ 25 ∷ 0 ∷ 1 ∷ 0 ∷ 0 ∷ 0 ∷ 0 ∷ 0 ∷ 0 ∷ 0 ∷ 0 ∷ 0 ∷ 0 ∷ 0 ∷ 2 ∷ 0 ∷ 25 ∷ 2 ∷ 1 ∷ 0 ∷ 0 ∷ 0 ∷ 0 ∷ 0 ∷ 0 ∷ 0 ∷ 0 ∷ 0 ∷ 0 ∷ 0 ∷ 8 ∷ 2 ∷ [])) (padded 32 ([])) (padded 32 (1 ∷ [])) (padded 4 (2 ∷ [])) (counts 3 0 1 1)) (lent (102 ∷ 32 ∷ 97 ∷ 32 ∷ []) (padded 64 (2 ∷ 0 ∷ 25 ∷ 0 ∷ 1 ∷ 0 ∷ 0 ∷ 0 ∷ 0 ∷ 0 ∷ 0 ∷ 0 ∷ 0 ∷ 0 ∷ 0 ∷ 0 ∷ 2 ∷ 0 ∷ 25 ∷ 2 ∷ 1 ∷ 0 ∷ 0 ∷ 0 ∷ 0 ∷ 0 ∷ 0 ∷ 0 ∷ 0 ∷ 0 ∷ 0 ∷ 0 ∷ 8 ∷ 2 ∷ 0 ∷ 0 ∷ 1 ∷ [])) (padded 32 ([])) (padded 32 (1 ∷ [])) (padded 4 (2 ∷ [])) (counts 3 0 1 1)) ≡ answer false
+-- one root more
+case-73 : compare (lent (97 ∷ 32 ∷ 43 ∷ 32 ∷ 98 ∷ []) (padded 80 (2 ∷ 0 ∷ 25 ∷ 0 ∷ 1 ∷ 0 ∷ 0 ∷ 0 ∷ 0 ∷ 0 ∷ 0 ∷ 0 ∷ 0 ∷ 0 ∷ 0 ∷ 0 ∷ 2 ∷ 0 ∷ 25 ∷ 4 ∷ 1 ∷ 0 ∷ 0 ∷ 0 ∷ 0 ∷ 0 ∷ 0 ∷ 0 ∷ 0 ∷ 0 ∷ 0 ∷ 0 ∷ 3 ∷ 2 ∷ 4 ∷ 2 ∷ 1 ∷ 0 ∷ 1 ∷ [])) (padded 40 ([])) (padded 40 ([])) (padded 5 (2 ∷ [])) (counts 3 0 0 1)) (lent (97 ∷ 43 ∷ 98 ∷ []) (padded 48 (2 ∷ 0 ∷ 25 ∷ 0 ∷ 1 ∷ 0 ∷ 0 ∷ 0 ∷ 0 ∷ 0 ∷ 0 ∷ 0 ∷ 0 ∷ 0 ∷ 0 ∷ 0 ∷ 2 ∷ 0 ∷ 25 ∷ 2 ∷ 1 ∷ 0 ∷ 0 ∷ 0 ∷ 0 ∷ 0 ∷ 0 ∷ 0 ∷ 0 ∷ 0 ∷ 0 ∷ 0 ∷ 3 ∷ 2 ∷ 4 ∷ 1 ∷ 1 ∷ 0 ∷ 1 ∷ [])) (padded 24 ([])) (padded 24 ([])) (padded 3 (2 ∷ [])) (counts 3 0 0 2)) ≡ answer false
 unfolding comparison
 case-73 = refl
 
--- a let with a doc
-case-74 : compare (lent (35 ∷ 33 ∷ 100 ∷ 32 ∷ 97 ∷ []) (padded 80 (2 ∷ 0 ∷ 25 ∷ 4 ∷ 1 ∷ 0 ∷ 0 ∷ 0 ∷ 0 ∷ 0 ∷ 0 ∷ 0 ∷ 0 ∷ 0 ∷ 0 ∷ 0 ∷ 5 ∷ 1 ∷ 0 ∷ 0 ∷ 25 ∷ 4 ∷ 1 ∷ [])) (padded 40 ([])) (padded 40 (26 ∷ 0 ∷ 1 ∷ [])) (padded 5 (1 ∷ [])) (counts 2 0 3 1)) (lent (35 ∷ 33 ∷ 100 ∷ 32 ∷ 97 ∷ []) (padded 80 (2 ∷ 0 ∷ 25 ∷ 4 ∷ 1 ∷ 0 ∷ 0 ∷ 0 ∷ 0 ∷ 0 ∷ 0 ∷ 0 ∷ 0 ∷ 0 ∷ 0 ∷ 0 ∷ 5 ∷ 1 ∷ 0 ∷ 1 ∷ 25 ∷ 4 ∷ 1 ∷ [])) (padded 40 ([])) (padded 40 (26 ∷ 0 ∷ 1 ∷ [])) (padded 5 (1 ∷ [])) (counts 2 0 3 1)) ≡ answer false
+-- no roots
+case-74 : compare (lent ([]) (padded 0 ([])) (padded 0 ([])) (padded 0 ([])) (padded 0 ([])) (counts 0 0 0 0)) (lent (97 ∷ []) (padded 16 ([])) (padded 8 ([])) (padded 8 ([])) (padded 1 ([])) (counts 0 0 0 0)) ≡ answer true
 unfolding comparison
 case-74 = refl
 
--- a case's own token, well formed, is left out
-case-75 : compare (lent (97 ∷ 98 ∷ 99 ∷ []) (padded 48 (2 ∷ 0 ∷ 25 ∷ 0 ∷ 1 ∷ 0 ∷ 0 ∷ 0 ∷ 0 ∷ 0 ∷ 0 ∷ 0 ∷ 0 ∷ 0 ∷ 0 ∷ 0 ∷ 2 ∷ 0 ∷ 25 ∷ 1 ∷ 1 ∷ 0 ∷ 0 ∷ 0 ∷ 0 ∷ 0 ∷ 0 ∷ 0 ∷ 0 ∷ 0 ∷ 0 ∷ 0 ∷ 7 ∷ 2 ∷ 0 ∷ 1 ∷ 20 ∷ 0 ∷ 1 ∷ 7 ∷ 1 ∷ [])) (padded 24 ([])) (padded 24 (20 ∷ 0 ∷ 1 ∷ 0 ∷ 6 ∷ 1 ∷ 1 ∷ 1 ∷ [])) (padded 3 (2 ∷ [])) (counts 3 0 8 1)) (lent (97 ∷ 98 ∷ 99 ∷ []) (padded 48 (2 ∷ 0 ∷ 25 ∷ 0 ∷ 1 ∷ 0 ∷ 0 ∷ 0 ∷ 0 ∷ 0 ∷ 0 ∷ 0 ∷ 0 ∷ 0 ∷ 0 ∷ 0 ∷ 2 ∷ 0 ∷ 25 ∷ 1 ∷ 1 ∷ 0 ∷ 0 ∷ 0 ∷ 0 ∷ 0 ∷ 0 ∷ 0 ∷ 0 ∷ 0 ∷ 0 ∷ 0 ∷ 7 ∷ 2 ∷ 0 ∷ 1 ∷ 20 ∷ 0 ∷ 1 ∷ 7 ∷ 1 ∷ [])) (padded 24 ([])) (padded 24 (21 ∷ 0 ∷ 1 ∷ 0 ∷ 6 ∷ 1 ∷ 1 ∷ 1 ∷ [])) (padded 3 (2 ∷ [])) (counts 3 0 8 1)) ≡ answer true
+-- a name and a number
+case-75 : compare (lent (97 ∷ []) (padded 16 (2 ∷ 0 ∷ 25 ∷ 0 ∷ 1 ∷ [])) (padded 8 ([])) (padded 8 ([])) (padded 1 ([])) (counts 1 0 0 1)) (lent (49 ∷ []) (padded 16 (1 ∷ 0 ∷ 24 ∷ 0 ∷ 1 ∷ [])) (padded 8 ([])) (padded 8 ([])) (padded 1 ([])) (counts 1 0 0 1)) ≡ answer false
 unfolding comparison
 case-75 = refl
 
--- a default's own token is not
-case-76 : compare (lent (97 ∷ 98 ∷ 99 ∷ []) (padded 48 (2 ∷ 0 ∷ 25 ∷ 0 ∷ 1 ∷ 0 ∷ 0 ∷ 0 ∷ 0 ∷ 0 ∷ 0 ∷ 0 ∷ 0 ∷ 0 ∷ 0 ∷ 0 ∷ 2 ∷ 0 ∷ 25 ∷ 1 ∷ 1 ∷ 0 ∷ 0 ∷ 0 ∷ 0 ∷ 0 ∷ 0 ∷ 0 ∷ 0 ∷ 0 ∷ 0 ∷ 0 ∷ 7 ∷ 2 ∷ 0 ∷ 1 ∷ 20 ∷ 0 ∷ 1 ∷ 7 ∷ 1 ∷ [])) (padded 24 ([])) (padded 24 (20 ∷ 0 ∷ 1 ∷ 0 ∷ 6 ∷ 1 ∷ 1 ∷ 1 ∷ [])) (padded 3 (2 ∷ [])) (counts 3 0 8 1)) (lent (97 ∷ 98 ∷ 99 ∷ []) (padded 48 (2 ∷ 0 ∷ 25 ∷ 0 ∷ 1 ∷ 0 ∷ 0 ∷ 0 ∷ 0 ∷ 0 ∷ 0 ∷ 0 ∷ 0 ∷ 0 ∷ 0 ∷ 0 ∷ 2 ∷ 0 ∷ 25 ∷ 1 ∷ 1 ∷ 0 ∷ 0 ∷ 0 ∷ 0 ∷ 0 ∷ 0 ∷ 0 ∷ 0 ∷ 0 ∷ 0 ∷ 0 ∷ 7 ∷ 2 ∷ 0 ∷ 1 ∷ 21 ∷ 0 ∷ 1 ∷ 7 ∷ 1 ∷ [])) (padded 24 ([])) (padded 24 (20 ∷ 0 ∷ 1 ∷ 0 ∷ 6 ∷ 1 ∷ 1 ∷ 1 ∷ [])) (padded 3 (2 ∷ [])) (counts 3 0 8 1)) ≡ answer false
+-- a call with one argument more
+case-76 : compare (lent (102 ∷ 32 ∷ 97 ∷ 32 ∷ []) (padded 64 (2 ∷ 0 ∷ 25 ∷ 0 ∷ 1 ∷ 0 ∷ 0 ∷ 0 ∷ 0 ∷ 0 ∷ 0 ∷ 0 ∷ 0 ∷ 0 ∷ 0 ∷ 0 ∷ 2 ∷ 0 ∷ 25 ∷ 2 ∷ 1 ∷ 0 ∷ 0 ∷ 0 ∷ 0 ∷ 0 ∷ 0 ∷ 0 ∷ 0 ∷ 0 ∷ 0 ∷ 0 ∷ 8 ∷ 2 ∷ [])) (padded 32 ([])) (padded 32 (1 ∷ [])) (padded 4 (2 ∷ [])) (counts 3 0 1 1)) (lent (102 ∷ 32 ∷ 97 ∷ 32 ∷ []) (padded 64 (2 ∷ 0 ∷ 25 ∷ 0 ∷ 1 ∷ 0 ∷ 0 ∷ 0 ∷ 0 ∷ 0 ∷ 0 ∷ 0 ∷ 0 ∷ 0 ∷ 0 ∷ 0 ∷ 2 ∷ 0 ∷ 25 ∷ 2 ∷ 1 ∷ 0 ∷ 0 ∷ 0 ∷ 0 ∷ 0 ∷ 0 ∷ 0 ∷ 0 ∷ 0 ∷ 0 ∷ 0 ∷ 8 ∷ 2 ∷ 0 ∷ 0 ∷ 1 ∷ [])) (padded 32 ([])) (padded 32 (1 ∷ [])) (padded 4 (2 ∷ [])) (counts 3 0 1 1)) ≡ answer false
 unfolding comparison
 case-76 = refl
 
--- an orphan is not reached
-case-77 : compare (lent (97 ∷ []) (padded 32 (99 ∷ 0 ∷ 0 ∷ 0 ∷ 0 ∷ 0 ∷ 0 ∷ 0 ∷ 0 ∷ 0 ∷ 0 ∷ 0 ∷ 0 ∷ 0 ∷ 0 ∷ 0 ∷ 2 ∷ 0 ∷ 25 ∷ 0 ∷ 1 ∷ [])) (padded 8 ([])) (padded 8 ([])) (padded 1 (1 ∷ [])) (counts 2 0 0 1)) (lent (97 ∷ []) (padded 16 (2 ∷ 0 ∷ 25 ∷ 0 ∷ 1 ∷ [])) (padded 8 ([])) (padded 8 ([])) (padded 1 ([])) (counts 1 0 0 1)) ≡ answer true
+-- a let with a doc
+case-77 : compare (lent (35 ∷ 33 ∷ 100 ∷ 32 ∷ 97 ∷ []) (padded 80 (2 ∷ 0 ∷ 25 ∷ 4 ∷ 1 ∷ 0 ∷ 0 ∷ 0 ∷ 0 ∷ 0 ∷ 0 ∷ 0 ∷ 0 ∷ 0 ∷ 0 ∷ 0 ∷ 5 ∷ 1 ∷ 0 ∷ 0 ∷ 25 ∷ 4 ∷ 1 ∷ [])) (padded 40 ([])) (padded 40 (26 ∷ 0 ∷ 1 ∷ [])) (padded 5 (1 ∷ [])) (counts 2 0 3 1)) (lent (35 ∷ 33 ∷ 100 ∷ 32 ∷ 97 ∷ []) (padded 80 (2 ∷ 0 ∷ 25 ∷ 4 ∷ 1 ∷ 0 ∷ 0 ∷ 0 ∷ 0 ∷ 0 ∷ 0 ∷ 0 ∷ 0 ∷ 0 ∷ 0 ∷ 0 ∷ 5 ∷ 1 ∷ 0 ∷ 1 ∷ 25 ∷ 4 ∷ 1 ∷ [])) (padded 40 ([])) (padded 40 (26 ∷ 0 ∷ 1 ∷ [])) (padded 5 (1 ∷ [])) (counts 2 0 3 1)) ≡ answer false
 unfolding comparison
 case-77 = refl
 
--- fn with docs, arguments, type and body
-case-78 : compare (lent (35 ∷ 33 ∷ 32 ∷ 100 ∷ 32 ∷ 102 ∷ 58 ∷ 73 ∷ 97 ∷ []) (padded 144 (2 ∷ 0 ∷ 25 ∷ 7 ∷ 1 ∷ 0 ∷ 0 ∷ 0 ∷ 0 ∷ 0 ∷ 0 ∷ 0 ∷ 0 ∷ 0 ∷ 0 ∷ 0 ∷ 6 ∷ 1 ∷ 0 ∷ 1 ∷ 25 ∷ 5 ∷ 1 ∷ 3 ∷ 1 ∷ 0 ∷ 7 ∷ 1 ∷ [])) (padded 72 (1 ∷ 36 ∷ 7 ∷ 3 ∷ [])) (padded 72 (26 ∷ 0 ∷ 1 ∷ 25 ∷ 8 ∷ 1 ∷ [])) (padded 9 (1 ∷ [])) (counts 2 1 8 1)) (lent (35 ∷ 33 ∷ 100 ∷ 32 ∷ 102 ∷ 58 ∷ 73 ∷ 97 ∷ 97 ∷ []) (padded 144 (2 ∷ 0 ∷ 25 ∷ 6 ∷ 1 ∷ 0 ∷ 0 ∷ 0 ∷ 0 ∷ 0 ∷ 0 ∷ 0 ∷ 0 ∷ 0 ∷ 0 ∷ 0 ∷ 6 ∷ 1 ∷ 0 ∷ 1 ∷ 25 ∷ 4 ∷ 1 ∷ 3 ∷ 1 ∷ 0 ∷ 7 ∷ 1 ∷ [])) (padded 72 (1 ∷ 36 ∷ 6 ∷ 3 ∷ [])) (padded 72 (26 ∷ 0 ∷ 1 ∷ 25 ∷ 7 ∷ 1 ∷ [])) (padded 9 (1 ∷ [])) (counts 2 1 8 1)) ≡ answer true
+-- a case's own token, well formed, is left out
+case-78 : compare (lent (97 ∷ 98 ∷ 99 ∷ []) (padded 48 (2 ∷ 0 ∷ 25 ∷ 0 ∷ 1 ∷ 0 ∷ 0 ∷ 0 ∷ 0 ∷ 0 ∷ 0 ∷ 0 ∷ 0 ∷ 0 ∷ 0 ∷ 0 ∷ 2 ∷ 0 ∷ 25 ∷ 1 ∷ 1 ∷ 0 ∷ 0 ∷ 0 ∷ 0 ∷ 0 ∷ 0 ∷ 0 ∷ 0 ∷ 0 ∷ 0 ∷ 0 ∷ 7 ∷ 2 ∷ 0 ∷ 1 ∷ 20 ∷ 0 ∷ 1 ∷ 7 ∷ 1 ∷ [])) (padded 24 ([])) (padded 24 (20 ∷ 0 ∷ 1 ∷ 0 ∷ 6 ∷ 1 ∷ 1 ∷ 1 ∷ [])) (padded 3 (2 ∷ [])) (counts 3 0 8 1)) (lent (97 ∷ 98 ∷ 99 ∷ []) (padded 48 (2 ∷ 0 ∷ 25 ∷ 0 ∷ 1 ∷ 0 ∷ 0 ∷ 0 ∷ 0 ∷ 0 ∷ 0 ∷ 0 ∷ 0 ∷ 0 ∷ 0 ∷ 0 ∷ 2 ∷ 0 ∷ 25 ∷ 1 ∷ 1 ∷ 0 ∷ 0 ∷ 0 ∷ 0 ∷ 0 ∷ 0 ∷ 0 ∷ 0 ∷ 0 ∷ 0 ∷ 0 ∷ 7 ∷ 2 ∷ 0 ∷ 1 ∷ 20 ∷ 0 ∷ 1 ∷ 7 ∷ 1 ∷ [])) (padded 24 ([])) (padded 24 (21 ∷ 0 ∷ 1 ∷ 0 ∷ 6 ∷ 1 ∷ 1 ∷ 1 ∷ [])) (padded 3 (2 ∷ [])) (counts 3 0 8 1)) ≡ answer true
 unfolding comparison
 case-78 = refl
 
--- root past the nodes, left
-case-79 : compare (lent (97 ∷ []) (padded 16 (2 ∷ 0 ∷ 25 ∷ 0 ∷ 1 ∷ [])) (padded 8 ([])) (padded 8 ([])) (padded 1 (1 ∷ [])) (counts 1 0 0 1)) (lent (97 ∷ 32 ∷ 43 ∷ 32 ∷ 98 ∷ []) (padded 80 (2 ∷ 0 ∷ 25 ∷ 0 ∷ 1 ∷ 0 ∷ 0 ∷ 0 ∷ 0 ∷ 0 ∷ 0 ∷ 0 ∷ 0 ∷ 0 ∷ 0 ∷ 0 ∷ 2 ∷ 0 ∷ 25 ∷ 4 ∷ 1 ∷ 0 ∷ 0 ∷ 0 ∷ 0 ∷ 0 ∷ 0 ∷ 0 ∷ 0 ∷ 0 ∷ 0 ∷ 0 ∷ 3 ∷ 2 ∷ 4 ∷ 2 ∷ 1 ∷ 0 ∷ 1 ∷ [])) (padded 40 ([])) (padded 40 ([])) (padded 5 (2 ∷ [])) (counts 3 0 0 1)) ≡ refused 4
+-- a default's own token is not
+case-79 : compare (lent (97 ∷ 98 ∷ 99 ∷ []) (padded 48 (2 ∷ 0 ∷ 25 ∷ 0 ∷ 1 ∷ 0 ∷ 0 ∷ 0 ∷ 0 ∷ 0 ∷ 0 ∷ 0 ∷ 0 ∷ 0 ∷ 0 ∷ 0 ∷ 2 ∷ 0 ∷ 25 ∷ 1 ∷ 1 ∷ 0 ∷ 0 ∷ 0 ∷ 0 ∷ 0 ∷ 0 ∷ 0 ∷ 0 ∷ 0 ∷ 0 ∷ 0 ∷ 7 ∷ 2 ∷ 0 ∷ 1 ∷ 20 ∷ 0 ∷ 1 ∷ 7 ∷ 1 ∷ [])) (padded 24 ([])) (padded 24 (20 ∷ 0 ∷ 1 ∷ 0 ∷ 6 ∷ 1 ∷ 1 ∷ 1 ∷ [])) (padded 3 (2 ∷ [])) (counts 3 0 8 1)) (lent (97 ∷ 98 ∷ 99 ∷ []) (padded 48 (2 ∷ 0 ∷ 25 ∷ 0 ∷ 1 ∷ 0 ∷ 0 ∷ 0 ∷ 0 ∷ 0 ∷ 0 ∷ 0 ∷ 0 ∷ 0 ∷ 0 ∷ 0 ∷ 2 ∷ 0 ∷ 25 ∷ 1 ∷ 1 ∷ 0 ∷ 0 ∷ 0 ∷ 0 ∷ 0 ∷ 0 ∷ 0 ∷ 0 ∷ 0 ∷ 0 ∷ 0 ∷ 7 ∷ 2 ∷ 0 ∷ 1 ∷ 21 ∷ 0 ∷ 1 ∷ 7 ∷ 1 ∷ [])) (padded 24 ([])) (padded 24 (20 ∷ 0 ∷ 1 ∷ 0 ∷ 6 ∷ 1 ∷ 1 ∷ 1 ∷ [])) (padded 3 (2 ∷ [])) (counts 3 0 8 1)) ≡ answer false
 unfolding comparison
 case-79 = refl
 
--- root past the nodes, right
-case-80 : compare (lent (97 ∷ 32 ∷ 43 ∷ 32 ∷ 98 ∷ []) (padded 80 (2 ∷ 0 ∷ 25 ∷ 0 ∷ 1 ∷ 0 ∷ 0 ∷ 0 ∷ 0 ∷ 0 ∷ 0 ∷ 0 ∷ 0 ∷ 0 ∷ 0 ∷ 0 ∷ 2 ∷ 0 ∷ 25 ∷ 4 ∷ 1 ∷ 0 ∷ 0 ∷ 0 ∷ 0 ∷ 0 ∷ 0 ∷ 0 ∷ 0 ∷ 0 ∷ 0 ∷ 0 ∷ 3 ∷ 2 ∷ 4 ∷ 2 ∷ 1 ∷ 0 ∷ 1 ∷ [])) (padded 40 ([])) (padded 40 ([])) (padded 5 (2 ∷ [])) (counts 3 0 0 1)) (lent (97 ∷ []) (padded 16 (2 ∷ 0 ∷ 25 ∷ 0 ∷ 1 ∷ [])) (padded 8 ([])) (padded 8 ([])) (padded 1 (1 ∷ [])) (counts 1 0 0 1)) ≡ refused 4
+-- an orphan is not reached
+case-80 : compare (lent (97 ∷ []) (padded 32 (99 ∷ 0 ∷ 0 ∷ 0 ∷ 0 ∷ 0 ∷ 0 ∷ 0 ∷ 0 ∷ 0 ∷ 0 ∷ 0 ∷ 0 ∷ 0 ∷ 0 ∷ 0 ∷ 2 ∷ 0 ∷ 25 ∷ 0 ∷ 1 ∷ [])) (padded 8 ([])) (padded 8 ([])) (padded 1 (1 ∷ [])) (counts 2 0 0 1)) (lent (97 ∷ []) (padded 16 (2 ∷ 0 ∷ 25 ∷ 0 ∷ 1 ∷ [])) (padded 8 ([])) (padded 8 ([])) (padded 1 ([])) (counts 1 0 0 1)) ≡ answer true
 unfolding comparison
 case-80 = refl
 
--- root past the array's whole records, left
-case-81 : compare (lent (97 ∷ []) (padded 31 (2 ∷ 0 ∷ 25 ∷ 0 ∷ 1 ∷ 0 ∷ 0 ∷ 0 ∷ 0 ∷ 0 ∷ 0 ∷ 0 ∷ 0 ∷ 0 ∷ 0 ∷ 0 ∷ 2 ∷ 0 ∷ 25 ∷ [])) (padded 8 ([])) (padded 8 ([])) (padded 1 (1 ∷ [])) (counts 9 0 0 1)) (lent (97 ∷ 32 ∷ 43 ∷ 32 ∷ 98 ∷ []) (padded 80 (2 ∷ 0 ∷ 25 ∷ 0 ∷ 1 ∷ 0 ∷ 0 ∷ 0 ∷ 0 ∷ 0 ∷ 0 ∷ 0 ∷ 0 ∷ 0 ∷ 0 ∷ 0 ∷ 2 ∷ 0 ∷ 25 ∷ 4 ∷ 1 ∷ 0 ∷ 0 ∷ 0 ∷ 0 ∷ 0 ∷ 0 ∷ 0 ∷ 0 ∷ 0 ∷ 0 ∷ 0 ∷ 3 ∷ 2 ∷ 4 ∷ 2 ∷ 1 ∷ 0 ∷ 1 ∷ [])) (padded 40 ([])) (padded 40 ([])) (padded 5 (2 ∷ [])) (counts 3 0 0 1)) ≡ refused 4
+-- fn with docs, arguments, type and body
+case-81 : compare (lent (35 ∷ 33 ∷ 32 ∷ 100 ∷ 32 ∷ 102 ∷ 58 ∷ 73 ∷ 97 ∷ []) (padded 144 (2 ∷ 0 ∷ 25 ∷ 7 ∷ 1 ∷ 0 ∷ 0 ∷ 0 ∷ 0 ∷ 0 ∷ 0 ∷ 0 ∷ 0 ∷ 0 ∷ 0 ∷ 0 ∷ 6 ∷ 1 ∷ 0 ∷ 1 ∷ 25 ∷ 5 ∷ 1 ∷ 3 ∷ 1 ∷ 0 ∷ 7 ∷ 1 ∷ [])) (padded 72 (1 ∷ 36 ∷ 7 ∷ 3 ∷ [])) (padded 72 (26 ∷ 0 ∷ 1 ∷ 25 ∷ 8 ∷ 1 ∷ [])) (padded 9 (1 ∷ [])) (counts 2 1 8 1)) (lent (35 ∷ 33 ∷ 100 ∷ 32 ∷ 102 ∷ 58 ∷ 73 ∷ 97 ∷ 97 ∷ []) (padded 144 (2 ∷ 0 ∷ 25 ∷ 6 ∷ 1 ∷ 0 ∷ 0 ∷ 0 ∷ 0 ∷ 0 ∷ 0 ∷ 0 ∷ 0 ∷ 0 ∷ 0 ∷ 0 ∷ 6 ∷ 1 ∷ 0 ∷ 1 ∷ 25 ∷ 4 ∷ 1 ∷ 3 ∷ 1 ∷ 0 ∷ 7 ∷ 1 ∷ [])) (padded 72 (1 ∷ 36 ∷ 6 ∷ 3 ∷ [])) (padded 72 (26 ∷ 0 ∷ 1 ∷ 25 ∷ 7 ∷ 1 ∷ [])) (padded 9 (1 ∷ [])) (counts 2 1 8 1)) ≡ answer true
 unfolding comparison
 case-81 = refl
 
--- root past the array's whole records, right
-case-82 : compare (lent (97 ∷ 32 ∷ 43 ∷ 32 ∷ 98 ∷ []) (padded 80 (2 ∷ 0 ∷ 25 ∷ 0 ∷ 1 ∷ 0 ∷ 0 ∷ 0 ∷ 0 ∷ 0 ∷ 0 ∷ 0 ∷ 0 ∷ 0 ∷ 0 ∷ 0 ∷ 2 ∷ 0 ∷ 25 ∷ 4 ∷ 1 ∷ 0 ∷ 0 ∷ 0 ∷ 0 ∷ 0 ∷ 0 ∷ 0 ∷ 0 ∷ 0 ∷ 0 ∷ 0 ∷ 3 ∷ 2 ∷ 4 ∷ 2 ∷ 1 ∷ 0 ∷ 1 ∷ [])) (padded 40 ([])) (padded 40 ([])) (padded 5 (2 ∷ [])) (counts 3 0 0 1)) (lent (97 ∷ []) (padded 31 (2 ∷ 0 ∷ 25 ∷ 0 ∷ 1 ∷ 0 ∷ 0 ∷ 0 ∷ 0 ∷ 0 ∷ 0 ∷ 0 ∷ 0 ∷ 0 ∷ 0 ∷ 0 ∷ 2 ∷ 0 ∷ 25 ∷ [])) (padded 8 ([])) (padded 8 ([])) (padded 1 (1 ∷ [])) (counts 9 0 0 1)) ≡ refused 4
+-- root past the nodes, left
+case-82 : compare (lent (97 ∷ []) (padded 16 (2 ∷ 0 ∷ 25 ∷ 0 ∷ 1 ∷ [])) (padded 8 ([])) (padded 8 ([])) (padded 1 (1 ∷ [])) (counts 1 0 0 1)) (lent (97 ∷ 32 ∷ 43 ∷ 32 ∷ 98 ∷ []) (padded 80 (2 ∷ 0 ∷ 25 ∷ 0 ∷ 1 ∷ 0 ∷ 0 ∷ 0 ∷ 0 ∷ 0 ∷ 0 ∷ 0 ∷ 0 ∷ 0 ∷ 0 ∷ 0 ∷ 2 ∷ 0 ∷ 25 ∷ 4 ∷ 1 ∷ 0 ∷ 0 ∷ 0 ∷ 0 ∷ 0 ∷ 0 ∷ 0 ∷ 0 ∷ 0 ∷ 0 ∷ 0 ∷ 3 ∷ 2 ∷ 4 ∷ 2 ∷ 1 ∷ 0 ∷ 1 ∷ [])) (padded 40 ([])) (padded 40 ([])) (padded 5 (2 ∷ [])) (counts 3 0 0 1)) ≡ refused 4
 unfolding comparison
 case-82 = refl
 
--- count of roots past the array, left
-case-83 : compare (lent (97 ∷ []) (padded 16 (2 ∷ 0 ∷ 25 ∷ 0 ∷ 1 ∷ [])) (padded 8 ([])) (padded 8 ([])) (padded 1 ([])) (counts 1 0 0 2)) (lent (97 ∷ 32 ∷ 43 ∷ 32 ∷ 98 ∷ []) (padded 80 (2 ∷ 0 ∷ 25 ∷ 0 ∷ 1 ∷ 0 ∷ 0 ∷ 0 ∷ 0 ∷ 0 ∷ 0 ∷ 0 ∷ 0 ∷ 0 ∷ 0 ∷ 0 ∷ 2 ∷ 0 ∷ 25 ∷ 4 ∷ 1 ∷ 0 ∷ 0 ∷ 0 ∷ 0 ∷ 0 ∷ 0 ∷ 0 ∷ 0 ∷ 0 ∷ 0 ∷ 0 ∷ 3 ∷ 2 ∷ 4 ∷ 2 ∷ 1 ∷ 0 ∷ 1 ∷ [])) (padded 40 ([])) (padded 40 ([])) (padded 5 (2 ∷ [])) (counts 3 0 0 1)) ≡ refused 4
+-- root past the nodes, right
+case-83 : compare (lent (97 ∷ 32 ∷ 43 ∷ 32 ∷ 98 ∷ []) (padded 80 (2 ∷ 0 ∷ 25 ∷ 0 ∷ 1 ∷ 0 ∷ 0 ∷ 0 ∷ 0 ∷ 0 ∷ 0 ∷ 0 ∷ 0 ∷ 0 ∷ 0 ∷ 0 ∷ 2 ∷ 0 ∷ 25 ∷ 4 ∷ 1 ∷ 0 ∷ 0 ∷ 0 ∷ 0 ∷ 0 ∷ 0 ∷ 0 ∷ 0 ∷ 0 ∷ 0 ∷ 0 ∷ 3 ∷ 2 ∷ 4 ∷ 2 ∷ 1 ∷ 0 ∷ 1 ∷ [])) (padded 40 ([])) (padded 40 ([])) (padded 5 (2 ∷ [])) (counts 3 0 0 1)) (lent (97 ∷ []) (padded 16 (2 ∷ 0 ∷ 25 ∷ 0 ∷ 1 ∷ [])) (padded 8 ([])) (padded 8 ([])) (padded 1 (1 ∷ [])) (counts 1 0 0 1)) ≡ refused 4
 unfolding comparison
 case-83 = refl
 
--- count of roots past the array, right
-case-84 : compare (lent (97 ∷ 32 ∷ 43 ∷ 32 ∷ 98 ∷ []) (padded 80 (2 ∷ 0 ∷ 25 ∷ 0 ∷ 1 ∷ 0 ∷ 0 ∷ 0 ∷ 0 ∷ 0 ∷ 0 ∷ 0 ∷ 0 ∷ 0 ∷ 0 ∷ 0 ∷ 2 ∷ 0 ∷ 25 ∷ 4 ∷ 1 ∷ 0 ∷ 0 ∷ 0 ∷ 0 ∷ 0 ∷ 0 ∷ 0 ∷ 0 ∷ 0 ∷ 0 ∷ 0 ∷ 3 ∷ 2 ∷ 4 ∷ 2 ∷ 1 ∷ 0 ∷ 1 ∷ [])) (padded 40 ([])) (padded 40 ([])) (padded 5 (2 ∷ [])) (counts 3 0 0 1)) (lent (97 ∷ []) (padded 16 (2 ∷ 0 ∷ 25 ∷ 0 ∷ 1 ∷ [])) (padded 8 ([])) (padded 8 ([])) (padded 1 ([])) (counts 1 0 0 2)) ≡ refused 4
+-- root past the array's whole records, left
+case-84 : compare (lent (97 ∷ []) (padded 31 (2 ∷ 0 ∷ 25 ∷ 0 ∷ 1 ∷ 0 ∷ 0 ∷ 0 ∷ 0 ∷ 0 ∷ 0 ∷ 0 ∷ 0 ∷ 0 ∷ 0 ∷ 0 ∷ 2 ∷ 0 ∷ 25 ∷ [])) (padded 8 ([])) (padded 8 ([])) (padded 1 (1 ∷ [])) (counts 9 0 0 1)) (lent (97 ∷ 32 ∷ 43 ∷ 32 ∷ 98 ∷ []) (padded 80 (2 ∷ 0 ∷ 25 ∷ 0 ∷ 1 ∷ 0 ∷ 0 ∷ 0 ∷ 0 ∷ 0 ∷ 0 ∷ 0 ∷ 0 ∷ 0 ∷ 0 ∷ 0 ∷ 2 ∷ 0 ∷ 25 ∷ 4 ∷ 1 ∷ 0 ∷ 0 ∷ 0 ∷ 0 ∷ 0 ∷ 0 ∷ 0 ∷ 0 ∷ 0 ∷ 0 ∷ 0 ∷ 3 ∷ 2 ∷ 4 ∷ 2 ∷ 1 ∷ 0 ∷ 1 ∷ [])) (padded 40 ([])) (padded 40 ([])) (padded 5 (2 ∷ [])) (counts 3 0 0 1)) ≡ refused 4
 unfolding comparison
 case-84 = refl
 
--- root of an unknown kind, left
-case-85 : compare (lent (97 ∷ []) (padded 16 (15 ∷ [])) (padded 8 ([])) (padded 8 ([])) (padded 1 ([])) (counts 1 0 0 1)) (lent (97 ∷ 32 ∷ 43 ∷ 32 ∷ 98 ∷ []) (padded 80 (2 ∷ 0 ∷ 25 ∷ 0 ∷ 1 ∷ 0 ∷ 0 ∷ 0 ∷ 0 ∷ 0 ∷ 0 ∷ 0 ∷ 0 ∷ 0 ∷ 0 ∷ 0 ∷ 2 ∷ 0 ∷ 25 ∷ 4 ∷ 1 ∷ 0 ∷ 0 ∷ 0 ∷ 0 ∷ 0 ∷ 0 ∷ 0 ∷ 0 ∷ 0 ∷ 0 ∷ 0 ∷ 3 ∷ 2 ∷ 4 ∷ 2 ∷ 1 ∷ 0 ∷ 1 ∷ [])) (padded 40 ([])) (padded 40 ([])) (padded 5 (2 ∷ [])) (counts 3 0 0 1)) ≡ refused 4
+-- root past the array's whole records, right
+case-85 : compare (lent (97 ∷ 32 ∷ 43 ∷ 32 ∷ 98 ∷ []) (padded 80 (2 ∷ 0 ∷ 25 ∷ 0 ∷ 1 ∷ 0 ∷ 0 ∷ 0 ∷ 0 ∷ 0 ∷ 0 ∷ 0 ∷ 0 ∷ 0 ∷ 0 ∷ 0 ∷ 2 ∷ 0 ∷ 25 ∷ 4 ∷ 1 ∷ 0 ∷ 0 ∷ 0 ∷ 0 ∷ 0 ∷ 0 ∷ 0 ∷ 0 ∷ 0 ∷ 0 ∷ 0 ∷ 3 ∷ 2 ∷ 4 ∷ 2 ∷ 1 ∷ 0 ∷ 1 ∷ [])) (padded 40 ([])) (padded 40 ([])) (padded 5 (2 ∷ [])) (counts 3 0 0 1)) (lent (97 ∷ []) (padded 31 (2 ∷ 0 ∷ 25 ∷ 0 ∷ 1 ∷ 0 ∷ 0 ∷ 0 ∷ 0 ∷ 0 ∷ 0 ∷ 0 ∷ 0 ∷ 0 ∷ 0 ∷ 0 ∷ 2 ∷ 0 ∷ 25 ∷ [])) (padded 8 ([])) (padded 8 ([])) (padded 1 (1 ∷ [])) (counts 9 0 0 1)) ≡ refused 4
 unfolding comparison
 case-85 = refl
 
--- root of an unknown kind, right
-case-86 : compare (lent (97 ∷ 32 ∷ 43 ∷ 32 ∷ 98 ∷ []) (padded 80 (2 ∷ 0 ∷ 25 ∷ 0 ∷ 1 ∷ 0 ∷ 0 ∷ 0 ∷ 0 ∷ 0 ∷ 0 ∷ 0 ∷ 0 ∷ 0 ∷ 0 ∷ 0 ∷ 2 ∷ 0 ∷ 25 ∷ 4 ∷ 1 ∷ 0 ∷ 0 ∷ 0 ∷ 0 ∷ 0 ∷ 0 ∷ 0 ∷ 0 ∷ 0 ∷ 0 ∷ 0 ∷ 3 ∷ 2 ∷ 4 ∷ 2 ∷ 1 ∷ 0 ∷ 1 ∷ [])) (padded 40 ([])) (padded 40 ([])) (padded 5 (2 ∷ [])) (counts 3 0 0 1)) (lent (97 ∷ []) (padded 16 (15 ∷ [])) (padded 8 ([])) (padded 8 ([])) (padded 1 ([])) (counts 1 0 0 1)) ≡ refused 4
+-- count of roots past the array, left
+case-86 : compare (lent (97 ∷ []) (padded 16 (2 ∷ 0 ∷ 25 ∷ 0 ∷ 1 ∷ [])) (padded 8 ([])) (padded 8 ([])) (padded 1 ([])) (counts 1 0 0 2)) (lent (97 ∷ 32 ∷ 43 ∷ 32 ∷ 98 ∷ []) (padded 80 (2 ∷ 0 ∷ 25 ∷ 0 ∷ 1 ∷ 0 ∷ 0 ∷ 0 ∷ 0 ∷ 0 ∷ 0 ∷ 0 ∷ 0 ∷ 0 ∷ 0 ∷ 0 ∷ 2 ∷ 0 ∷ 25 ∷ 4 ∷ 1 ∷ 0 ∷ 0 ∷ 0 ∷ 0 ∷ 0 ∷ 0 ∷ 0 ∷ 0 ∷ 0 ∷ 0 ∷ 0 ∷ 3 ∷ 2 ∷ 4 ∷ 2 ∷ 1 ∷ 0 ∷ 1 ∷ [])) (padded 40 ([])) (padded 40 ([])) (padded 5 (2 ∷ [])) (counts 3 0 0 1)) ≡ refused 4
 unfolding comparison
 case-86 = refl
 
--- right child not below, left
-case-87 : compare (lent (97 ∷ 97 ∷ []) (padded 32 (2 ∷ 0 ∷ 25 ∷ 0 ∷ 1 ∷ 0 ∷ 0 ∷ 0 ∷ 0 ∷ 0 ∷ 0 ∷ 0 ∷ 0 ∷ 0 ∷ 0 ∷ 0 ∷ 3 ∷ 2 ∷ 4 ∷ 0 ∷ 1 ∷ 0 ∷ 1 ∷ [])) (padded 16 ([])) (padded 16 ([])) (padded 2 (1 ∷ [])) (counts 2 0 0 1)) (lent (97 ∷ 32 ∷ 43 ∷ 32 ∷ 98 ∷ []) (padded 80 (2 ∷ 0 ∷ 25 ∷ 0 ∷ 1 ∷ 0 ∷ 0 ∷ 0 ∷ 0 ∷ 0 ∷ 0 ∷ 0 ∷ 0 ∷ 0 ∷ 0 ∷ 0 ∷ 2 ∷ 0 ∷ 25 ∷ 4 ∷ 1 ∷ 0 ∷ 0 ∷ 0 ∷ 0 ∷ 0 ∷ 0 ∷ 0 ∷ 0 ∷ 0 ∷ 0 ∷ 0 ∷ 3 ∷ 2 ∷ 4 ∷ 2 ∷ 1 ∷ 0 ∷ 1 ∷ [])) (padded 40 ([])) (padded 40 ([])) (padded 5 (2 ∷ [])) (counts 3 0 0 1)) ≡ refused 4
+-- count of roots past the array, right
+case-87 : compare (lent (97 ∷ 32 ∷ 43 ∷ 32 ∷ 98 ∷ []) (padded 80 (2 ∷ 0 ∷ 25 ∷ 0 ∷ 1 ∷ 0 ∷ 0 ∷ 0 ∷ 0 ∷ 0 ∷ 0 ∷ 0 ∷ 0 ∷ 0 ∷ 0 ∷ 0 ∷ 2 ∷ 0 ∷ 25 ∷ 4 ∷ 1 ∷ 0 ∷ 0 ∷ 0 ∷ 0 ∷ 0 ∷ 0 ∷ 0 ∷ 0 ∷ 0 ∷ 0 ∷ 0 ∷ 3 ∷ 2 ∷ 4 ∷ 2 ∷ 1 ∷ 0 ∷ 1 ∷ [])) (padded 40 ([])) (padded 40 ([])) (padded 5 (2 ∷ [])) (counts 3 0 0 1)) (lent (97 ∷ []) (padded 16 (2 ∷ 0 ∷ 25 ∷ 0 ∷ 1 ∷ [])) (padded 8 ([])) (padded 8 ([])) (padded 1 ([])) (counts 1 0 0 2)) ≡ refused 4
 unfolding comparison
 case-87 = refl
 
--- right child not below, right
-case-88 : compare (lent (97 ∷ 32 ∷ 43 ∷ 32 ∷ 98 ∷ []) (padded 80 (2 ∷ 0 ∷ 25 ∷ 0 ∷ 1 ∷ 0 ∷ 0 ∷ 0 ∷ 0 ∷ 0 ∷ 0 ∷ 0 ∷ 0 ∷ 0 ∷ 0 ∷ 0 ∷ 2 ∷ 0 ∷ 25 ∷ 4 ∷ 1 ∷ 0 ∷ 0 ∷ 0 ∷ 0 ∷ 0 ∷ 0 ∷ 0 ∷ 0 ∷ 0 ∷ 0 ∷ 0 ∷ 3 ∷ 2 ∷ 4 ∷ 2 ∷ 1 ∷ 0 ∷ 1 ∷ [])) (padded 40 ([])) (padded 40 ([])) (padded 5 (2 ∷ [])) (counts 3 0 0 1)) (lent (97 ∷ 97 ∷ []) (padded 32 (2 ∷ 0 ∷ 25 ∷ 0 ∷ 1 ∷ 0 ∷ 0 ∷ 0 ∷ 0 ∷ 0 ∷ 0 ∷ 0 ∷ 0 ∷ 0 ∷ 0 ∷ 0 ∷ 3 ∷ 2 ∷ 4 ∷ 0 ∷ 1 ∷ 0 ∷ 1 ∷ [])) (padded 16 ([])) (padded 16 ([])) (padded 2 (1 ∷ [])) (counts 2 0 0 1)) ≡ refused 4
+-- root of an unknown kind, left
+case-88 : compare (lent (97 ∷ []) (padded 16 (15 ∷ [])) (padded 8 ([])) (padded 8 ([])) (padded 1 ([])) (counts 1 0 0 1)) (lent (97 ∷ 32 ∷ 43 ∷ 32 ∷ 98 ∷ []) (padded 80 (2 ∷ 0 ∷ 25 ∷ 0 ∷ 1 ∷ 0 ∷ 0 ∷ 0 ∷ 0 ∷ 0 ∷ 0 ∷ 0 ∷ 0 ∷ 0 ∷ 0 ∷ 0 ∷ 2 ∷ 0 ∷ 25 ∷ 4 ∷ 1 ∷ 0 ∷ 0 ∷ 0 ∷ 0 ∷ 0 ∷ 0 ∷ 0 ∷ 0 ∷ 0 ∷ 0 ∷ 0 ∷ 3 ∷ 2 ∷ 4 ∷ 2 ∷ 1 ∷ 0 ∷ 1 ∷ [])) (padded 40 ([])) (padded 40 ([])) (padded 5 (2 ∷ [])) (counts 3 0 0 1)) ≡ refused 4
 unfolding comparison
 case-88 = refl
 
--- type past the types, left
-case-89 : compare (lent (97 ∷ 97 ∷ []) (padded 32 (2 ∷ 0 ∷ 25 ∷ 0 ∷ 1 ∷ 0 ∷ 0 ∷ 0 ∷ 0 ∷ 0 ∷ 0 ∷ 0 ∷ 0 ∷ 0 ∷ 0 ∷ 0 ∷ 10 ∷ 1 ∷ 32 ∷ 0 ∷ 2 ∷ [])) (padded 16 ([])) (padded 16 ([])) (padded 2 (1 ∷ [])) (counts 2 0 0 1)) (lent (97 ∷ 32 ∷ 43 ∷ 32 ∷ 98 ∷ []) (padded 80 (2 ∷ 0 ∷ 25 ∷ 0 ∷ 1 ∷ 0 ∷ 0 ∷ 0 ∷ 0 ∷ 0 ∷ 0 ∷ 0 ∷ 0 ∷ 0 ∷ 0 ∷ 0 ∷ 2 ∷ 0 ∷ 25 ∷ 4 ∷ 1 ∷ 0 ∷ 0 ∷ 0 ∷ 0 ∷ 0 ∷ 0 ∷ 0 ∷ 0 ∷ 0 ∷ 0 ∷ 0 ∷ 3 ∷ 2 ∷ 4 ∷ 2 ∷ 1 ∷ 0 ∷ 1 ∷ [])) (padded 40 ([])) (padded 40 ([])) (padded 5 (2 ∷ [])) (counts 3 0 0 1)) ≡ refused 4
+-- root of an unknown kind, right
+case-89 : compare (lent (97 ∷ 32 ∷ 43 ∷ 32 ∷ 98 ∷ []) (padded 80 (2 ∷ 0 ∷ 25 ∷ 0 ∷ 1 ∷ 0 ∷ 0 ∷ 0 ∷ 0 ∷ 0 ∷ 0 ∷ 0 ∷ 0 ∷ 0 ∷ 0 ∷ 0 ∷ 2 ∷ 0 ∷ 25 ∷ 4 ∷ 1 ∷ 0 ∷ 0 ∷ 0 ∷ 0 ∷ 0 ∷ 0 ∷ 0 ∷ 0 ∷ 0 ∷ 0 ∷ 0 ∷ 3 ∷ 2 ∷ 4 ∷ 2 ∷ 1 ∷ 0 ∷ 1 ∷ [])) (padded 40 ([])) (padded 40 ([])) (padded 5 (2 ∷ [])) (counts 3 0 0 1)) (lent (97 ∷ []) (padded 16 (15 ∷ [])) (padded 8 ([])) (padded 8 ([])) (padded 1 ([])) (counts 1 0 0 1)) ≡ refused 4
 unfolding comparison
 case-89 = refl
 
--- type past the types, right
-case-90 : compare (lent (97 ∷ 32 ∷ 43 ∷ 32 ∷ 98 ∷ []) (padded 80 (2 ∷ 0 ∷ 25 ∷ 0 ∷ 1 ∷ 0 ∷ 0 ∷ 0 ∷ 0 ∷ 0 ∷ 0 ∷ 0 ∷ 0 ∷ 0 ∷ 0 ∷ 0 ∷ 2 ∷ 0 ∷ 25 ∷ 4 ∷ 1 ∷ 0 ∷ 0 ∷ 0 ∷ 0 ∷ 0 ∷ 0 ∷ 0 ∷ 0 ∷ 0 ∷ 0 ∷ 0 ∷ 3 ∷ 2 ∷ 4 ∷ 2 ∷ 1 ∷ 0 ∷ 1 ∷ [])) (padded 40 ([])) (padded 40 ([])) (padded 5 (2 ∷ [])) (counts 3 0 0 1)) (lent (97 ∷ 97 ∷ []) (padded 32 (2 ∷ 0 ∷ 25 ∷ 0 ∷ 1 ∷ 0 ∷ 0 ∷ 0 ∷ 0 ∷ 0 ∷ 0 ∷ 0 ∷ 0 ∷ 0 ∷ 0 ∷ 0 ∷ 10 ∷ 1 ∷ 32 ∷ 0 ∷ 2 ∷ [])) (padded 16 ([])) (padded 16 ([])) (padded 2 (1 ∷ [])) (counts 2 0 0 1)) ≡ refused 4
+-- right child not below, left
+case-90 : compare (lent (97 ∷ 97 ∷ []) (padded 32 (2 ∷ 0 ∷ 25 ∷ 0 ∷ 1 ∷ 0 ∷ 0 ∷ 0 ∷ 0 ∷ 0 ∷ 0 ∷ 0 ∷ 0 ∷ 0 ∷ 0 ∷ 0 ∷ 3 ∷ 2 ∷ 4 ∷ 0 ∷ 1 ∷ 0 ∷ 1 ∷ [])) (padded 16 ([])) (padded 16 ([])) (padded 2 (1 ∷ [])) (counts 2 0 0 1)) (lent (97 ∷ 32 ∷ 43 ∷ 32 ∷ 98 ∷ []) (padded 80 (2 ∷ 0 ∷ 25 ∷ 0 ∷ 1 ∷ 0 ∷ 0 ∷ 0 ∷ 0 ∷ 0 ∷ 0 ∷ 0 ∷ 0 ∷ 0 ∷ 0 ∷ 0 ∷ 2 ∷ 0 ∷ 25 ∷ 4 ∷ 1 ∷ 0 ∷ 0 ∷ 0 ∷ 0 ∷ 0 ∷ 0 ∷ 0 ∷ 0 ∷ 0 ∷ 0 ∷ 0 ∷ 3 ∷ 2 ∷ 4 ∷ 2 ∷ 1 ∷ 0 ∷ 1 ∷ [])) (padded 40 ([])) (padded 40 ([])) (padded 5 (2 ∷ [])) (counts 3 0 0 1)) ≡ refused 4
 unfolding comparison
 case-90 = refl
 
--- type of an unknown kind, left
-case-91 : compare (lent (97 ∷ 97 ∷ []) (padded 32 (2 ∷ 0 ∷ 25 ∷ 0 ∷ 1 ∷ 0 ∷ 0 ∷ 0 ∷ 0 ∷ 0 ∷ 0 ∷ 0 ∷ 0 ∷ 0 ∷ 0 ∷ 0 ∷ 10 ∷ 1 ∷ 32 ∷ 0 ∷ 2 ∷ [])) (padded 16 (6 ∷ 36 ∷ 0 ∷ 3 ∷ [])) (padded 16 ([])) (padded 2 (1 ∷ [])) (counts 2 1 0 1)) (lent (97 ∷ 32 ∷ 43 ∷ 32 ∷ 98 ∷ []) (padded 80 (2 ∷ 0 ∷ 25 ∷ 0 ∷ 1 ∷ 0 ∷ 0 ∷ 0 ∷ 0 ∷ 0 ∷ 0 ∷ 0 ∷ 0 ∷ 0 ∷ 0 ∷ 0 ∷ 2 ∷ 0 ∷ 25 ∷ 4 ∷ 1 ∷ 0 ∷ 0 ∷ 0 ∷ 0 ∷ 0 ∷ 0 ∷ 0 ∷ 0 ∷ 0 ∷ 0 ∷ 0 ∷ 3 ∷ 2 ∷ 4 ∷ 2 ∷ 1 ∷ 0 ∷ 1 ∷ [])) (padded 40 ([])) (padded 40 ([])) (padded 5 (2 ∷ [])) (counts 3 0 0 1)) ≡ refused 4
+-- right child not below, right
+case-91 : compare (lent (97 ∷ 32 ∷ 43 ∷ 32 ∷ 98 ∷ []) (padded 80 (2 ∷ 0 ∷ 25 ∷ 0 ∷ 1 ∷ 0 ∷ 0 ∷ 0 ∷ 0 ∷ 0 ∷ 0 ∷ 0 ∷ 0 ∷ 0 ∷ 0 ∷ 0 ∷ 2 ∷ 0 ∷ 25 ∷ 4 ∷ 1 ∷ 0 ∷ 0 ∷ 0 ∷ 0 ∷ 0 ∷ 0 ∷ 0 ∷ 0 ∷ 0 ∷ 0 ∷ 0 ∷ 3 ∷ 2 ∷ 4 ∷ 2 ∷ 1 ∷ 0 ∷ 1 ∷ [])) (padded 40 ([])) (padded 40 ([])) (padded 5 (2 ∷ [])) (counts 3 0 0 1)) (lent (97 ∷ 97 ∷ []) (padded 32 (2 ∷ 0 ∷ 25 ∷ 0 ∷ 1 ∷ 0 ∷ 0 ∷ 0 ∷ 0 ∷ 0 ∷ 0 ∷ 0 ∷ 0 ∷ 0 ∷ 0 ∷ 0 ∷ 3 ∷ 2 ∷ 4 ∷ 0 ∷ 1 ∷ 0 ∷ 1 ∷ [])) (padded 16 ([])) (padded 16 ([])) (padded 2 (1 ∷ [])) (counts 2 0 0 1)) ≡ refused 4
 unfolding comparison
 case-91 = refl
 
--- type of an unknown kind, right
-case-92 : compare (lent (97 ∷ 32 ∷ 43 ∷ 32 ∷ 98 ∷ []) (padded 80 (2 ∷ 0 ∷ 25 ∷ 0 ∷ 1 ∷ 0 ∷ 0 ∷ 0 ∷ 0 ∷ 0 ∷ 0 ∷ 0 ∷ 0 ∷ 0 ∷ 0 ∷ 0 ∷ 2 ∷ 0 ∷ 25 ∷ 4 ∷ 1 ∷ 0 ∷ 0 ∷ 0 ∷ 0 ∷ 0 ∷ 0 ∷ 0 ∷ 0 ∷ 0 ∷ 0 ∷ 0 ∷ 3 ∷ 2 ∷ 4 ∷ 2 ∷ 1 ∷ 0 ∷ 1 ∷ [])) (padded 40 ([])) (padded 40 ([])) (padded 5 (2 ∷ [])) (counts 3 0 0 1)) (lent (97 ∷ 97 ∷ []) (padded 32 (2 ∷ 0 ∷ 25 ∷ 0 ∷ 1 ∷ 0 ∷ 0 ∷ 0 ∷ 0 ∷ 0 ∷ 0 ∷ 0 ∷ 0 ∷ 0 ∷ 0 ∷ 0 ∷ 10 ∷ 1 ∷ 32 ∷ 0 ∷ 2 ∷ [])) (padded 16 (6 ∷ 36 ∷ 0 ∷ 3 ∷ [])) (padded 16 ([])) (padded 2 (1 ∷ [])) (counts 2 1 0 1)) ≡ refused 4
+-- type past the types, left
+case-92 : compare (lent (97 ∷ 97 ∷ []) (padded 32 (2 ∷ 0 ∷ 25 ∷ 0 ∷ 1 ∷ 0 ∷ 0 ∷ 0 ∷ 0 ∷ 0 ∷ 0 ∷ 0 ∷ 0 ∷ 0 ∷ 0 ∷ 0 ∷ 10 ∷ 1 ∷ 32 ∷ 0 ∷ 2 ∷ [])) (padded 16 ([])) (padded 16 ([])) (padded 2 (1 ∷ [])) (counts 2 0 0 1)) (lent (97 ∷ 32 ∷ 43 ∷ 32 ∷ 98 ∷ []) (padded 80 (2 ∷ 0 ∷ 25 ∷ 0 ∷ 1 ∷ 0 ∷ 0 ∷ 0 ∷ 0 ∷ 0 ∷ 0 ∷ 0 ∷ 0 ∷ 0 ∷ 0 ∷ 0 ∷ 2 ∷ 0 ∷ 25 ∷ 4 ∷ 1 ∷ 0 ∷ 0 ∷ 0 ∷ 0 ∷ 0 ∷ 0 ∷ 0 ∷ 0 ∷ 0 ∷ 0 ∷ 0 ∷ 3 ∷ 2 ∷ 4 ∷ 2 ∷ 1 ∷ 0 ∷ 1 ∷ [])) (padded 40 ([])) (padded 40 ([])) (padded 5 (2 ∷ [])) (counts 3 0 0 1)) ≡ refused 4
 unfolding comparison
 case-92 = refl
 
--- docs past the list cells, left
-case-93 : compare (lent (97 ∷ 97 ∷ []) (padded 32 (2 ∷ 0 ∷ 25 ∷ 0 ∷ 1 ∷ 0 ∷ 0 ∷ 0 ∷ 0 ∷ 0 ∷ 0 ∷ 0 ∷ 0 ∷ 0 ∷ 0 ∷ 0 ∷ 5 ∷ 1 ∷ 0 ∷ 1 ∷ 25 ∷ 0 ∷ 1 ∷ [])) (padded 16 ([])) (padded 16 (26 ∷ [])) (padded 2 (1 ∷ [])) (counts 2 0 2 1)) (lent (97 ∷ 32 ∷ 43 ∷ 32 ∷ 98 ∷ []) (padded 80 (2 ∷ 0 ∷ 25 ∷ 0 ∷ 1 ∷ 0 ∷ 0 ∷ 0 ∷ 0 ∷ 0 ∷ 0 ∷ 0 ∷ 0 ∷ 0 ∷ 0 ∷ 0 ∷ 2 ∷ 0 ∷ 25 ∷ 4 ∷ 1 ∷ 0 ∷ 0 ∷ 0 ∷ 0 ∷ 0 ∷ 0 ∷ 0 ∷ 0 ∷ 0 ∷ 0 ∷ 0 ∷ 3 ∷ 2 ∷ 4 ∷ 2 ∷ 1 ∷ 0 ∷ 1 ∷ [])) (padded 40 ([])) (padded 40 ([])) (padded 5 (2 ∷ [])) (counts 3 0 0 1)) ≡ refused 4
+-- type past the types, right
+case-93 : compare (lent (97 ∷ 32 ∷ 43 ∷ 32 ∷ 98 ∷ []) (padded 80 (2 ∷ 0 ∷ 25 ∷ 0 ∷ 1 ∷ 0 ∷ 0 ∷ 0 ∷ 0 ∷ 0 ∷ 0 ∷ 0 ∷ 0 ∷ 0 ∷ 0 ∷ 0 ∷ 2 ∷ 0 ∷ 25 ∷ 4 ∷ 1 ∷ 0 ∷ 0 ∷ 0 ∷ 0 ∷ 0 ∷ 0 ∷ 0 ∷ 0 ∷ 0 ∷ 0 ∷ 0 ∷ 3 ∷ 2 ∷ 4 ∷ 2 ∷ 1 ∷ 0 ∷ 1 ∷ [])) (padded 40 ([])) (padded 40 ([])) (padded 5 (2 ∷ [])) (counts 3 0 0 1)) (lent (97 ∷ 97 ∷ []) (padded 32 (2 ∷ 0 ∷ 25 ∷ 0 ∷ 1 ∷ 0 ∷ 0 ∷ 0 ∷ 0 ∷ 0 ∷ 0 ∷ 0 ∷ 0 ∷ 0 ∷ 0 ∷ 0 ∷ 10 ∷ 1 ∷ 32 ∷ 0 ∷ 2 ∷ [])) (padded 16 ([])) (padded 16 ([])) (padded 2 (1 ∷ [])) (counts 2 0 0 1)) ≡ refused 4
 unfolding comparison
 case-93 = refl
 
--- docs past the list cells, right
-case-94 : compare (lent (97 ∷ 32 ∷ 43 ∷ 32 ∷ 98 ∷ []) (padded 80 (2 ∷ 0 ∷ 25 ∷ 0 ∷ 1 ∷ 0 ∷ 0 ∷ 0 ∷ 0 ∷ 0 ∷ 0 ∷ 0 ∷ 0 ∷ 0 ∷ 0 ∷ 0 ∷ 2 ∷ 0 ∷ 25 ∷ 4 ∷ 1 ∷ 0 ∷ 0 ∷ 0 ∷ 0 ∷ 0 ∷ 0 ∷ 0 ∷ 0 ∷ 0 ∷ 0 ∷ 0 ∷ 3 ∷ 2 ∷ 4 ∷ 2 ∷ 1 ∷ 0 ∷ 1 ∷ [])) (padded 40 ([])) (padded 40 ([])) (padded 5 (2 ∷ [])) (counts 3 0 0 1)) (lent (97 ∷ 97 ∷ []) (padded 32 (2 ∷ 0 ∷ 25 ∷ 0 ∷ 1 ∷ 0 ∷ 0 ∷ 0 ∷ 0 ∷ 0 ∷ 0 ∷ 0 ∷ 0 ∷ 0 ∷ 0 ∷ 0 ∷ 5 ∷ 1 ∷ 0 ∷ 1 ∷ 25 ∷ 0 ∷ 1 ∷ [])) (padded 16 ([])) (padded 16 (26 ∷ [])) (padded 2 (1 ∷ [])) (counts 2 0 2 1)) ≡ refused 4
+-- type of an unknown kind, left
+case-94 : compare (lent (97 ∷ 97 ∷ []) (padded 32 (2 ∷ 0 ∷ 25 ∷ 0 ∷ 1 ∷ 0 ∷ 0 ∷ 0 ∷ 0 ∷ 0 ∷ 0 ∷ 0 ∷ 0 ∷ 0 ∷ 0 ∷ 0 ∷ 10 ∷ 1 ∷ 32 ∷ 0 ∷ 2 ∷ [])) (padded 16 (6 ∷ 36 ∷ 0 ∷ 3 ∷ [])) (padded 16 ([])) (padded 2 (1 ∷ [])) (counts 2 1 0 1)) (lent (97 ∷ 32 ∷ 43 ∷ 32 ∷ 98 ∷ []) (padded 80 (2 ∷ 0 ∷ 25 ∷ 0 ∷ 1 ∷ 0 ∷ 0 ∷ 0 ∷ 0 ∷ 0 ∷ 0 ∷ 0 ∷ 0 ∷ 0 ∷ 0 ∷ 0 ∷ 2 ∷ 0 ∷ 25 ∷ 4 ∷ 1 ∷ 0 ∷ 0 ∷ 0 ∷ 0 ∷ 0 ∷ 0 ∷ 0 ∷ 0 ∷ 0 ∷ 0 ∷ 0 ∷ 3 ∷ 2 ∷ 4 ∷ 2 ∷ 1 ∷ 0 ∷ 1 ∷ [])) (padded 40 ([])) (padded 40 ([])) (padded 5 (2 ∷ [])) (counts 3 0 0 1)) ≡ refused 4
 unfolding comparison
 case-94 = refl
 
--- spelling past the script, left
-case-95 : compare (lent (97 ∷ 97 ∷ []) (padded 32 (2 ∷ 0 ∷ 25 ∷ 1 ∷ 2 ∷ [])) (padded 16 ([])) (padded 16 ([])) (padded 2 ([])) (counts 1 0 0 1)) (lent (97 ∷ 32 ∷ 43 ∷ 32 ∷ 98 ∷ []) (padded 80 (2 ∷ 0 ∷ 25 ∷ 0 ∷ 1 ∷ 0 ∷ 0 ∷ 0 ∷ 0 ∷ 0 ∷ 0 ∷ 0 ∷ 0 ∷ 0 ∷ 0 ∷ 0 ∷ 2 ∷ 0 ∷ 25 ∷ 4 ∷ 1 ∷ 0 ∷ 0 ∷ 0 ∷ 0 ∷ 0 ∷ 0 ∷ 0 ∷ 0 ∷ 0 ∷ 0 ∷ 0 ∷ 3 ∷ 2 ∷ 4 ∷ 2 ∷ 1 ∷ 0 ∷ 1 ∷ [])) (padded 40 ([])) (padded 40 ([])) (padded 5 (2 ∷ [])) (counts 3 0 0 1)) ≡ refused 4
+-- type of an unknown kind, right
+case-95 : compare (lent (97 ∷ 32 ∷ 43 ∷ 32 ∷ 98 ∷ []) (padded 80 (2 ∷ 0 ∷ 25 ∷ 0 ∷ 1 ∷ 0 ∷ 0 ∷ 0 ∷ 0 ∷ 0 ∷ 0 ∷ 0 ∷ 0 ∷ 0 ∷ 0 ∷ 0 ∷ 2 ∷ 0 ∷ 25 ∷ 4 ∷ 1 ∷ 0 ∷ 0 ∷ 0 ∷ 0 ∷ 0 ∷ 0 ∷ 0 ∷ 0 ∷ 0 ∷ 0 ∷ 0 ∷ 3 ∷ 2 ∷ 4 ∷ 2 ∷ 1 ∷ 0 ∷ 1 ∷ [])) (padded 40 ([])) (padded 40 ([])) (padded 5 (2 ∷ [])) (counts 3 0 0 1)) (lent (97 ∷ 97 ∷ []) (padded 32 (2 ∷ 0 ∷ 25 ∷ 0 ∷ 1 ∷ 0 ∷ 0 ∷ 0 ∷ 0 ∷ 0 ∷ 0 ∷ 0 ∷ 0 ∷ 0 ∷ 0 ∷ 0 ∷ 10 ∷ 1 ∷ 32 ∷ 0 ∷ 2 ∷ [])) (padded 16 (6 ∷ 36 ∷ 0 ∷ 3 ∷ [])) (padded 16 ([])) (padded 2 (1 ∷ [])) (counts 2 1 0 1)) ≡ refused 4
 unfolding comparison
 case-95 = refl
 
--- spelling past the script, right
-case-96 : compare (lent (97 ∷ 32 ∷ 43 ∷ 32 ∷ 98 ∷ []) (padded 80 (2 ∷ 0 ∷ 25 ∷ 0 ∷ 1 ∷ 0 ∷ 0 ∷ 0 ∷ 0 ∷ 0 ∷ 0 ∷ 0 ∷ 0 ∷ 0 ∷ 0 ∷ 0 ∷ 2 ∷ 0 ∷ 25 ∷ 4 ∷ 1 ∷ 0 ∷ 0 ∷ 0 ∷ 0 ∷ 0 ∷ 0 ∷ 0 ∷ 0 ∷ 0 ∷ 0 ∷ 0 ∷ 3 ∷ 2 ∷ 4 ∷ 2 ∷ 1 ∷ 0 ∷ 1 ∷ [])) (padded 40 ([])) (padded 40 ([])) (padded 5 (2 ∷ [])) (counts 3 0 0 1)) (lent (97 ∷ 97 ∷ []) (padded 32 (2 ∷ 0 ∷ 25 ∷ 1 ∷ 2 ∷ [])) (padded 16 ([])) (padded 16 ([])) (padded 2 ([])) (counts 1 0 0 1)) ≡ refused 4
+-- docs past the list cells, left
+case-96 : compare (lent (97 ∷ 97 ∷ []) (padded 32 (2 ∷ 0 ∷ 25 ∷ 0 ∷ 1 ∷ 0 ∷ 0 ∷ 0 ∷ 0 ∷ 0 ∷ 0 ∷ 0 ∷ 0 ∷ 0 ∷ 0 ∷ 0 ∷ 5 ∷ 1 ∷ 0 ∷ 1 ∷ 25 ∷ 0 ∷ 1 ∷ [])) (padded 16 ([])) (padded 16 (26 ∷ [])) (padded 2 (1 ∷ [])) (counts 2 0 2 1)) (lent (97 ∷ 32 ∷ 43 ∷ 32 ∷ 98 ∷ []) (padded 80 (2 ∷ 0 ∷ 25 ∷ 0 ∷ 1 ∷ 0 ∷ 0 ∷ 0 ∷ 0 ∷ 0 ∷ 0 ∷ 0 ∷ 0 ∷ 0 ∷ 0 ∷ 0 ∷ 2 ∷ 0 ∷ 25 ∷ 4 ∷ 1 ∷ 0 ∷ 0 ∷ 0 ∷ 0 ∷ 0 ∷ 0 ∷ 0 ∷ 0 ∷ 0 ∷ 0 ∷ 0 ∷ 3 ∷ 2 ∷ 4 ∷ 2 ∷ 1 ∷ 0 ∷ 1 ∷ [])) (padded 40 ([])) (padded 40 ([])) (padded 5 (2 ∷ [])) (counts 3 0 0 1)) ≡ refused 4
 unfolding comparison
 case-96 = refl
 
--- case's own token of an unknown kind, left
-case-97 : compare (lent (97 ∷ 98 ∷ 99 ∷ []) (padded 48 (2 ∷ 0 ∷ 25 ∷ 0 ∷ 1 ∷ 0 ∷ 0 ∷ 0 ∷ 0 ∷ 0 ∷ 0 ∷ 0 ∷ 0 ∷ 0 ∷ 0 ∷ 0 ∷ 2 ∷ 0 ∷ 25 ∷ 1 ∷ 1 ∷ 0 ∷ 0 ∷ 0 ∷ 0 ∷ 0 ∷ 0 ∷ 0 ∷ 0 ∷ 0 ∷ 0 ∷ 0 ∷ 7 ∷ 2 ∷ 0 ∷ 1 ∷ 20 ∷ 0 ∷ 1 ∷ 7 ∷ 1 ∷ [])) (padded 24 ([])) (padded 24 (99 ∷ 0 ∷ 1 ∷ 0 ∷ 6 ∷ 1 ∷ 1 ∷ 1 ∷ [])) (padded 3 (2 ∷ [])) (counts 3 0 8 1)) (lent (97 ∷ 32 ∷ 43 ∷ 32 ∷ 98 ∷ []) (padded 80 (2 ∷ 0 ∷ 25 ∷ 0 ∷ 1 ∷ 0 ∷ 0 ∷ 0 ∷ 0 ∷ 0 ∷ 0 ∷ 0 ∷ 0 ∷ 0 ∷ 0 ∷ 0 ∷ 2 ∷ 0 ∷ 25 ∷ 4 ∷ 1 ∷ 0 ∷ 0 ∷ 0 ∷ 0 ∷ 0 ∷ 0 ∷ 0 ∷ 0 ∷ 0 ∷ 0 ∷ 0 ∷ 3 ∷ 2 ∷ 4 ∷ 2 ∷ 1 ∷ 0 ∷ 1 ∷ [])) (padded 40 ([])) (padded 40 ([])) (padded 5 (2 ∷ [])) (counts 3 0 0 1)) ≡ refused 4
+-- docs past the list cells, right
+case-97 : compare (lent (97 ∷ 32 ∷ 43 ∷ 32 ∷ 98 ∷ []) (padded 80 (2 ∷ 0 ∷ 25 ∷ 0 ∷ 1 ∷ 0 ∷ 0 ∷ 0 ∷ 0 ∷ 0 ∷ 0 ∷ 0 ∷ 0 ∷ 0 ∷ 0 ∷ 0 ∷ 2 ∷ 0 ∷ 25 ∷ 4 ∷ 1 ∷ 0 ∷ 0 ∷ 0 ∷ 0 ∷ 0 ∷ 0 ∷ 0 ∷ 0 ∷ 0 ∷ 0 ∷ 0 ∷ 3 ∷ 2 ∷ 4 ∷ 2 ∷ 1 ∷ 0 ∷ 1 ∷ [])) (padded 40 ([])) (padded 40 ([])) (padded 5 (2 ∷ [])) (counts 3 0 0 1)) (lent (97 ∷ 97 ∷ []) (padded 32 (2 ∷ 0 ∷ 25 ∷ 0 ∷ 1 ∷ 0 ∷ 0 ∷ 0 ∷ 0 ∷ 0 ∷ 0 ∷ 0 ∷ 0 ∷ 0 ∷ 0 ∷ 0 ∷ 5 ∷ 1 ∷ 0 ∷ 1 ∷ 25 ∷ 0 ∷ 1 ∷ [])) (padded 16 ([])) (padded 16 (26 ∷ [])) (padded 2 (1 ∷ [])) (counts 2 0 2 1)) ≡ refused 4
 unfolding comparison
 case-97 = refl
 
--- case's own token of an unknown kind, right
-case-98 : compare (lent (97 ∷ 32 ∷ 43 ∷ 32 ∷ 98 ∷ []) (padded 80 (2 ∷ 0 ∷ 25 ∷ 0 ∷ 1 ∷ 0 ∷ 0 ∷ 0 ∷ 0 ∷ 0 ∷ 0 ∷ 0 ∷ 0 ∷ 0 ∷ 0 ∷ 0 ∷ 2 ∷ 0 ∷ 25 ∷ 4 ∷ 1 ∷ 0 ∷ 0 ∷ 0 ∷ 0 ∷ 0 ∷ 0 ∷ 0 ∷ 0 ∷ 0 ∷ 0 ∷ 0 ∷ 3 ∷ 2 ∷ 4 ∷ 2 ∷ 1 ∷ 0 ∷ 1 ∷ [])) (padded 40 ([])) (padded 40 ([])) (padded 5 (2 ∷ [])) (counts 3 0 0 1)) (lent (97 ∷ 98 ∷ 99 ∷ []) (padded 48 (2 ∷ 0 ∷ 25 ∷ 0 ∷ 1 ∷ 0 ∷ 0 ∷ 0 ∷ 0 ∷ 0 ∷ 0 ∷ 0 ∷ 0 ∷ 0 ∷ 0 ∷ 0 ∷ 2 ∷ 0 ∷ 25 ∷ 1 ∷ 1 ∷ 0 ∷ 0 ∷ 0 ∷ 0 ∷ 0 ∷ 0 ∷ 0 ∷ 0 ∷ 0 ∷ 0 ∷ 0 ∷ 7 ∷ 2 ∷ 0 ∷ 1 ∷ 20 ∷ 0 ∷ 1 ∷ 7 ∷ 1 ∷ [])) (padded 24 ([])) (padded 24 (99 ∷ 0 ∷ 1 ∷ 0 ∷ 6 ∷ 1 ∷ 1 ∷ 1 ∷ [])) (padded 3 (2 ∷ [])) (counts 3 0 8 1)) ≡ refused 4
+-- spelling past the script, left
+case-98 : compare (lent (97 ∷ 97 ∷ []) (padded 32 (2 ∷ 0 ∷ 25 ∷ 1 ∷ 2 ∷ [])) (padded 16 ([])) (padded 16 ([])) (padded 2 ([])) (counts 1 0 0 1)) (lent (97 ∷ 32 ∷ 43 ∷ 32 ∷ 98 ∷ []) (padded 80 (2 ∷ 0 ∷ 25 ∷ 0 ∷ 1 ∷ 0 ∷ 0 ∷ 0 ∷ 0 ∷ 0 ∷ 0 ∷ 0 ∷ 0 ∷ 0 ∷ 0 ∷ 0 ∷ 2 ∷ 0 ∷ 25 ∷ 4 ∷ 1 ∷ 0 ∷ 0 ∷ 0 ∷ 0 ∷ 0 ∷ 0 ∷ 0 ∷ 0 ∷ 0 ∷ 0 ∷ 0 ∷ 3 ∷ 2 ∷ 4 ∷ 2 ∷ 1 ∷ 0 ∷ 1 ∷ [])) (padded 40 ([])) (padded 40 ([])) (padded 5 (2 ∷ [])) (counts 3 0 0 1)) ≡ refused 4
 unfolding comparison
 case-98 = refl
 
--- case's own token past the script, left
-case-99 : compare (lent (97 ∷ 98 ∷ 99 ∷ []) (padded 48 (2 ∷ 0 ∷ 25 ∷ 0 ∷ 1 ∷ 0 ∷ 0 ∷ 0 ∷ 0 ∷ 0 ∷ 0 ∷ 0 ∷ 0 ∷ 0 ∷ 0 ∷ 0 ∷ 2 ∷ 0 ∷ 25 ∷ 1 ∷ 1 ∷ 0 ∷ 0 ∷ 0 ∷ 0 ∷ 0 ∷ 0 ∷ 0 ∷ 0 ∷ 0 ∷ 0 ∷ 0 ∷ 7 ∷ 2 ∷ 0 ∷ 1 ∷ 20 ∷ 0 ∷ 1 ∷ 7 ∷ 1 ∷ [])) (padded 24 ([])) (padded 24 (25 ∷ 3 ∷ 1 ∷ 0 ∷ 6 ∷ 1 ∷ 1 ∷ 1 ∷ [])) (padded 3 (2 ∷ [])) (counts 3 0 8 1)) (lent (97 ∷ 32 ∷ 43 ∷ 32 ∷ 98 ∷ []) (padded 80 (2 ∷ 0 ∷ 25 ∷ 0 ∷ 1 ∷ 0 ∷ 0 ∷ 0 ∷ 0 ∷ 0 ∷ 0 ∷ 0 ∷ 0 ∷ 0 ∷ 0 ∷ 0 ∷ 2 ∷ 0 ∷ 25 ∷ 4 ∷ 1 ∷ 0 ∷ 0 ∷ 0 ∷ 0 ∷ 0 ∷ 0 ∷ 0 ∷ 0 ∷ 0 ∷ 0 ∷ 0 ∷ 3 ∷ 2 ∷ 4 ∷ 2 ∷ 1 ∷ 0 ∷ 1 ∷ [])) (padded 40 ([])) (padded 40 ([])) (padded 5 (2 ∷ [])) (counts 3 0 0 1)) ≡ refused 4
+-- spelling past the script, right
+case-99 : compare (lent (97 ∷ 32 ∷ 43 ∷ 32 ∷ 98 ∷ []) (padded 80 (2 ∷ 0 ∷ 25 ∷ 0 ∷ 1 ∷ 0 ∷ 0 ∷ 0 ∷ 0 ∷ 0 ∷ 0 ∷ 0 ∷ 0 ∷ 0 ∷ 0 ∷ 0 ∷ 2 ∷ 0 ∷ 25 ∷ 4 ∷ 1 ∷ 0 ∷ 0 ∷ 0 ∷ 0 ∷ 0 ∷ 0 ∷ 0 ∷ 0 ∷ 0 ∷ 0 ∷ 0 ∷ 3 ∷ 2 ∷ 4 ∷ 2 ∷ 1 ∷ 0 ∷ 1 ∷ [])) (padded 40 ([])) (padded 40 ([])) (padded 5 (2 ∷ [])) (counts 3 0 0 1)) (lent (97 ∷ 97 ∷ []) (padded 32 (2 ∷ 0 ∷ 25 ∷ 1 ∷ 2 ∷ [])) (padded 16 ([])) (padded 16 ([])) (padded 2 ([])) (counts 1 0 0 1)) ≡ refused 4
 unfolding comparison
 case-99 = refl
 
--- case's own token past the script, right
-case-100 : compare (lent (97 ∷ 32 ∷ 43 ∷ 32 ∷ 98 ∷ []) (padded 80 (2 ∷ 0 ∷ 25 ∷ 0 ∷ 1 ∷ 0 ∷ 0 ∷ 0 ∷ 0 ∷ 0 ∷ 0 ∷ 0 ∷ 0 ∷ 0 ∷ 0 ∷ 0 ∷ 2 ∷ 0 ∷ 25 ∷ 4 ∷ 1 ∷ 0 ∷ 0 ∷ 0 ∷ 0 ∷ 0 ∷ 0 ∷ 0 ∷ 0 ∷ 0 ∷ 0 ∷ 0 ∷ 3 ∷ 2 ∷ 4 ∷ 2 ∷ 1 ∷ 0 ∷ 1 ∷ [])) (padded 40 ([])) (padded 40 ([])) (padded 5 (2 ∷ [])) (counts 3 0 0 1)) (lent (97 ∷ 98 ∷ 99 ∷ []) (padded 48 (2 ∷ 0 ∷ 25 ∷ 0 ∷ 1 ∷ 0 ∷ 0 ∷ 0 ∷ 0 ∷ 0 ∷ 0 ∷ 0 ∷ 0 ∷ 0 ∷ 0 ∷ 0 ∷ 2 ∷ 0 ∷ 25 ∷ 1 ∷ 1 ∷ 0 ∷ 0 ∷ 0 ∷ 0 ∷ 0 ∷ 0 ∷ 0 ∷ 0 ∷ 0 ∷ 0 ∷ 0 ∷ 7 ∷ 2 ∷ 0 ∷ 1 ∷ 20 ∷ 0 ∷ 1 ∷ 7 ∷ 1 ∷ [])) (padded 24 ([])) (padded 24 (25 ∷ 3 ∷ 1 ∷ 0 ∷ 6 ∷ 1 ∷ 1 ∷ 1 ∷ [])) (padded 3 (2 ∷ [])) (counts 3 0 8 1)) ≡ refused 4
+-- case's own token of an unknown kind, left
+case-100 : compare (lent (97 ∷ 98 ∷ 99 ∷ []) (padded 48 (2 ∷ 0 ∷ 25 ∷ 0 ∷ 1 ∷ 0 ∷ 0 ∷ 0 ∷ 0 ∷ 0 ∷ 0 ∷ 0 ∷ 0 ∷ 0 ∷ 0 ∷ 0 ∷ 2 ∷ 0 ∷ 25 ∷ 1 ∷ 1 ∷ 0 ∷ 0 ∷ 0 ∷ 0 ∷ 0 ∷ 0 ∷ 0 ∷ 0 ∷ 0 ∷ 0 ∷ 0 ∷ 7 ∷ 2 ∷ 0 ∷ 1 ∷ 20 ∷ 0 ∷ 1 ∷ 7 ∷ 1 ∷ [])) (padded 24 ([])) (padded 24 (99 ∷ 0 ∷ 1 ∷ 0 ∷ 6 ∷ 1 ∷ 1 ∷ 1 ∷ [])) (padded 3 (2 ∷ [])) (counts 3 0 8 1)) (lent (97 ∷ 32 ∷ 43 ∷ 32 ∷ 98 ∷ []) (padded 80 (2 ∷ 0 ∷ 25 ∷ 0 ∷ 1 ∷ 0 ∷ 0 ∷ 0 ∷ 0 ∷ 0 ∷ 0 ∷ 0 ∷ 0 ∷ 0 ∷ 0 ∷ 0 ∷ 2 ∷ 0 ∷ 25 ∷ 4 ∷ 1 ∷ 0 ∷ 0 ∷ 0 ∷ 0 ∷ 0 ∷ 0 ∷ 0 ∷ 0 ∷ 0 ∷ 0 ∷ 0 ∷ 3 ∷ 2 ∷ 4 ∷ 2 ∷ 1 ∷ 0 ∷ 1 ∷ [])) (padded 40 ([])) (padded 40 ([])) (padded 5 (2 ∷ [])) (counts 3 0 0 1)) ≡ refused 4
 unfolding comparison
 case-100 = refl
 
--- default's token of an unknown kind, left
-case-101 : compare (lent (97 ∷ 97 ∷ []) (padded 32 (7 ∷ 0 ∷ 0 ∷ 0 ∷ 44 ∷ 0 ∷ 1 ∷ [])) (padded 16 ([])) (padded 16 ([])) (padded 2 ([])) (counts 1 0 0 1)) (lent (97 ∷ 32 ∷ 43 ∷ 32 ∷ 98 ∷ []) (padded 80 (2 ∷ 0 ∷ 25 ∷ 0 ∷ 1 ∷ 0 ∷ 0 ∷ 0 ∷ 0 ∷ 0 ∷ 0 ∷ 0 ∷ 0 ∷ 0 ∷ 0 ∷ 0 ∷ 2 ∷ 0 ∷ 25 ∷ 4 ∷ 1 ∷ 0 ∷ 0 ∷ 0 ∷ 0 ∷ 0 ∷ 0 ∷ 0 ∷ 0 ∷ 0 ∷ 0 ∷ 0 ∷ 3 ∷ 2 ∷ 4 ∷ 2 ∷ 1 ∷ 0 ∷ 1 ∷ [])) (padded 40 ([])) (padded 40 ([])) (padded 5 (2 ∷ [])) (counts 3 0 0 1)) ≡ refused 4
+-- case's own token of an unknown kind, right
+case-101 : compare (lent (97 ∷ 32 ∷ 43 ∷ 32 ∷ 98 ∷ []) (padded 80 (2 ∷ 0 ∷ 25 ∷ 0 ∷ 1 ∷ 0 ∷ 0 ∷ 0 ∷ 0 ∷ 0 ∷ 0 ∷ 0 ∷ 0 ∷ 0 ∷ 0 ∷ 0 ∷ 2 ∷ 0 ∷ 25 ∷ 4 ∷ 1 ∷ 0 ∷ 0 ∷ 0 ∷ 0 ∷ 0 ∷ 0 ∷ 0 ∷ 0 ∷ 0 ∷ 0 ∷ 0 ∷ 3 ∷ 2 ∷ 4 ∷ 2 ∷ 1 ∷ 0 ∷ 1 ∷ [])) (padded 40 ([])) (padded 40 ([])) (padded 5 (2 ∷ [])) (counts 3 0 0 1)) (lent (97 ∷ 98 ∷ 99 ∷ []) (padded 48 (2 ∷ 0 ∷ 25 ∷ 0 ∷ 1 ∷ 0 ∷ 0 ∷ 0 ∷ 0 ∷ 0 ∷ 0 ∷ 0 ∷ 0 ∷ 0 ∷ 0 ∷ 0 ∷ 2 ∷ 0 ∷ 25 ∷ 1 ∷ 1 ∷ 0 ∷ 0 ∷ 0 ∷ 0 ∷ 0 ∷ 0 ∷ 0 ∷ 0 ∷ 0 ∷ 0 ∷ 0 ∷ 7 ∷ 2 ∷ 0 ∷ 1 ∷ 20 ∷ 0 ∷ 1 ∷ 7 ∷ 1 ∷ [])) (padded 24 ([])) (padded 24 (99 ∷ 0 ∷ 1 ∷ 0 ∷ 6 ∷ 1 ∷ 1 ∷ 1 ∷ [])) (padded 3 (2 ∷ [])) (counts 3 0 8 1)) ≡ refused 4
 unfolding comparison
 case-101 = refl
 
--- default's token of an unknown kind, right
-case-102 : compare (lent (97 ∷ 32 ∷ 43 ∷ 32 ∷ 98 ∷ []) (padded 80 (2 ∷ 0 ∷ 25 ∷ 0 ∷ 1 ∷ 0 ∷ 0 ∷ 0 ∷ 0 ∷ 0 ∷ 0 ∷ 0 ∷ 0 ∷ 0 ∷ 0 ∷ 0 ∷ 2 ∷ 0 ∷ 25 ∷ 4 ∷ 1 ∷ 0 ∷ 0 ∷ 0 ∷ 0 ∷ 0 ∷ 0 ∷ 0 ∷ 0 ∷ 0 ∷ 0 ∷ 0 ∷ 3 ∷ 2 ∷ 4 ∷ 2 ∷ 1 ∷ 0 ∷ 1 ∷ [])) (padded 40 ([])) (padded 40 ([])) (padded 5 (2 ∷ [])) (counts 3 0 0 1)) (lent (97 ∷ 97 ∷ []) (padded 32 (7 ∷ 0 ∷ 0 ∷ 0 ∷ 44 ∷ 0 ∷ 1 ∷ [])) (padded 16 ([])) (padded 16 ([])) (padded 2 ([])) (counts 1 0 0 1)) ≡ refused 4
+-- case's own token past the script, left
+case-102 : compare (lent (97 ∷ 98 ∷ 99 ∷ []) (padded 48 (2 ∷ 0 ∷ 25 ∷ 0 ∷ 1 ∷ 0 ∷ 0 ∷ 0 ∷ 0 ∷ 0 ∷ 0 ∷ 0 ∷ 0 ∷ 0 ∷ 0 ∷ 0 ∷ 2 ∷ 0 ∷ 25 ∷ 1 ∷ 1 ∷ 0 ∷ 0 ∷ 0 ∷ 0 ∷ 0 ∷ 0 ∷ 0 ∷ 0 ∷ 0 ∷ 0 ∷ 0 ∷ 7 ∷ 2 ∷ 0 ∷ 1 ∷ 20 ∷ 0 ∷ 1 ∷ 7 ∷ 1 ∷ [])) (padded 24 ([])) (padded 24 (25 ∷ 3 ∷ 1 ∷ 0 ∷ 6 ∷ 1 ∷ 1 ∷ 1 ∷ [])) (padded 3 (2 ∷ [])) (counts 3 0 8 1)) (lent (97 ∷ 32 ∷ 43 ∷ 32 ∷ 98 ∷ []) (padded 80 (2 ∷ 0 ∷ 25 ∷ 0 ∷ 1 ∷ 0 ∷ 0 ∷ 0 ∷ 0 ∷ 0 ∷ 0 ∷ 0 ∷ 0 ∷ 0 ∷ 0 ∷ 0 ∷ 2 ∷ 0 ∷ 25 ∷ 4 ∷ 1 ∷ 0 ∷ 0 ∷ 0 ∷ 0 ∷ 0 ∷ 0 ∷ 0 ∷ 0 ∷ 0 ∷ 0 ∷ 0 ∷ 3 ∷ 2 ∷ 4 ∷ 2 ∷ 1 ∷ 0 ∷ 1 ∷ [])) (padded 40 ([])) (padded 40 ([])) (padded 5 (2 ∷ [])) (counts 3 0 0 1)) ≡ refused 4
 unfolding comparison
 case-102 = refl
 
--- nodes one cell short, left
-case-103 : compare (lent (97 ∷ 97 ∷ []) (padded 31 (15 ∷ [])) (padded 16 ([])) (padded 16 ([])) (padded 2 ([])) (counts 1 0 0 1)) (lent (97 ∷ 32 ∷ 43 ∷ 32 ∷ 98 ∷ []) (padded 80 (2 ∷ 0 ∷ 25 ∷ 0 ∷ 1 ∷ 0 ∷ 0 ∷ 0 ∷ 0 ∷ 0 ∷ 0 ∷ 0 ∷ 0 ∷ 0 ∷ 0 ∷ 0 ∷ 2 ∷ 0 ∷ 25 ∷ 4 ∷ 1 ∷ 0 ∷ 0 ∷ 0 ∷ 0 ∷ 0 ∷ 0 ∷ 0 ∷ 0 ∷ 0 ∷ 0 ∷ 0 ∷ 3 ∷ 2 ∷ 4 ∷ 2 ∷ 1 ∷ 0 ∷ 1 ∷ [])) (padded 40 ([])) (padded 40 ([])) (padded 5 (2 ∷ [])) (counts 3 0 0 1)) ≡ refused 2
+-- case's own token past the script, right
+case-103 : compare (lent (97 ∷ 32 ∷ 43 ∷ 32 ∷ 98 ∷ []) (padded 80 (2 ∷ 0 ∷ 25 ∷ 0 ∷ 1 ∷ 0 ∷ 0 ∷ 0 ∷ 0 ∷ 0 ∷ 0 ∷ 0 ∷ 0 ∷ 0 ∷ 0 ∷ 0 ∷ 2 ∷ 0 ∷ 25 ∷ 4 ∷ 1 ∷ 0 ∷ 0 ∷ 0 ∷ 0 ∷ 0 ∷ 0 ∷ 0 ∷ 0 ∷ 0 ∷ 0 ∷ 0 ∷ 3 ∷ 2 ∷ 4 ∷ 2 ∷ 1 ∷ 0 ∷ 1 ∷ [])) (padded 40 ([])) (padded 40 ([])) (padded 5 (2 ∷ [])) (counts 3 0 0 1)) (lent (97 ∷ 98 ∷ 99 ∷ []) (padded 48 (2 ∷ 0 ∷ 25 ∷ 0 ∷ 1 ∷ 0 ∷ 0 ∷ 0 ∷ 0 ∷ 0 ∷ 0 ∷ 0 ∷ 0 ∷ 0 ∷ 0 ∷ 0 ∷ 2 ∷ 0 ∷ 25 ∷ 1 ∷ 1 ∷ 0 ∷ 0 ∷ 0 ∷ 0 ∷ 0 ∷ 0 ∷ 0 ∷ 0 ∷ 0 ∷ 0 ∷ 0 ∷ 7 ∷ 2 ∷ 0 ∷ 1 ∷ 20 ∷ 0 ∷ 1 ∷ 7 ∷ 1 ∷ [])) (padded 24 ([])) (padded 24 (25 ∷ 3 ∷ 1 ∷ 0 ∷ 6 ∷ 1 ∷ 1 ∷ 1 ∷ [])) (padded 3 (2 ∷ [])) (counts 3 0 8 1)) ≡ refused 4
 unfolding comparison
 case-103 = refl
 
--- nodes one cell short, right
-case-104 : compare (lent (97 ∷ 32 ∷ 43 ∷ 32 ∷ 98 ∷ []) (padded 80 (2 ∷ 0 ∷ 25 ∷ 0 ∷ 1 ∷ 0 ∷ 0 ∷ 0 ∷ 0 ∷ 0 ∷ 0 ∷ 0 ∷ 0 ∷ 0 ∷ 0 ∷ 0 ∷ 2 ∷ 0 ∷ 25 ∷ 4 ∷ 1 ∷ 0 ∷ 0 ∷ 0 ∷ 0 ∷ 0 ∷ 0 ∷ 0 ∷ 0 ∷ 0 ∷ 0 ∷ 0 ∷ 3 ∷ 2 ∷ 4 ∷ 2 ∷ 1 ∷ 0 ∷ 1 ∷ [])) (padded 40 ([])) (padded 40 ([])) (padded 5 (2 ∷ [])) (counts 3 0 0 1)) (lent (97 ∷ 97 ∷ []) (padded 31 (15 ∷ [])) (padded 16 ([])) (padded 16 ([])) (padded 2 ([])) (counts 1 0 0 1)) ≡ refused 2
+-- default's token of an unknown kind, left
+case-104 : compare (lent (97 ∷ 97 ∷ []) (padded 32 (7 ∷ 0 ∷ 0 ∷ 0 ∷ 44 ∷ 0 ∷ 1 ∷ [])) (padded 16 ([])) (padded 16 ([])) (padded 2 ([])) (counts 1 0 0 1)) (lent (97 ∷ 32 ∷ 43 ∷ 32 ∷ 98 ∷ []) (padded 80 (2 ∷ 0 ∷ 25 ∷ 0 ∷ 1 ∷ 0 ∷ 0 ∷ 0 ∷ 0 ∷ 0 ∷ 0 ∷ 0 ∷ 0 ∷ 0 ∷ 0 ∷ 0 ∷ 2 ∷ 0 ∷ 25 ∷ 4 ∷ 1 ∷ 0 ∷ 0 ∷ 0 ∷ 0 ∷ 0 ∷ 0 ∷ 0 ∷ 0 ∷ 0 ∷ 0 ∷ 0 ∷ 3 ∷ 2 ∷ 4 ∷ 2 ∷ 1 ∷ 0 ∷ 1 ∷ [])) (padded 40 ([])) (padded 40 ([])) (padded 5 (2 ∷ [])) (counts 3 0 0 1)) ≡ refused 4
 unfolding comparison
 case-104 = refl
 
--- types one cell short, left
-case-105 : compare (lent (97 ∷ 97 ∷ []) (padded 32 (15 ∷ [])) (padded 15 ([])) (padded 16 ([])) (padded 2 ([])) (counts 1 0 0 1)) (lent (97 ∷ 32 ∷ 43 ∷ 32 ∷ 98 ∷ []) (padded 80 (2 ∷ 0 ∷ 25 ∷ 0 ∷ 1 ∷ 0 ∷ 0 ∷ 0 ∷ 0 ∷ 0 ∷ 0 ∷ 0 ∷ 0 ∷ 0 ∷ 0 ∷ 0 ∷ 2 ∷ 0 ∷ 25 ∷ 4 ∷ 1 ∷ 0 ∷ 0 ∷ 0 ∷ 0 ∷ 0 ∷ 0 ∷ 0 ∷ 0 ∷ 0 ∷ 0 ∷ 0 ∷ 3 ∷ 2 ∷ 4 ∷ 2 ∷ 1 ∷ 0 ∷ 1 ∷ [])) (padded 40 ([])) (padded 40 ([])) (padded 5 (2 ∷ [])) (counts 3 0 0 1)) ≡ refused 2
+-- default's token of an unknown kind, right
+case-105 : compare (lent (97 ∷ 32 ∷ 43 ∷ 32 ∷ 98 ∷ []) (padded 80 (2 ∷ 0 ∷ 25 ∷ 0 ∷ 1 ∷ 0 ∷ 0 ∷ 0 ∷ 0 ∷ 0 ∷ 0 ∷ 0 ∷ 0 ∷ 0 ∷ 0 ∷ 0 ∷ 2 ∷ 0 ∷ 25 ∷ 4 ∷ 1 ∷ 0 ∷ 0 ∷ 0 ∷ 0 ∷ 0 ∷ 0 ∷ 0 ∷ 0 ∷ 0 ∷ 0 ∷ 0 ∷ 3 ∷ 2 ∷ 4 ∷ 2 ∷ 1 ∷ 0 ∷ 1 ∷ [])) (padded 40 ([])) (padded 40 ([])) (padded 5 (2 ∷ [])) (counts 3 0 0 1)) (lent (97 ∷ 97 ∷ []) (padded 32 (7 ∷ 0 ∷ 0 ∷ 0 ∷ 44 ∷ 0 ∷ 1 ∷ [])) (padded 16 ([])) (padded 16 ([])) (padded 2 ([])) (counts 1 0 0 1)) ≡ refused 4
 unfolding comparison
 case-105 = refl
 
--- types one cell short, right
-case-106 : compare (lent (97 ∷ 32 ∷ 43 ∷ 32 ∷ 98 ∷ []) (padded 80 (2 ∷ 0 ∷ 25 ∷ 0 ∷ 1 ∷ 0 ∷ 0 ∷ 0 ∷ 0 ∷ 0 ∷ 0 ∷ 0 ∷ 0 ∷ 0 ∷ 0 ∷ 0 ∷ 2 ∷ 0 ∷ 25 ∷ 4 ∷ 1 ∷ 0 ∷ 0 ∷ 0 ∷ 0 ∷ 0 ∷ 0 ∷ 0 ∷ 0 ∷ 0 ∷ 0 ∷ 0 ∷ 3 ∷ 2 ∷ 4 ∷ 2 ∷ 1 ∷ 0 ∷ 1 ∷ [])) (padded 40 ([])) (padded 40 ([])) (padded 5 (2 ∷ [])) (counts 3 0 0 1)) (lent (97 ∷ 97 ∷ []) (padded 32 (15 ∷ [])) (padded 15 ([])) (padded 16 ([])) (padded 2 ([])) (counts 1 0 0 1)) ≡ refused 2
+-- nodes one cell short, left
+case-106 : compare (lent (97 ∷ 97 ∷ []) (padded 31 (15 ∷ [])) (padded 16 ([])) (padded 16 ([])) (padded 2 ([])) (counts 1 0 0 1)) (lent (97 ∷ 32 ∷ 43 ∷ 32 ∷ 98 ∷ []) (padded 80 (2 ∷ 0 ∷ 25 ∷ 0 ∷ 1 ∷ 0 ∷ 0 ∷ 0 ∷ 0 ∷ 0 ∷ 0 ∷ 0 ∷ 0 ∷ 0 ∷ 0 ∷ 0 ∷ 2 ∷ 0 ∷ 25 ∷ 4 ∷ 1 ∷ 0 ∷ 0 ∷ 0 ∷ 0 ∷ 0 ∷ 0 ∷ 0 ∷ 0 ∷ 0 ∷ 0 ∷ 0 ∷ 3 ∷ 2 ∷ 4 ∷ 2 ∷ 1 ∷ 0 ∷ 1 ∷ [])) (padded 40 ([])) (padded 40 ([])) (padded 5 (2 ∷ [])) (counts 3 0 0 1)) ≡ refused 2
 unfolding comparison
 case-106 = refl
 
--- lists one cell short, left
-case-107 : compare (lent (97 ∷ 97 ∷ []) (padded 32 (15 ∷ [])) (padded 16 ([])) (padded 15 ([])) (padded 2 ([])) (counts 1 0 0 1)) (lent (97 ∷ 32 ∷ 43 ∷ 32 ∷ 98 ∷ []) (padded 80 (2 ∷ 0 ∷ 25 ∷ 0 ∷ 1 ∷ 0 ∷ 0 ∷ 0 ∷ 0 ∷ 0 ∷ 0 ∷ 0 ∷ 0 ∷ 0 ∷ 0 ∷ 0 ∷ 2 ∷ 0 ∷ 25 ∷ 4 ∷ 1 ∷ 0 ∷ 0 ∷ 0 ∷ 0 ∷ 0 ∷ 0 ∷ 0 ∷ 0 ∷ 0 ∷ 0 ∷ 0 ∷ 3 ∷ 2 ∷ 4 ∷ 2 ∷ 1 ∷ 0 ∷ 1 ∷ [])) (padded 40 ([])) (padded 40 ([])) (padded 5 (2 ∷ [])) (counts 3 0 0 1)) ≡ refused 2
+-- nodes one cell short, right
+case-107 : compare (lent (97 ∷ 32 ∷ 43 ∷ 32 ∷ 98 ∷ []) (padded 80 (2 ∷ 0 ∷ 25 ∷ 0 ∷ 1 ∷ 0 ∷ 0 ∷ 0 ∷ 0 ∷ 0 ∷ 0 ∷ 0 ∷ 0 ∷ 0 ∷ 0 ∷ 0 ∷ 2 ∷ 0 ∷ 25 ∷ 4 ∷ 1 ∷ 0 ∷ 0 ∷ 0 ∷ 0 ∷ 0 ∷ 0 ∷ 0 ∷ 0 ∷ 0 ∷ 0 ∷ 0 ∷ 3 ∷ 2 ∷ 4 ∷ 2 ∷ 1 ∷ 0 ∷ 1 ∷ [])) (padded 40 ([])) (padded 40 ([])) (padded 5 (2 ∷ [])) (counts 3 0 0 1)) (lent (97 ∷ 97 ∷ []) (padded 31 (15 ∷ [])) (padded 16 ([])) (padded 16 ([])) (padded 2 ([])) (counts 1 0 0 1)) ≡ refused 2
 unfolding comparison
 case-107 = refl
 
--- lists one cell short, right
-case-108 : compare (lent (97 ∷ 32 ∷ 43 ∷ 32 ∷ 98 ∷ []) (padded 80 (2 ∷ 0 ∷ 25 ∷ 0 ∷ 1 ∷ 0 ∷ 0 ∷ 0 ∷ 0 ∷ 0 ∷ 0 ∷ 0 ∷ 0 ∷ 0 ∷ 0 ∷ 0 ∷ 2 ∷ 0 ∷ 25 ∷ 4 ∷ 1 ∷ 0 ∷ 0 ∷ 0 ∷ 0 ∷ 0 ∷ 0 ∷ 0 ∷ 0 ∷ 0 ∷ 0 ∷ 0 ∷ 3 ∷ 2 ∷ 4 ∷ 2 ∷ 1 ∷ 0 ∷ 1 ∷ [])) (padded 40 ([])) (padded 40 ([])) (padded 5 (2 ∷ [])) (counts 3 0 0 1)) (lent (97 ∷ 97 ∷ []) (padded 32 (15 ∷ [])) (padded 16 ([])) (padded 15 ([])) (padded 2 ([])) (counts 1 0 0 1)) ≡ refused 2
+-- types one cell short, left
+case-108 : compare (lent (97 ∷ 97 ∷ []) (padded 32 (15 ∷ [])) (padded 15 ([])) (padded 16 ([])) (padded 2 ([])) (counts 1 0 0 1)) (lent (97 ∷ 32 ∷ 43 ∷ 32 ∷ 98 ∷ []) (padded 80 (2 ∷ 0 ∷ 25 ∷ 0 ∷ 1 ∷ 0 ∷ 0 ∷ 0 ∷ 0 ∷ 0 ∷ 0 ∷ 0 ∷ 0 ∷ 0 ∷ 0 ∷ 0 ∷ 2 ∷ 0 ∷ 25 ∷ 4 ∷ 1 ∷ 0 ∷ 0 ∷ 0 ∷ 0 ∷ 0 ∷ 0 ∷ 0 ∷ 0 ∷ 0 ∷ 0 ∷ 0 ∷ 3 ∷ 2 ∷ 4 ∷ 2 ∷ 1 ∷ 0 ∷ 1 ∷ [])) (padded 40 ([])) (padded 40 ([])) (padded 5 (2 ∷ [])) (counts 3 0 0 1)) ≡ refused 2
 unfolding comparison
 case-108 = refl
 
--- roots one cell short, left
-case-109 : compare (lent (97 ∷ 97 ∷ []) (padded 32 (15 ∷ [])) (padded 16 ([])) (padded 16 ([])) (padded 1 ([])) (counts 1 0 0 1)) (lent (97 ∷ 32 ∷ 43 ∷ 32 ∷ 98 ∷ []) (padded 80 (2 ∷ 0 ∷ 25 ∷ 0 ∷ 1 ∷ 0 ∷ 0 ∷ 0 ∷ 0 ∷ 0 ∷ 0 ∷ 0 ∷ 0 ∷ 0 ∷ 0 ∷ 0 ∷ 2 ∷ 0 ∷ 25 ∷ 4 ∷ 1 ∷ 0 ∷ 0 ∷ 0 ∷ 0 ∷ 0 ∷ 0 ∷ 0 ∷ 0 ∷ 0 ∷ 0 ∷ 0 ∷ 3 ∷ 2 ∷ 4 ∷ 2 ∷ 1 ∷ 0 ∷ 1 ∷ [])) (padded 40 ([])) (padded 40 ([])) (padded 5 (2 ∷ [])) (counts 3 0 0 1)) ≡ refused 2
+-- types one cell short, right
+case-109 : compare (lent (97 ∷ 32 ∷ 43 ∷ 32 ∷ 98 ∷ []) (padded 80 (2 ∷ 0 ∷ 25 ∷ 0 ∷ 1 ∷ 0 ∷ 0 ∷ 0 ∷ 0 ∷ 0 ∷ 0 ∷ 0 ∷ 0 ∷ 0 ∷ 0 ∷ 0 ∷ 2 ∷ 0 ∷ 25 ∷ 4 ∷ 1 ∷ 0 ∷ 0 ∷ 0 ∷ 0 ∷ 0 ∷ 0 ∷ 0 ∷ 0 ∷ 0 ∷ 0 ∷ 0 ∷ 3 ∷ 2 ∷ 4 ∷ 2 ∷ 1 ∷ 0 ∷ 1 ∷ [])) (padded 40 ([])) (padded 40 ([])) (padded 5 (2 ∷ [])) (counts 3 0 0 1)) (lent (97 ∷ 97 ∷ []) (padded 32 (15 ∷ [])) (padded 15 ([])) (padded 16 ([])) (padded 2 ([])) (counts 1 0 0 1)) ≡ refused 2
 unfolding comparison
 case-109 = refl
 
--- roots one cell short, right
-case-110 : compare (lent (97 ∷ 32 ∷ 43 ∷ 32 ∷ 98 ∷ []) (padded 80 (2 ∷ 0 ∷ 25 ∷ 0 ∷ 1 ∷ 0 ∷ 0 ∷ 0 ∷ 0 ∷ 0 ∷ 0 ∷ 0 ∷ 0 ∷ 0 ∷ 0 ∷ 0 ∷ 2 ∷ 0 ∷ 25 ∷ 4 ∷ 1 ∷ 0 ∷ 0 ∷ 0 ∷ 0 ∷ 0 ∷ 0 ∷ 0 ∷ 0 ∷ 0 ∷ 0 ∷ 0 ∷ 3 ∷ 2 ∷ 4 ∷ 2 ∷ 1 ∷ 0 ∷ 1 ∷ [])) (padded 40 ([])) (padded 40 ([])) (padded 5 (2 ∷ [])) (counts 3 0 0 1)) (lent (97 ∷ 97 ∷ []) (padded 32 (15 ∷ [])) (padded 16 ([])) (padded 16 ([])) (padded 1 ([])) (counts 1 0 0 1)) ≡ refused 2
+-- lists one cell short, left
+case-110 : compare (lent (97 ∷ 97 ∷ []) (padded 32 (15 ∷ [])) (padded 16 ([])) (padded 15 ([])) (padded 2 ([])) (counts 1 0 0 1)) (lent (97 ∷ 32 ∷ 43 ∷ 32 ∷ 98 ∷ []) (padded 80 (2 ∷ 0 ∷ 25 ∷ 0 ∷ 1 ∷ 0 ∷ 0 ∷ 0 ∷ 0 ∷ 0 ∷ 0 ∷ 0 ∷ 0 ∷ 0 ∷ 0 ∷ 0 ∷ 2 ∷ 0 ∷ 25 ∷ 4 ∷ 1 ∷ 0 ∷ 0 ∷ 0 ∷ 0 ∷ 0 ∷ 0 ∷ 0 ∷ 0 ∷ 0 ∷ 0 ∷ 0 ∷ 3 ∷ 2 ∷ 4 ∷ 2 ∷ 1 ∷ 0 ∷ 1 ∷ [])) (padded 40 ([])) (padded 40 ([])) (padded 5 (2 ∷ [])) (counts 3 0 0 1)) ≡ refused 2
 unfolding comparison
 case-110 = refl
 
--- 2 on the right before 4 on the left
-case-111 : compare (lent (97 ∷ []) (padded 16 (15 ∷ [])) (padded 8 ([])) (padded 8 ([])) (padded 1 ([])) (counts 1 0 0 1)) (lent (97 ∷ 97 ∷ []) (padded 32 ([])) (padded 16 ([])) (padded 16 ([])) (padded 1 ([])) (counts 0 0 0 0)) ≡ refused 2
+-- lists one cell short, right
+case-111 : compare (lent (97 ∷ 32 ∷ 43 ∷ 32 ∷ 98 ∷ []) (padded 80 (2 ∷ 0 ∷ 25 ∷ 0 ∷ 1 ∷ 0 ∷ 0 ∷ 0 ∷ 0 ∷ 0 ∷ 0 ∷ 0 ∷ 0 ∷ 0 ∷ 0 ∷ 0 ∷ 2 ∷ 0 ∷ 25 ∷ 4 ∷ 1 ∷ 0 ∷ 0 ∷ 0 ∷ 0 ∷ 0 ∷ 0 ∷ 0 ∷ 0 ∷ 0 ∷ 0 ∷ 0 ∷ 3 ∷ 2 ∷ 4 ∷ 2 ∷ 1 ∷ 0 ∷ 1 ∷ [])) (padded 40 ([])) (padded 40 ([])) (padded 5 (2 ∷ [])) (counts 3 0 0 1)) (lent (97 ∷ 97 ∷ []) (padded 32 (15 ∷ [])) (padded 16 ([])) (padded 15 ([])) (padded 2 ([])) (counts 1 0 0 1)) ≡ refused 2
 unfolding comparison
 case-111 = refl
 
--- 1 on the right before 2 on the left
-case-112 : compare (lent (97 ∷ 97 ∷ []) (padded 1 ([])) (padded 1 ([])) (padded 1 ([])) (padded 1 ([])) (counts 0 0 0 0)) (lent (replicate 65537 32) (padded 1 ([])) (padded 1 ([])) (padded 1 ([])) (padded 1 ([])) (counts 0 0 0 0)) ≡ refused 1
+-- roots one cell short, left
+case-112 : compare (lent (97 ∷ 97 ∷ []) (padded 32 (15 ∷ [])) (padded 16 ([])) (padded 16 ([])) (padded 1 ([])) (counts 1 0 0 1)) (lent (97 ∷ 32 ∷ 43 ∷ 32 ∷ 98 ∷ []) (padded 80 (2 ∷ 0 ∷ 25 ∷ 0 ∷ 1 ∷ 0 ∷ 0 ∷ 0 ∷ 0 ∷ 0 ∷ 0 ∷ 0 ∷ 0 ∷ 0 ∷ 0 ∷ 0 ∷ 2 ∷ 0 ∷ 25 ∷ 4 ∷ 1 ∷ 0 ∷ 0 ∷ 0 ∷ 0 ∷ 0 ∷ 0 ∷ 0 ∷ 0 ∷ 0 ∷ 0 ∷ 0 ∷ 3 ∷ 2 ∷ 4 ∷ 2 ∷ 1 ∷ 0 ∷ 1 ∷ [])) (padded 40 ([])) (padded 40 ([])) (padded 5 (2 ∷ [])) (counts 3 0 0 1)) ≡ refused 2
 unfolding comparison
 case-112 = refl
 
--- 65,536 bytes on the right
-case-113 : compare (lent (97 ∷ 32 ∷ 43 ∷ 32 ∷ 98 ∷ []) (padded 80 (2 ∷ 0 ∷ 25 ∷ 0 ∷ 1 ∷ 0 ∷ 0 ∷ 0 ∷ 0 ∷ 0 ∷ 0 ∷ 0 ∷ 0 ∷ 0 ∷ 0 ∷ 0 ∷ 2 ∷ 0 ∷ 25 ∷ 4 ∷ 1 ∷ 0 ∷ 0 ∷ 0 ∷ 0 ∷ 0 ∷ 0 ∷ 0 ∷ 0 ∷ 0 ∷ 0 ∷ 0 ∷ 3 ∷ 2 ∷ 4 ∷ 2 ∷ 1 ∷ 0 ∷ 1 ∷ [])) (padded 40 ([])) (padded 40 ([])) (padded 5 (2 ∷ [])) (counts 3 0 0 1)) (lent (replicate 65536 32) (padded 1 ([])) (padded 1 ([])) (padded 1 ([])) (padded 1 ([])) (counts 0 0 0 0)) ≡ refused 2
+-- roots one cell short, right
+case-113 : compare (lent (97 ∷ 32 ∷ 43 ∷ 32 ∷ 98 ∷ []) (padded 80 (2 ∷ 0 ∷ 25 ∷ 0 ∷ 1 ∷ 0 ∷ 0 ∷ 0 ∷ 0 ∷ 0 ∷ 0 ∷ 0 ∷ 0 ∷ 0 ∷ 0 ∷ 0 ∷ 2 ∷ 0 ∷ 25 ∷ 4 ∷ 1 ∷ 0 ∷ 0 ∷ 0 ∷ 0 ∷ 0 ∷ 0 ∷ 0 ∷ 0 ∷ 0 ∷ 0 ∷ 0 ∷ 3 ∷ 2 ∷ 4 ∷ 2 ∷ 1 ∷ 0 ∷ 1 ∷ [])) (padded 40 ([])) (padded 40 ([])) (padded 5 (2 ∷ [])) (counts 3 0 0 1)) (lent (97 ∷ 97 ∷ []) (padded 32 (15 ∷ [])) (padded 16 ([])) (padded 16 ([])) (padded 1 ([])) (counts 1 0 0 1)) ≡ refused 2
 unfolding comparison
 case-113 = refl
+
+-- 2 on the right before 4 on the left
+case-114 : compare (lent (97 ∷ []) (padded 16 (15 ∷ [])) (padded 8 ([])) (padded 8 ([])) (padded 1 ([])) (counts 1 0 0 1)) (lent (97 ∷ 97 ∷ []) (padded 32 ([])) (padded 16 ([])) (padded 16 ([])) (padded 1 ([])) (counts 0 0 0 0)) ≡ refused 2
+unfolding comparison
+case-114 = refl
+
+-- 1 on the right before 2 on the left
+case-115 : compare (lent (97 ∷ 97 ∷ []) (padded 1 ([])) (padded 1 ([])) (padded 1 ([])) (padded 1 ([])) (counts 0 0 0 0)) (lent (replicate 65537 32) (padded 1 ([])) (padded 1 ([])) (padded 1 ([])) (padded 1 ([])) (counts 0 0 0 0)) ≡ refused 1
+unfolding comparison
+case-115 = refl
+
+-- 65,536 bytes on the right
+case-116 : compare (lent (97 ∷ 32 ∷ 43 ∷ 32 ∷ 98 ∷ []) (padded 80 (2 ∷ 0 ∷ 25 ∷ 0 ∷ 1 ∷ 0 ∷ 0 ∷ 0 ∷ 0 ∷ 0 ∷ 0 ∷ 0 ∷ 0 ∷ 0 ∷ 0 ∷ 0 ∷ 2 ∷ 0 ∷ 25 ∷ 4 ∷ 1 ∷ 0 ∷ 0 ∷ 0 ∷ 0 ∷ 0 ∷ 0 ∷ 0 ∷ 0 ∷ 0 ∷ 0 ∷ 0 ∷ 3 ∷ 2 ∷ 4 ∷ 2 ∷ 1 ∷ 0 ∷ 1 ∷ [])) (padded 40 ([])) (padded 40 ([])) (padded 5 (2 ∷ [])) (counts 3 0 0 1)) (lent (replicate 65536 32) (padded 1 ([])) (padded 1 ([])) (padded 1 ([])) (padded 1 ([])) (counts 0 0 0 0)) ≡ refused 2
+unfolding comparison
+case-116 = refl

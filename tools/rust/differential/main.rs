@@ -9,6 +9,7 @@
 //! pairs      two scripts each: the comparison of their trees beside the shapes of the Rust's
 //! refusals   1 to 3: scripts that are too long, arrays that are too short, numbers that lie outside
 //! limits     scripts of 0, 1, 65,536 and 65,537 bytes of many shapes; arrays exactly long enough, longer, and one cell short of each
+//! columns    lines and columns of a million positions, in whole and broken UTF-8, beside a count of its own
 //! practice   practice sheets beside a generator of its own; each is read
 //! sheets     correction sheets, read back by a reader of its own; refusals; how long one takes
 //! words      errors of every number, wanted and seen beside the tables of docs/WORDS.md, and their refusals
@@ -28,6 +29,7 @@ mod law;
 mod library;
 #[path = "../oracle/numbers.rs"]
 mod numbers;
+mod positions;
 mod practice;
 mod scripts;
 mod shape;
@@ -220,10 +222,7 @@ impl Beside {
             if library::token_span(script, kind_number(&t.t) as u32, t.start, t.t.as_str().len()) != wanted {
                 return Err(format!("the span of token {i}"));
             }
-            let before = &script[..t.start];
-            let line = 1 + before.iter().filter(|&&b| b == b'\n').count();
-            let column = 1 + before.iter().rev().take_while(|&&b| b != b'\n').count();
-            if library::line_column(script, t.start as u32) != (0, [line as u64, column as u64]) {
+            if library::line_column(script, t.start as u32) != (0, positions::place(script, t.start)) {
                 return Err(format!("the line and column of token {i}"));
             }
             count.lookups += 2;
@@ -470,8 +469,8 @@ fn source(script: &[u8], t: &lex::Token<'_>) -> (usize, usize) {
     (t.start, end)
 }
 
-const FAMILIES: [&str; 10] =
-    ["refusals", "limits", "bytes", "tokens", "programs", "long", "pairs", "practice", "sheets", "words"];
+const FAMILIES: [&str; 11] =
+    ["refusals", "limits", "bytes", "tokens", "programs", "long", "pairs", "columns", "practice", "sheets", "words"];
 
 fn run(quick: bool, seed: u64, families: &[String]) -> u64 {
     let mut beside = Beside::new(seed);
@@ -479,6 +478,7 @@ fn run(quick: bool, seed: u64, families: &[String]) -> u64 {
     for family in FAMILIES.iter().filter(|f| families.is_empty() || families.iter().any(|g| g == *f)) {
         differ += match *family {
             "sheets" => beside.sheets(if quick { 20_000 } else { 400_000 }),
+            "columns" => beside.columns(if quick { 100_000 } else { 1_000_000 }),
             "practice" => beside.practice(if quick { 5_000 } else { 100_000 }),
             "words" => beside.describe(if quick { 100_000 } else { 2_000_000 }),
             "refusals" => beside.refusals(),

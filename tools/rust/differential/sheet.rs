@@ -1,9 +1,10 @@
 //! Correction sheets: read back from their text by a reader that is written from document 02's
 //! words, and compared with the errors that they were printed from. The words of an error come from
-//! the two tables of docs/WORDS.md, its line and column from counting bytes.
+//! the two tables of docs/WORDS.md, its line and column from a count of its own (positions.rs).
 
 use crate::c;
 use crate::library::{self, Mode};
+use crate::positions::place;
 use crate::scripts::Random;
 use crate::{Beside, Count, LONGEST};
 use std::collections::BTreeMap;
@@ -184,8 +185,7 @@ fn due(words: &Words, script: &[u8], errors: &[u32]) -> Result<Vec<Shown>, u32> 
         let error: Error = error.try_into().expect("five numbers");
         let words = words.of(error).ok_or(42u32)?;
         let before = script.get(..error[1] as usize).ok_or(3u32)?;
-        let line = 1 + before.iter().filter(|&&b| b == b'\n').count();
-        let column = 1 + before.iter().rev().take_while(|&&b| b != b'\n').count();
+        let [line, column] = place(script, before.len()).map(|n| n as usize);
         Ok(Shown { line, column, number: error[0] as usize, words })
     };
     errors.chunks_exact(5).map(show).collect()

@@ -2,8 +2,9 @@
 use mathlib.Core.Logic.{⊎-elim}
 use Prim.Native.Nat.{_-_, _<_}
 use native.Mathlib.Omega.{arith}
-use lib.ListN.{length}
-use Rattle.positions.proofs.Places.{Counted, counted-none, counted-feed, counted-other, counted-all}
+use lib.ListN.{length, getD}
+use borrow.Author.Needs.{needs}
+use Rattle.positions.proofs.Places.{Counted, columns-le, counted-none, counted-feed, counted-other, counted-all}
 use Rattle.positions.proofs.place_after.Statement.{statement}
 use Rattle.positions.proofs.place_after.Tie as tie
 
@@ -17,16 +18,23 @@ sub-since : tie.Need-sub-since Inv-loop μ-loop
 sub-since c = omega arith
 
 loop-holds : tie.Need-loop-holds Inv-loop μ-loop
-loop-holds c = counted-none (c .before .args .before .column - 1) (c .before .args .bytes .now)
+loop-holds c = counted-none (c .before .before .args .before .column - 1) (c .before .before .args .bytes .now)
 
-shared-slice-read-if1 : tie.Need-shared-slice-read-if1 Inv-loop μ-loop
-shared-slice-read-if1 c = omega arith
+shared-slice-read-b : tie.Need-shared-slice-read-b Inv-loop μ-loop
+shared-slice-read-b c = omega arith
 
 add-feeds : tie.Need-add-feeds Inv-loop μ-loop
 add-feeds c = omega arith
 
+columns-of-requires : tie.Need-columns-of-requires Inv-loop μ-loop
+columns-of-requires c κs = search needs
+
 add-since : tie.Need-add-since Inv-loop μ-loop
-add-since c = omega arith
+add-since c =
+    let k = c .before .before .before .before in
+    let a = k .before .before .before .args in
+    let e = c .columns-of .ensures in
+    omega (arith, e, columns-le (getD (a .bytes .now) (k .loop .i) 0))
 
 add-i : tie.Need-add-i Inv-loop μ-loop
 add-i c = omega arith
@@ -37,21 +45,21 @@ loop-less c = omega arith
 loop-again : tie.Need-loop-again Inv-loop μ-loop
 loop-again c =
     let k = c .before .before .before in
-    let a = c .before .before .before .before .before .args in
+    let a = k .before .before .before .args in
     let h : k .loop .i < length (a .bytes .now) = c .before .before .loop-test .taken in
     ⊎-elim
     (λ w. rw (w .1, w .2) (counted-feed (a .before .column - 1) (a .bytes .now) (k .loop .i) (k .loop .feeds) (k .loop .since) h (k .loop .inv) (w .0 .taken)))
-    (λ w. rw (w .1, w .2) (counted-other (a .before .column - 1) (a .bytes .now) (k .loop .i) (k .loop .feeds) (k .loop .since) h (k .loop .inv) (w .0 .left)))
+    (λ w. rw (w .2, w .3, w .1 .ensures) (counted-other (a .before .column - 1) (a .bytes .now) (k .loop .i) (k .loop .feeds) (k .loop .since) h (k .loop .inv) (w .0 .left)))
     (c .if1 .came)
 
-add-t10 : tie.Need-add-t10 Inv-loop μ-loop
-add-t10 c = omega arith
+add-t12 : tie.Need-add-t12 Inv-loop μ-loop
+add-t12 c = omega arith
 
-add-t11 : tie.Need-add-t11 Inv-loop μ-loop
-add-t11 c = omega arith
+add-t13 : tie.Need-add-t13 Inv-loop μ-loop
+add-t13 c = omega arith
 
 returns : tie.Need-returns Inv-loop μ-loop
-returns c = counted-all (c .before .before .before .before .args .before) _ _ _ _ (c .before .loop-test .left) (c .before .before .loop .inv)
+returns c = counted-all (c .before .before .before .before .before .args .before) _ _ _ _ (c .before .loop-test .left) (c .before .before .loop .inv)
 
 pub place-after-spec : {M : Type 1} → statement M
 place-after-spec =
@@ -61,12 +69,13 @@ place-after-spec =
     μ-loop
     sub-since
     loop-holds
-    shared-slice-read-if1
+    shared-slice-read-b
     add-feeds
+    columns-of-requires
     add-since
     add-i
     loop-less
     loop-again
-    add-t10
-    add-t11
+    add-t12
+    add-t13
     returns)
