@@ -97,10 +97,14 @@ pub extern "C" fn purple_garden_parse(
     numbers: &mut [u32; 12],
 ) -> u32
     ensures { λ r.
-        let before = arrays (now (nodes .entry)) (now (types .entry)) (now (lists .entry))
-        (now (roots .entry)) (now (diagnostics .entry)) in
-        let after = arrays (now (nodes .exit)) (now (types .exit)) (now (lists .exit))
-        (now (roots .exit)) (now (diagnostics .exit)) in
+        let before =
+        arrays (now (nodes .entry)) (now (types .entry)) (now (lists .entry))
+        (now (roots .entry)) (now (diagnostics .entry))
+        in
+        let after =
+        arrays (now (nodes .exit)) (now (types .exit)) (now (lists .exit))
+        (now (roots .exit)) (now (diagnostics .exit))
+        in
         let due = promised (parse stageOne) (now (script .entry)) before in
         ⌜ asNumbers due (now (numbers .entry))
         ≡ record { number = r; numbers = now (numbers .exit); arrays = after } ⌝ }
@@ -121,10 +125,14 @@ pub extern "C" fn purple_garden_parse_collect(
     numbers: &mut [u32; 12],
 ) -> u32
     ensures { λ r.
-        let before = arrays (now (nodes .entry)) (now (types .entry)) (now (lists .entry))
-        (now (roots .entry)) (now (diagnostics .entry)) in
-        let after = arrays (now (nodes .exit)) (now (types .exit)) (now (lists .exit))
-        (now (roots .exit)) (now (diagnostics .exit)) in
+        let before =
+        arrays (now (nodes .entry)) (now (types .entry)) (now (lists .entry))
+        (now (roots .entry)) (now (diagnostics .entry))
+        in
+        let after =
+        arrays (now (nodes .exit)) (now (types .exit)) (now (lists .exit))
+        (now (roots .exit)) (now (diagnostics .exit))
+        in
         let due = promised (parseCollect stageOne) (now (script .entry)) before in
         ⌜ asNumbers due (now (numbers .entry))
         ≡ record { number = r; numbers = now (numbers .exit); arrays = after } ⌝ }
@@ -180,8 +188,10 @@ pub extern "C" fn purple_garden_node_start(
     start: &mut [u64; 2],
 ) -> u32
     ensures { λ r.
-        let tree = lent (now (script .entry)) (now (nodes .entry)) (now (types .entry))
-        (now (lists .entry)) (now (roots .entry)) (countsAt (now (counts .entry))) in
+        let tree =
+        lent (now (script .entry)) (now (nodes .entry)) (now (types .entry))
+        (now (lists .entry)) (now (roots .entry)) (countsAt (now (counts .entry)))
+        in
         ⌜ Answers startCells (nodeStart tree node) r (now (start .entry)) (now (start .exit)) ⌝ }
 {
     let counts = counts_of(counts);
@@ -217,8 +227,10 @@ pub extern "C" fn purple_garden_type_token(
     token: &mut [u64; 3],
 ) -> u32
     ensures { λ r.
-        let tree = lent (now (script .entry)) (now (nodes .entry)) (now (types .entry))
-        (now (lists .entry)) (now (roots .entry)) (countsAt (now (counts .entry))) in
+        let tree =
+        lent (now (script .entry)) (now (nodes .entry)) (now (types .entry))
+        (now (lists .entry)) (now (roots .entry)) (countsAt (now (counts .entry)))
+        in
         ⌜ Answers tokenCells (typeToken tree ty) r (now (token .entry)) (now (token .exit)) ⌝ }
 {
     let counts = counts_of(counts);
@@ -302,10 +314,14 @@ pub extern "C" fn purple_garden_same_shape(
     same: &mut [u64; 1],
 ) -> u32
     ensures { λ r.
-        let first = lent (now (script .entry)) (now (nodes .entry)) (now (types .entry))
-        (now (lists .entry)) (now (roots .entry)) (countsAt (now (counts .entry))) in
-        let second = lent (now (script2 .entry)) (now (nodes2 .entry)) (now (types2 .entry))
-        (now (lists2 .entry)) (now (roots2 .entry)) (countsAt (now (counts2 .entry))) in
+        let first =
+        lent (now (script .entry)) (now (nodes .entry)) (now (types .entry))
+        (now (lists .entry)) (now (roots .entry)) (countsAt (now (counts .entry)))
+        in
+        let second =
+        lent (now (script2 .entry)) (now (nodes2 .entry)) (now (types2 .entry))
+        (now (lists2 .entry)) (now (roots2 .entry)) (countsAt (now (counts2 .entry)))
+        in
         ⌜ Answers yesCells (compare first second) r (now (same .entry)) (now (same .exit)) ⌝ }
 {
     let left = counts_of(counts);
