@@ -3,5 +3,3 @@ pub mod Copy
 pub mod LayoutLaws
 pub mod SchemaLaws
 pub mod Tabulate
-pub mod Refusal
-pub mod Descent

@@ -1,24 +1,17 @@
--- How a lookup ends, what it is lent, and when it is refused.
-use mathlib.Core.Option.{Option, none, some}
+-- What is lent, and when a call is refused for it.
 use mathlib.Core.List.{List}
 use Prim.Native.Nat.{ℕ, zero, suc, _*_}
 use lib.Dec.{ltb}
 use lib.ListN.{length, take}
 use Rattle.rules.specs.Layout.{nodeWidth, typeWidth}
-use Rattle.lex.specs.Answer.{maxBytes, Answer, refused, answer}
+use Rattle.lex.specs.Answer.{maxBytes, Answer, refused}
 use Rattle.rules.specs.declared.Counts.{Counts}
 use Rattle.lex.specs.Bytes.{if}
-use Rattle.ast.specs.Decode.{fits}
 
 -- a number other than 0 refuses
 unfoldable pub unless : {A : Type 0} → ℕ → Answer A → Answer A
 unless zero a = a
 unless (suc n) a = refused (suc n)
-
--- refused with 4 where something visited is malformed
-unfoldable pub unlessMalformed : {A : Type 0} → Option A → Answer A
-unlessMalformed none = refused 4
-unlessMalformed (some a) = answer a
 
 -- ---- what is lent
 
@@ -46,7 +39,3 @@ refusal l =
 -- the list cells in use
 abbrev pub cellsOf : Lent → List ℕ
 cellsOf l = take (l .counts .cells) (l .lists)
-
--- record `i` of an array is asked about: 1 and 2 are tested first, then 3, whether it lies at or past the count or past the array's last whole record
-unfoldable pub recordAsked : {A : Type 0} → Lent → (count size : ℕ) → List ℕ → ℕ → Answer A → Answer A
-recordAsked l count size xs i a = unless (refusal l) (if (ltb i count) (if (fits size xs i) a (refused 3)) (refused 3))

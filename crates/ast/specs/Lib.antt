@@ -1,7 +1,5 @@
--- The tree in lent arrays: reading its records, the lookups.
+-- The tree in lent arrays: reading its records, and what is lent.
 pub mod Decode
 pub mod Schema
 pub mod Tabulate
 pub mod Answer
-pub mod Lookup
-pub mod Descent

@@ -1,4 +1,4 @@
-// The tree of a reading in lent arrays: its records, and the lookups.
+// The tree of a reading in lent arrays: its records, the schema, what is lent.
 pub mod layout;
-pub mod lookup;
+pub mod lent;
 pub mod schema;

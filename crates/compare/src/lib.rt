@@ -5,8 +5,8 @@ mod type_expr;
 mod word;
 
 use ast::layout::cell;
-use ast::lookup::refusal;
-use ast::lookup::used;
+use ast::lent::refusal;
+use ast::lent::used;
 use node::agree_node;
 use rules::Counts;
 use rules::NodeId;

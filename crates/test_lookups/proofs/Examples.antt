@@ -17,8 +17,8 @@ use Rattle.rules.specs.Shape.{andThen, lookup, tabulate, map₁, map₂, map₃
 use Rattle.rules.specs.declared.Counts.{Counts}
 use Rattle.ast.specs.Decode.{nodeOf, nodesByKind, nodeAt, typeOf, typesByKind, typeAt}
 use Rattle.ast.specs.Tabulate.{rows, entriesBelow, entryAt}
-use Rattle.ast.specs.Answer.{unless, unlessMalformed, lent, refusal, recordAsked}
-use Rattle.ast.specs.Lookup.{tokenStart, orElse, matchStart, startOf, nodeStart, spelled, wellFormedToken, typeTokenOf, typeToken}
+use Rattle.ast.specs.Answer.{unless, lent, refusal}
+use Rattle.lookups.specs.Lookup.{unlessMalformed, recordAsked, tokenStart, orElse, matchStart, startOf, nodeStart, spelled, wellFormedToken, typeTokenOf, typeToken}
 use Rattle.positions.specs.Span.{spanOf, tokenSpan}
 use Rattle.positions.specs.Position.{feeds, columnsOf, since, placeOf, placeAt}
 use Rattle.compare.specs.Shapes.{typesBelow, nodesBelow, rootShapes}

@@ -1,10 +1,6 @@
 // Lookups and comparison on arrays made by hand, whole and damaged. The cases come from standard
 // input, as tools/cases writes them: a name, which lookup, what is asked about, what is lent. Each
 // gives a line: its name and the answer. proofs/Examples.antt has what the definitions say.
-use ast::lookup::Start;
-use ast::lookup::TypeToken;
-use ast::lookup::node_start;
-use ast::lookup::type_token;
 use compare::Comparison;
 use compare::same_shape;
 use console::frames::Frame;
@@ -13,6 +9,10 @@ use console::frames::read_up_to;
 use console::output::write;
 use console::output::write_number;
 use lex::Token;
+use lookups::Start;
+use lookups::TypeToken;
+use lookups::node_start;
+use lookups::type_token;
 use positions::Position;
 use positions::Span;
 use positions::SpanRead;

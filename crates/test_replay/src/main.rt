@@ -2,13 +2,13 @@
 // of strict mode, the start of each node and the token of each type where strict mode accepts, and
 // the listing of collecting mode. A script is a frame of at most 960 bytes. What is framed
 // otherwise ends the program.
-use ast::lookup::Start;
-use ast::lookup::TypeToken;
-use ast::lookup::node_start;
-use ast::lookup::type_token;
 use console::frames::Frame;
 use console::output::write;
 use console::output::write_number;
+use lookups::Start;
+use lookups::TypeToken;
+use lookups::node_start;
+use lookups::type_token;
 use rules::Counts;
 use rules::NodeId;
 use rules::Parsed;

@@ -2,7 +2,7 @@
 -- Assumes nothing.
 use mathlib.Core.Path.{_∙_, ap}
 use Rattle.ast.specs.Answer.{lent}
-use Rattle.ast.specs.Lookup.{nodeStart}
+use Rattle.lookups.specs.Lookup.{nodeStart}
 use Rattle.c_api.specs.Numbers.{startCells}
 use Rattle.c_api.proofs.Answers.{answers-same}
 use borrow.Author.Needs.{needs}

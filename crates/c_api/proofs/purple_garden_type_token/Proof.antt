@@ -3,7 +3,7 @@
 use mathlib.Core.Path.{_∙_, ap}
 use Rattle.rules.specs.Combinators.{tokenCells}
 use Rattle.ast.specs.Answer.{lent}
-use Rattle.ast.specs.Lookup.{typeToken}
+use Rattle.lookups.specs.Lookup.{typeToken}
 use Rattle.c_api.proofs.Answers.{answers-same}
 use borrow.Author.Needs.{needs}
 use Rattle.c_api.proofs.purple_garden_type_token.Statement.{statement}

@@ -1,7 +1,7 @@
 -- `put_start` meets its contract.
 -- Assumes nothing.
 use mathlib.Core.Path.{sym, ap}
-use Rattle.ast.specs.Lookup.{startAnswer}
+use Rattle.lookups.specs.Lookup.{startAnswer}
 use Rattle.c_api.specs.Numbers.{numberOf, stored, startCells}
 use Rattle.c_api.proofs.Answers.{answers}
 use borrow.Author.Needs.{needs}

@@ -2,7 +2,7 @@
 -- Assumes nothing.
 use mathlib.Core.Path.{sym, ap}
 use Rattle.rules.specs.Combinators.{tokenCells}
-use Rattle.ast.specs.Lookup.{typeTokenAnswer}
+use Rattle.lookups.specs.Lookup.{typeTokenAnswer}
 use Rattle.c_api.specs.Numbers.{numberOf, stored}
 use Rattle.c_api.proofs.Answers.{answers}
 use borrow.Author.Needs.{needs}
