@@ -27,8 +27,7 @@ ghost use mathlib.Core.Path.{_≡_};
 ghost use Rattle.rules.specs.Rules.{stageOne};
 ghost use Rattle.rules.specs.Combinators.{tokenCells};
 ghost use Rattle.rules.specs.Parse.{parse, parseCollect};
-ghost use Rattle.rules.specs.Promise.{promised, numbersOf};
-ghost use Rattle.parser.specs.Whole.{arrays};
+ghost use Rattle.rules.specs.Promise.{arraysOf, promised, numbersOf};
 ghost use Rattle.ast.specs.Answer.{lent};
 ghost use Rattle.lookups.specs.Lookup.{nodeStart, typeToken, startAnswer, typeTokenAnswer};
 ghost use Rattle.positions.specs.Span.{tokenSpan};
@@ -98,11 +97,11 @@ pub extern "C" fn purple_garden_parse(
 ) -> u32
     ensures { λ r.
         let before =
-        arrays (now (nodes .entry)) (now (types .entry)) (now (lists .entry))
+        arraysOf (now (nodes .entry)) (now (types .entry)) (now (lists .entry))
         (now (roots .entry)) (now (diagnostics .entry))
         in
         let after =
-        arrays (now (nodes .exit)) (now (types .exit)) (now (lists .exit))
+        arraysOf (now (nodes .exit)) (now (types .exit)) (now (lists .exit))
         (now (roots .exit)) (now (diagnostics .exit))
         in
         let due = promised (parse stageOne) (now (script .entry)) before in
@@ -126,11 +125,11 @@ pub extern "C" fn purple_garden_parse_collect(
 ) -> u32
     ensures { λ r.
         let before =
-        arrays (now (nodes .entry)) (now (types .entry)) (now (lists .entry))
+        arraysOf (now (nodes .entry)) (now (types .entry)) (now (lists .entry))
         (now (roots .entry)) (now (diagnostics .entry))
         in
         let after =
-        arrays (now (nodes .exit)) (now (types .exit)) (now (lists .exit))
+        arraysOf (now (nodes .exit)) (now (types .exit)) (now (lists .exit))
         (now (roots .exit)) (now (diagnostics .exit))
         in
         let due = promised (parseCollect stageOne) (now (script .entry)) before in

@@ -98,12 +98,12 @@ pub record Holds (l : Lent) (t : Tree) : Type 0 where
   pub roots : take (l .counts .roots) (l .roots) ≡ t .roots
 
 module _ (l : Lent) (t : Tree) (h : Holds l t) where
-  types-hold : typesIn (viewOf l) ≡ R.typeAt (l .script) (t .arena)
-  unfolding typesBelow entriesBelow R.typeAt R.typeIn
+  types-hold : typesIn (viewOf l) ≡ R.typeShapeAt (l .script) (t .arena)
+  unfolding typesBelow entriesBelow R.typeShapeAt R.typeIn
   types-hold = rw (h .types, h .cells) (ap lookup (tabulate-some (R.typeIn (l .script) (t .arena)) [] (t .arena .types)))
 
-  nodes-hold : nodesBelow (viewOf l) (l .counts .nodes) ≡ R.nodeAt (l .script) (t .arena)
-  unfolding nodesBelow entriesBelow R.nodeAt R.nodeIn
+  nodes-hold : nodesBelow (viewOf l) (l .counts .nodes) ≡ R.nodeShapeAt (l .script) (t .arena)
+  unfolding nodesBelow entriesBelow R.nodeShapeAt R.nodeIn
   nodes-hold = rw (types-hold, h .nodes, h .cells) (ap lookup (tabulate-some (R.nodeIn (l .script) (t .arena)) [] (t .arena .nodes)))
 
   pub shape-held : shapeIn l ≡ shapeOf (l .script) t

@@ -84,9 +84,6 @@ listingOf (ended e) = errorLine e
 
 -- ---- the listing of arrays
 
-abbrev pub arraysOf : List ℕ → List ℕ → List ℕ → List ℕ → List ℕ → Arrays
-arraysOf nodes types lists roots diagnostics = record { nodes = nodes; types = types; lists = lists; roots = roots; diagnostics = diagnostics }
-
 -- the arrays have what the counts say
 unfoldable pub within : Counts → Arrays → Bool
 within c a =

@@ -9,7 +9,8 @@ use rules::Parsed;
 use text::LAST;
 ghost use mathlib.Core.Path.{_≡_};
 ghost use Rattle.text.specs.Answer.{Result};
-ghost use Rattle.listing.specs.Listing.{textOf, written, listingAnswer, arraysOf};
+ghost use Rattle.rules.specs.Promise.{arraysOf};
+ghost use Rattle.listing.specs.Listing.{textOf, written, listingAnswer};
 
 // How many bytes were written; or that the buffer is too short, or that the arrays hold no tree. The buffer is unchanged then.
 pub enum Listing {

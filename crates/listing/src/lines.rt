@@ -24,7 +24,8 @@ ghost use lib.ListN.{getD};
 ghost use Rattle.ast.specs.Decode.{nodeAt, typeAt};
 ghost use Rattle.text.specs.Text.{bytes, number};
 ghost use Rattle.listing.specs.Text.{gap, each, fields};
-ghost use Rattle.listing.specs.Listing.{line, nodeText, typeText, countsLine, rootsLine, numbersLine, errorLine, treeText, within, diagnosticAt, textOf, arraysOf, nodeLine, typeLine};
+ghost use Rattle.rules.specs.Promise.{arraysOf};
+ghost use Rattle.listing.specs.Listing.{line, nodeText, typeText, countsLine, rootsLine, numbersLine, errorLine, treeText, within, diagnosticAt, textOf, nodeLine, typeLine};
 ghost use Rattle.text.specs.Emit.{Emits};
 
 // How many nodes, types and values there are.

@@ -7,7 +7,7 @@ use lib.ListN.{length, take, drop, set, getD, length-append, length-take, take-a
 use lib.Seq.{drop-cons, drop-at, set-at, take-at}
 use Rattle.rules.specs.Layout.{zeros}
 use Rattle.parser_state.proofs.Cells.{zeros-length}
-use Rattle.parser.specs.Whole.{cleared, Left}
+use Rattle.parser.specs.Whole.{cleared, ZeroBetween}
 
 pub cleared-start : (a : List ℕ) (from : ℕ) → a ≡ cleared a from from
 cleared-start a from = sym (take-append-drop from a) ∙ ap (λ (n : ℕ). take from a ++ (zeros n ++ drop from a)) {x = 0} {y = from - from} (omega arith)
@@ -54,7 +54,7 @@ end-cleared {array} {array′} front back z n k e b f w =
     }
 
 -- the front first, then the far end
-pub ends-cleared : {a a₁ a₂ : List ℕ} {front back : ℕ} → Left a front back → a₁ ≡ cleared a 0 front → a₂ ≡ take (length a₁ - back) a₁ ++ zeros (length a₁ - (length a₁ - back)) → a₂ ≡ zeros (length a)
+pub ends-cleared : {a a₁ a₂ : List ℕ} {front back : ℕ} → ZeroBetween a front back → a₁ ≡ cleared a 0 front → a₂ ≡ take (length a₁ - back) a₁ ++ zeros (length a₁ - (length a₁ - back)) → a₂ ≡ zeros (length a)
 ends-cleared {a} {a₁} {a₂} {front} {back} h e w =
     let rest : drop front a ≡ zeros (h .between) ++ h .behind = ap (drop front) (h .laid) ∙ drop-at (h .before) _ front (h .inFront) in
     let one : a₁ ≡ zeros front ++ (zeros (h .between) ++ h .behind) = e ∙ ap (λ (l : List ℕ). zeros (front - 0) ++ l) rest ∙ ap (λ (n : ℕ). zeros n ++ (zeros (h .between) ++ h .behind)) {x = front - 0} {y = front} (omega arith) in
@@ -64,15 +64,15 @@ ends-cleared {a} {a₁} {a₂} {front} {back} h e w =
     two .laid ∙ ap (λ (l : List ℕ). zeros front ++ l) (append-nil _) ∙ replicate-append-replicate front (length a₂ - front) 0 ∙ ap zeros {x = front + (length a₂ - front)} {y = length a} (omega (arith, two .same, same, fits))
 
 -- a part that is left behind lies in its array
-pub left-fits : {a : List ℕ} {front back : ℕ} → Left a front back → front + back ≤ length a
+pub left-fits : {a : List ℕ} {front back : ℕ} → ZeroBetween a front back → front + back ≤ length a
 left-fits h = omega (arith, ap length (h .laid) ∙ length-append (h .before) _, length-append (zeros (h .between)) (h .behind), h .inFront, h .atEnd)
 
 -- the same array and count, by other names
-pub left-as : {a a′ : List ℕ} {n n′ : ℕ} → a′ ≡ a → n′ ≡ n → Left a n 0 → Left a′ n′ 0
+pub left-as : {a a′ : List ℕ} {n n′ : ℕ} → a′ ≡ a → n′ ≡ n → ZeroBetween a n 0 → ZeroBetween a′ n′ 0
 left-as e f h = record { before = h .before; behind = h .behind; between = h .between; laid = e ∙ h .laid; inFront = h .inFront ∙ sym f; atEnd = h .atEnd }
 
 -- the first zero behind the front is written
-pub left-more : {a : List ℕ} {n : ℕ} (x : ℕ) → Left a n 0 → n < length a → Left (set a n x) (n + 1) 0
+pub left-more : {a : List ℕ} {n : ℕ} (x : ℕ) → ZeroBetween a n 0 → n < length a → ZeroBetween (set a n x) (n + 1) 0
 left-more {a} {n} x h k =
     let rest : List ℕ = zeros (h .between - 1) ++ h .behind in
     let some : h .between ≡ suc (h .between - 1) = omega (arith, ap length (h .laid) ∙ length-append (h .before) _, length-append (zeros (h .between)) (h .behind), zeros-length (h .between), h .inFront, h .atEnd) in
@@ -87,5 +87,5 @@ left-more {a} {n} x h k =
     }
 
 -- an array that is zero behind its front
-pub left-front : {a : List ℕ} {n : ℕ} (k : ℕ) (xs : List ℕ) → a ≡ xs ++ zeros k → length xs ≡ n → Left a n 0
+pub left-front : {a : List ℕ} {n : ℕ} (k : ℕ) (xs : List ℕ) → a ≡ xs ++ zeros k → length xs ≡ n → ZeroBetween a n 0
 left-front k xs e f = record { before = xs; behind = []; between = k; laid = e ∙ ap (λ (l : List ℕ). xs ++ l) (sym (append-nil (zeros k))); inFront = f; atEnd = refl }

@@ -30,14 +30,14 @@ use Rattle.diagnostics.specs.Faults.{faultsBetween, lowDiagnostic}
 use Rattle.diagnostics.proofs.Faults.{faults-low}
 use Rattle.diagnostics.proofs.Order.{Ordered, ordered-start, ordered-error, ordered-end, ordered-room}
 use Rattle.parser_state.specs.Represents.{Failed, Code, code, isGoing, ahead, Represents, FailedAt}
-use Rattle.parser_state.specs.Refines.{Ends, kept, Refines, deeper, memberFollows}
+use Rattle.parser_state.specs.Refines.{Ends, stackUnchanged, Refines, deeper, memberFollows}
 use Rattle.parser_state.specs.declared.Parser.{Parser}
 use Rattle.parser_state.specs.declared.Status.{Status}
 use Rattle.parser_state.proofs.Steps.{true≢false, current-represents, represents-less, represents-going}
 use Rattle.parser_state.proofs.Rounds.{after, iterate-suc, ifKind-is-yes, ifKind-is-no}
 use Rattle.parser_state.proofs.Loops.{member-going, member-eof}
-use Rattle.parser.specs.Whole.{Left, Blank, fresh, dropDocs, Resumes, synchronizing}
-use Rattle.parser.specs.Collect.{RootsCollected, collectStep, DiagnosticsAre, Gathers, Room, Stopped, TurnEnds, CollectEnds}
+use Rattle.parser.specs.Whole.{ZeroBetween, ZeroedArrays, fresh, dropDocs, Resumes, synchronizing}
+use Rattle.parser.specs.Collect.{RootsCollected, collectStep, DiagnosticsAre, GatheredAre, Room, Stopped, TurnEnds, CollectEnds}
 use Rattle.parser.proofs.Clear.{left-front}
 use Rattle.parser.proofs.Synchronize.{recovered}
 use Rattle.parser.proofs.Roots.{some-ahead, root-pushed, at-eof, tree-held, left-behind, begun}
@@ -108,7 +108,7 @@ module _ (script : List ℕ) (g : Gathered) (e : Diagnostic) (m : State) where
 
 -- by how the root ends
 pub collect-turn : {script nodes types lists nodes′ types′ lists′ roots diagnostics : List ℕ} {p : Parser} {id : NodeId} {s′ : Code} (c : RootsCollected) (g : Gathered) (m : State) → memberFollows p kEof ≡ true
-    → Represents script (code nodes types lists p) 0 0 [] m → Refines script 0 0 (deeper script maxLevels .prefix) (λ a. a ≡ id) kept 1 0 8 (code nodes types lists p) s′
+    → Represents script (code nodes types lists p) 0 0 [] m → Refines script 0 0 (deeper script maxLevels .prefix) (λ a. a ≡ id) stackUnchanged 1 0 8 (code nodes types lists p) s′
     → ((a : NodeId) (m₁ : State) → a ≡ id → Represents script s′ 0 0 [] m₁ → TurnEnds script nodes′ types′ lists′ roots diagnostics c (ok (continue (record { roots = g .roots ++ (a .0 ∷ []); errors = g .errors })) m₁))
     → ((e : Diagnostic) (m₁ : State) → FailedAt script s′ e 0 0 [] m₁ → TurnEnds script nodes′ types′ lists′ roots diagnostics c (recover stageOne script g e m₁))
     → TurnEnds script nodes′ types′ lists′ roots diagnostics c (collectStep script g m)
@@ -116,18 +116,18 @@ collect-turn {script} {nodes′ = nodes′} {types′} {lists′} {roots} {diagn
     let cur : current (m .left) ≡ p .cur = current-represents (h .related) in
     subst (TurnEnds script nodes′ types′ lists′ roots diagnostics c) (sym (ifKind-is-no kEof _ _ m (rw cur (member-eof p kEof w)))) (go (deeper script maxLevels .prefix m) (q .simulates 0 0 [] m h))
   where
-    go : (r : Result NodeId) → Ends script (λ a. a ≡ id) kept s′ 0 0 0 8 [] r
+    go : (r : Result NodeId) → Ends script (λ a. a ≡ id) stackUnchanged s′ 0 0 0 8 [] r
         → TurnEnds script nodes′ types′ lists′ roots diagnostics c (elim r as (λ _. Result (ControlFlow Gathered)) [ ok n s₁ ↦ ok (continue (record { roots = g .roots ++ (n .0 ∷ []); errors = g .errors })) s₁ | err e s₁ ↦ recover stageOne script g e s₁ ])
     go (ok a m₁) z = f a m₁ (z .0) (represents-less _ _ (omega arith) (omega arith) (z .1))
     go (err e m₁) z = k e m₁ z
 
 -- behind the diagnostics are zeros
-diagnostics-left : {script array : List ℕ} {n listed left : ℕ} {es : List Occurrence} → DiagnosticsAre script array n listed left es → Left array (5 * n) 0
+diagnostics-left : {script array : List ℕ} {n listed left : ℕ} {es : List Occurrence} → DiagnosticsAre script array n listed left es → ZeroBetween array (5 * n) 0
 diagnostics-left {array = array} d = left-front (length array - 5 * length (d .ds)) (flatten (map diagnosticCells (d .ds))) (ap (λ (a : Diagnostics). a .cells) (d .held)) (cells-length (d .ds) ∙ ap (λ (a : Diagnostics). 5 * a .count) (sym (d .held)))
 
 -- 10 ends the reading
 pub ended-by-ten : {script nodes types lists : List ℕ} {d : Diagnostic} (roots array : List ℕ) (c : RootsCollected) (g : Gathered) (e : Diagnostic) (m : State) → d ≡ c .parser .status .error → eqb (d .number) 10 ≡ true
-    → FailedAt script (code nodes types lists (c .parser)) e 0 0 [] m → Gathers script nodes types lists roots array c g → TurnEnds script nodes types lists roots array c (recover stageOne script g e m)
+    → FailedAt script (code nodes types lists (c .parser)) e 0 0 [] m → GatheredAre script nodes types lists roots array c g → TurnEnds script nodes types lists roots array c (recover stageOne script g e m)
 ended-by-ten {script} {nodes} {types} {lists} {d} roots array c g e m failed ten h z =
     let named : d ≡ e = failed ∙ ap (λ (s : Status). s .error) (h .status) in
     subst (TurnEnds script nodes types lists roots array c) (sym (recover-ends script g e m (ap (λ (x : Diagnostic). eqb (x .number) 10) (sym named) ∙ ten))) (h .status, left-behind h (left-front (length roots - c .members) (g .roots) (z .rootsHeld .0) (z .rootsHeld .1)), diagnostics-left (z .diagnosticsHeld))
@@ -135,8 +135,8 @@ ended-by-ten {script} {nodes} {types} {lists} {d} roots array c g e m failed ten
 -- an error is gathered, and the reading goes on
 pub gathered-error : {script nodes types lists roots array types′ lists′ array₁ array₂ : List ℕ} {c : RootsCollected} {n₁ n₂ : ℕ} {d : Diagnostic} {q₁ q₂ : Parser} {at : ℕ} (g : Gathered) (e : Diagnostic) (m : State) → at ≡ c .parser .pos → d ≡ c .parser .status .error → eqb (d .number) 10 ≡ false
     → diagnostics array₁ n₁ ≡ foldl pushed (diagnostics array (c .diagnostics)) (map lowDiagnostic (faultsBetween script (c .listed) at)) → diagnostics array₂ n₂ ≡ pushed (diagnostics array₁ n₁) d → length array₂ ≡ length array
-    → Resumes script (code nodes types lists (c .parser)) (code nodes types′ lists′ q₁) → Refines script 0 0 synchronizing (λ n. n ≡ 0) kept 0 0 0 (code nodes types′ lists′ q₁) (code nodes types′ lists′ q₂)
-    → Room script roots array g → FailedAt script (code nodes types lists (c .parser)) e 0 0 [] m → Gathers script nodes types lists roots array c g
+    → Resumes script (code nodes types lists (c .parser)) (code nodes types′ lists′ q₁) → Refines script 0 0 synchronizing (λ n. n ≡ 0) stackUnchanged 0 0 0 (code nodes types′ lists′ q₁) (code nodes types′ lists′ q₂)
+    → Room script roots array g → FailedAt script (code nodes types lists (c .parser)) e 0 0 [] m → GatheredAre script nodes types lists roots array c g
     → TurnEnds script nodes types′ lists′ roots array₂ (record { parser = q₂; members = c .members; diagnostics = n₂; listed = at }) (recover stageOne script g e m)
 gathered-error {script} {nodes} {types} {lists} {roots} {array} {types′} {lists′} {array₁} {array₂} {c} {n₁} {n₂} {d} {q₁} {q₂} g e m place failed ten faults₀ pushes same resumes goes room h z =
     let faults = subst (λ (k : ℕ). diagnostics array₁ n₁ ≡ foldl pushed (diagnostics array (c .diagnostics)) (map lowDiagnostic (faultsBetween script (c .listed) k))) place faults₀ in
@@ -161,15 +161,15 @@ gathered-error {script} {nodes} {types} {lists} {roots} {array} {types′} {list
 diagnostics-on : {script array : List ℕ} {n listed left left′ : ℕ} {es : List Occurrence} → DiagnosticsAre script array n listed left es → left′ ≤ left → DiagnosticsAre script array n listed left′ es
 diagnostics-on d h = record { ds = d .ds; passed = d .passed; held = d .held; ordered = d .ordered; behind = omega (arith, d .behind) }
 
-pub gathers-on : {script nodes types lists nodes′ types′ lists′ roots array : List ℕ} {c : RootsCollected} {q : Parser} {g : Gathered} → Gathers script nodes types lists roots array c g
+pub gathers-on : {script nodes types lists nodes′ types′ lists′ roots array : List ℕ} {c : RootsCollected} {q : Parser} {g : Gathered} → GatheredAre script nodes types lists roots array c g
     → length (ahead script (code nodes′ types′ lists′ q)) ≤ length (ahead script (code nodes types lists (c .parser)))
-    → Gathers script nodes′ types′ lists′ roots array (record { parser = q; members = c .members; diagnostics = c .diagnostics; listed = c .listed }) g
+    → GatheredAre script nodes′ types′ lists′ roots array (record { parser = q; members = c .members; diagnostics = c .diagnostics; listed = c .listed }) g
 gathers-on z h = record { rootsHeld = (z .rootsHeld .0, z .rootsHeld .1, omega (arith, z .rootsHeld .2)); diagnosticsHeld = diagnostics-on (z .diagnosticsHeld) h }
 
 -- a root is read
 pub gathered-root : {script nodes types lists nodes′ types′ lists′ roots roots′ array : List ℕ} {c : RootsCollected} {q : Parser} {n : ℕ} {id : NodeId} {m : State} (g : Gathered) (a : NodeId) (m₁ : State) → a ≡ id → Room script roots array g
-    → Represents script (code nodes types lists (c .parser)) 0 0 [] m → Gathers script nodes types lists roots array c g
-    → Refines script 0 0 (deeper script maxLevels .prefix) (λ a. a ≡ id) kept 1 0 8 (code nodes types lists (c .parser)) (code nodes′ types′ lists′ q) → Represents script (code nodes′ types′ lists′ q) 0 0 [] m₁
+    → Represents script (code nodes types lists (c .parser)) 0 0 [] m → GatheredAre script nodes types lists roots array c g
+    → Refines script 0 0 (deeper script maxLevels .prefix) (λ a. a ≡ id) stackUnchanged 1 0 8 (code nodes types lists (c .parser)) (code nodes′ types′ lists′ q) → Represents script (code nodes′ types′ lists′ q) 0 0 [] m₁
     → (c .members < length roots → c .members < 65536 → (roots′ ≡ set roots (c .members) (id .0)) × (n ≡ c .members + 1))
     → TurnEnds script nodes′ types′ lists′ roots′ array (record { parser = q; members = n; diagnostics = c .diagnostics; listed = c .listed }) (ok (continue (record { roots = g .roots ++ (a .0 ∷ []); errors = g .errors })) m₁)
 gathered-root {script} {nodes} {types} {lists} {nodes′} {types′} {lists′} {c = c} {q} g a m₁ e room h z p k f = (
@@ -211,7 +211,7 @@ module _ (script : List ℕ) where
     pub fuelled : pending m ≤ fuel
     pub counts : Counting.Gathers script g m
     pub represents : Represents script (code nodes types lists (c .parser)) 0 0 [] m
-    pub gathers : Gathers script nodes types lists roots diagnostics c g
+    pub gathers : GatheredAre script nodes types lists roots diagnostics c g
 
   pub data Progress (nodes types lists roots diagnostics : List ℕ) (c : RootsCollected) : Type 0 where
     live : Live nodes types lists roots diagnostics c → Progress nodes types lists roots diagnostics c
@@ -237,7 +237,7 @@ module _ (script : List ℕ) where
 
   pub turn : {nodes types lists roots diagnostics nodes′ types′ lists′ roots′ diagnostics′ : List ℕ} {c c′ : RootsCollected} → memberFollows (c .parser) kEof ≡ true → length script ≤ length roots → 5 * length script ≤ length diagnostics
       → Progress nodes types lists roots diagnostics c
-      → ((g : Gathered) (m : State) → Room script roots diagnostics g → Represents script (code nodes types lists (c .parser)) 0 0 [] m → Gathers script nodes types lists roots diagnostics c g → TurnEnds script nodes′ types′ lists′ roots′ diagnostics′ c′ (collectStep script g m))
+      → ((g : Gathered) (m : State) → Room script roots diagnostics g → Represents script (code nodes types lists (c .parser)) 0 0 [] m → GatheredAre script nodes types lists roots diagnostics c g → TurnEnds script nodes′ types′ lists′ roots′ diagnostics′ c′ (collectStep script g m))
       → Turn nodes types lists roots diagnostics nodes′ types′ lists′ roots′ diagnostics′ c c′
   unfolding after
   turn {nodes} {types} {lists} {roots} {diagnostics} {nodes′} {types′} {lists′} {roots′} {diagnostics′} {c} {c′} w long room i f = go i
@@ -253,7 +253,7 @@ module _ (script : List ℕ) where
       next n g m k h r e (Results.fails {e = x} {s = m₁} z) t = record { progress = over x m₁ e t; less = omega (arith, to-go-live nodes types lists c m h, to-go-over nodes′ types′ lists′ c′ x (t .0)) }
 
       one : (n : ℕ) (g : Gathered) (m : State) → parseRootsCollect stageOne script (begin script) ≡ iterate n (collectStep script) g m → pending m ≤ n → Counting.Gathers script g m → Represents script (code nodes types lists (c .parser)) 0 0 [] m
-          → Gathers script nodes types lists roots diagnostics c g → Turn nodes types lists roots diagnostics nodes′ types′ lists′ roots′ diagnostics′ c c′
+          → GatheredAre script nodes types lists roots diagnostics c g → Turn nodes types lists roots diagnostics nodes′ types′ lists′ roots′ diagnostics′ c c′
       one zero g m e k q h z = absurd (omega (arith, Counting.some-pending stageOne no-eof script (q .reached)))
       one (suc n) g m e k q h z =
           let cur : current (m .left) ≡ c .parser .cur = current-represents (h .related) in
@@ -267,7 +267,7 @@ module _ (script : List ℕ) where
 
   -- ---- the beginning and the end
 
-  pub start : {nodes types lists roots diagnostics : List ℕ} (p : Parser) → Blank script nodes types lists roots → p ≡ fresh (nextAt script 0) → diagnostics ≡ zeros (length diagnostics)
+  pub start : {nodes types lists roots diagnostics : List ℕ} (p : Parser) → ZeroedArrays script nodes types lists roots → p ≡ fresh (nextAt script 0) → diagnostics ≡ zeros (length diagnostics)
       → Progress nodes types lists roots diagnostics (record { parser = p; members = 0; diagnostics = 0; listed = 0 })
   unfolding parseRootsCollect loop
   start {roots = roots} {diagnostics = array} p h e z =
@@ -281,7 +281,7 @@ module _ (script : List ℕ) where
         counts = Counting.begin-gathers stageOne no-eof script;
         represents = b;
         gathers = record {
-          rootsHeld = (h .blankRoots ∙ ap zeros {x = length roots} {y = length roots - 0} (omega arith), refl, omega (arith, b .related .credit .records, ap length (b .related .left)));
+          rootsHeld = (h .zeroRoots ∙ ap zeros {x = length roots} {y = length roots - 0} (omega arith), refl, omega (arith, b .related .credit .records, ap length (b .related .left)));
           diagnosticsHeld = record { ds = []; passed = 0; held = ap (λ (l : List ℕ). diagnostics l 0) z ∙ holding-none (length array); ordered = ordered-start; behind = omega (arith, b .related .lexed .counted) };
         };
       })
@@ -294,7 +294,7 @@ module _ (script : List ℕ) where
   -- all roots are read
   pub ends : {nodes types types′ lists roots array array′ : List ℕ} {c : RootsCollected} {q : Parser} {n at : ℕ} → at ≡ c .parser .pos → memberFollows (c .parser) kEof ≡ false → isGoing (c .parser .status) ≡ true → 5 * length script ≤ length array → Progress nodes types lists roots array c
       → diagnostics array′ n ≡ foldl pushed (diagnostics array (c .diagnostics)) (map lowDiagnostic (faultsBetween script (c .listed) at)) → length array′ ≡ length array
-      → Refines script 0 0 dropDocs (λ n. n ≡ 0) kept 0 0 0 (code nodes types lists (c .parser)) (code nodes types′ lists q)
+      → Refines script 0 0 dropDocs (λ n. n ≡ 0) stackUnchanged 0 0 0 (code nodes types lists (c .parser)) (code nodes types′ lists q)
       → CollectEnds script nodes types′ lists roots array′ (record { parser = q; members = c .members; diagnostics = n; listed = at }) (parseRootsCollect stageOne script (begin script))
   unfolding after pure
   ends {nodes} {types} {types′} {lists} {roots} {array} {array′} {c} {q} {n} place w g room i p₀ same d =
@@ -307,7 +307,7 @@ module _ (script : List ℕ) where
       last = record { parser = q; members = c .members; diagnostics = n; listed = c .parser .pos }
 
       one : (f : ℕ) (t : Gathered) (m : State) → parseRootsCollect stageOne script (begin script) ≡ iterate f (collectStep script) t m → pending m ≤ f → Counting.Gathers script t m → Represents script (code nodes types lists (c .parser)) 0 0 [] m
-          → Gathers script nodes types lists roots array c t → CollectEnds script nodes types′ lists roots array′ last (parseRootsCollect stageOne script (begin script))
+          → GatheredAre script nodes types lists roots array c t → CollectEnds script nodes types′ lists roots array′ last (parseRootsCollect stageOne script (begin script))
       one zero t m e k s h z = absurd (omega (arith, Counting.some-pending stageOne no-eof script (s .reached)))
       one (suc f) t m e k s h z =
           let eof = at-eof w h in

@@ -20,16 +20,16 @@ use Rattle.rules.specs.Parse.{begin, parseRoots}
 use Rattle.rules.specs.Layout.{zeros, nodeCells, typeCells}
 use Rattle.rules.specs.declared.NodeId.{NodeId}
 use Rattle.parser_state.specs.Represents.{withUsed, Going, Failed, Code, code, going, isGoing, ahead, docCells, Related, Represents, FailedAt}
-use Rattle.parser_state.specs.Refines.{Ends, kept, Refines, deeper, memberFollows}
+use Rattle.parser_state.specs.Refines.{Ends, stackUnchanged, Refines, deeper, memberFollows}
 use Rattle.parser_state.specs.declared.Parser.{Parser}
 use Rattle.parser_state.specs.declared.Used.{Used}
-use Rattle.parser_state.proofs.Steps.{either, true≢false, left-some, current-represents, represents-less, represents-going, failed-fails}
-use Rattle.parser_state.proofs.Leaves.{lent, moved-low, from-next, next-near}
+use Rattle.parser_state.proofs.Steps.{either, true≢false, and-both, left-some, current-represents, represents-less, represents-going, failed-fails}
+use Rattle.parser_state.proofs.Leaves.{through-used, moved-low, from-next, next-near}
 use Rattle.parser_state.proofs.Cells.{types-length, nodes-length}
 use Rattle.parser_state.proofs.Docs.{docs-length}
 use Rattle.parser_state.proofs.Rounds.{Again, Turned, LoopInvariant, round-start-at, round-out, ifKind-is-yes, ifKind-is-no}
 use Rattle.parser_state.proofs.Loops.{member-eof, no-member}
-use Rattle.parser.specs.Whole.{RootsRead, Left, LeftBehind, hasCell, RootPushed, Blank, fresh, rootStep, RootsAre, dropDocs, Holds, RootsEnd}
+use Rattle.parser.specs.Whole.{RootsRead, ZeroBetween, LeftBehind, hasCell, RootPushed, ZeroedArrays, fresh, rootStep, RootsAre, dropDocs, Holds, RootsEnd}
 use Rattle.parser.proofs.Clear.{end-cleared, left-as, left-more, left-front}
 
 -- ---- docs that are dropped
@@ -39,7 +39,7 @@ undocumented u = record { nodes = u .nodes; values = u .values; types = u .types
 
 docs-dropped : (script nodes types types′ lists : List ℕ) (p : Parser) → isGoing (p .status) ≡ true
     → types′ ≡ take (length types - 3 * p .used .docs) types ++ zeros (length types - (length types - 3 * p .used .docs))
-    → Refines script 0 0 dropDocs (λ n. n ≡ 0) kept 0 0 0 (code nodes types lists p) (code nodes types′ lists (withUsed p (undocumented (p .used))))
+    → Refines script 0 0 dropDocs (λ n. n ≡ 0) stackUnchanged 0 0 0 (code nodes types lists p) (code nodes types′ lists (withUsed p (undocumented (p .used))))
 unfolding dropDocs withDocs flatten
 docs-dropped script nodes types types′ lists p g e = record {
   sticky = λ z. absurd (true≢false g z);
@@ -73,22 +73,20 @@ docs-dropped script nodes types types′ lists p g e = record {
 
 pub dropping : (script nodes types types′ lists : List ℕ) {p q : Parser} {u : Used} → isGoing (p .status) ≡ true → u ≡ p .used → q ≡ withUsed p (undocumented u)
     → types′ ≡ take (length types - 3 * u .docs) types ++ zeros (length types - (length types - 3 * u .docs))
-    → Refines script 0 0 dropDocs (λ n. n ≡ 0) kept 0 0 0 (code nodes types lists p) (code nodes types′ lists q)
-dropping script nodes types types′ lists {p} g e w = lent p undocumented
-    (λ (u : Used) (q : Parser). types′ ≡ take (length types - 3 * u .docs) types ++ zeros (length types - (length types - 3 * u .docs)) → Refines script 0 0 dropDocs (λ n. n ≡ 0) kept 0 0 0 (code nodes types lists p) (code nodes types′ lists q))
+    → Refines script 0 0 dropDocs (λ n. n ≡ 0) stackUnchanged 0 0 0 (code nodes types lists p) (code nodes types′ lists q)
+dropping script nodes types types′ lists {p} g e w = through-used p undocumented
+    (λ (u : Used) (q : Parser). types′ ≡ take (length types - 3 * u .docs) types ++ zeros (length types - (length types - 3 * u .docs)) → Refines script 0 0 dropDocs (λ n. n ≡ 0) stackUnchanged 0 0 0 (code nodes types lists p) (code nodes types′ lists q))
     e w (docs-dropped script nodes types types′ lists p g)
 
 -- ---- one more root
 
-all-three : (a b c : Bool) → (a && (b && c)) ≡ true → (a ≡ true) × (b ≡ true) × (c ≡ true)
-all-three true true c e = (refl, refl, e)
-all-three true false c e = absurd (true≢false e refl)
-all-three false b c e = absurd (true≢false e refl)
-
 module _ (p : Parser) (n : ℕ) (roots : List ℕ) where
   has-cell : hasCell p n roots ≡ true → (isGoing (p .status) ≡ true) × (n < length roots) × (n < 65536)
   unfolding hasCell
-  has-cell e = let t = all-three (isGoing (p .status)) (ltb n (length roots)) (ltb n 65536) e in (t .0, ltb-true _ _ (t .1), ltb-true _ _ (t .2))
+  has-cell e =
+      let a = and-both (isGoing (p .status)) (ltb n (length roots) && ltb n 65536) e in
+      let b = and-both (ltb n (length roots)) (ltb n 65536) (a .1) in
+      (a .0, ltb-true _ _ (b .0), ltb-true _ _ (b .1))
 
   cell-there : isGoing (p .status) ≡ true → n < length roots → n < 65536 → hasCell p n roots ≡ true
   unfolding hasCell
@@ -97,19 +95,19 @@ module _ (p : Parser) (n : ℕ) (roots : List ℕ) where
 -- with a cell its number is written, without one all stays
 module _ {p : Parser} {n : ℕ} {roots : List ℕ} where
   pub root-written : {id : ℕ} → isGoing (p .status) ≡ true → n < length roots → n < 65536 → RootPushed p roots n id (set roots n id) (n + 1)
-  root-written g h k = record { written = λ _. (refl, refl); leftOut = λ e. absurd (true≢false (cell-there p n roots g h k) e) }
+  root-written g h k = record { pushed = λ _. (refl, refl); leftOut = λ e. absurd (true≢false (cell-there p n roots g h k) e) }
 
   pub root-left-out : {id : ℕ} → (isGoing (p .status) ≡ true → n < length roots → n < 65536 → ⊥) → RootPushed p roots n id roots n
-  root-left-out f = record { written = λ e. let t = has-cell p n roots e in absurd (f (t .0) (t .1) (t .2)); leftOut = λ _. (refl, refl) }
+  root-left-out f = record { pushed = λ e. let t = has-cell p n roots e in absurd (f (t .0) (t .1) (t .2)); leftOut = λ _. (refl, refl) }
 
   module _ {id n′ : ℕ} {roots′ : List ℕ} (h : RootPushed p roots n id roots′ n′) where
     pub root-there : isGoing (p .status) ≡ true → n < length roots → n < 65536 → (roots′ ≡ set roots n id) × (n′ ≡ n + 1)
-    root-there g l k = h .written (cell-there p n roots g l k)
+    root-there g l k = h .pushed (cell-there p n roots g l k)
 
     -- either way there are zeros behind as many cells as are counted
-    pub root-front : Left roots n 0 → Left roots′ n′ 0
+    pub root-front : ZeroBetween roots n 0 → ZeroBetween roots′ n′ 0
     root-front z = either (hasCell p n roots)
-        (λ e. let w = h .written e in left-as (w .0) (w .1) (left-more id z (has-cell p n roots e .1)))
+        (λ e. let w = h .pushed e in left-as (w .0) (w .1) (left-more id z (has-cell p n roots e .1)))
         (λ e. let w = h .leftOut e in left-as (w .0) (w .1) z)
 
 pub some-ahead : {script : List ℕ} {s : Code} {r l : ℕ} {stack : List ℕ} {m : State} → Related script s r l stack m → 1 ≤ length (ahead script s)
@@ -131,21 +129,21 @@ root-pushed script {roots} {roots′} {n} {n′} {id} s s′ xs a e q small long
     (new ∙ sym (append-assoc xs (a .0 ∷ []) (zeros (length roots - n - 1))) ∙ ap (λ (i : ℕ). (xs ++ (a .0 ∷ [])) ++ zeros i) j, omega (arith, q .1, z .1), omega (arith, q .2))
 
 module _ {script roots roots′ : List ℕ} {n n′ : ℕ} {id : NodeId} {s s′ : Code} where
-  pub root-again : memberFollows (s .parser) kEof ≡ true → length script ≤ length roots → Refines script 0 0 (deeper script maxLevels .prefix) (λ a. a ≡ id) kept 1 0 8 s s′
+  pub root-again : memberFollows (s .parser) kEof ≡ true → length script ≤ length roots → Refines script 0 0 (deeper script maxLevels .prefix) (λ a. a ≡ id) stackUnchanged 1 0 8 s s′
       → (going s′ ≡ true → n < length roots → n < 65536 → (roots′ ≡ set roots n (id .0)) × (n′ ≡ n + 1))
-      → Again script (rootStep script) kept (RootsAre script roots n s) (RootsAre script roots′ n′ s′) s s′
+      → Again script (rootStep script) stackUnchanged (RootsAre script roots n s) (RootsAre script roots′ n′ s′) s s′
   unfolding _>>=_ pure
   root-again w long p f = record {
     monotone = p .monotone;
     progress = p .progress;
     flowValue = λ R L stack xs m q h.
         let cur : current (m .left) ≡ s .parser .cur = current-represents (h .related) in
-        subst (Turned script (rootStep script) kept (RootsAre script roots′ n′ s′) s′ R L stack) (sym (ifKind-is-no kEof _ _ m (rw cur (member-eof (s .parser) kEof w))))
+        subst (Turned script (rootStep script) stackUnchanged (RootsAre script roots′ n′ s′) s′ R L stack) (sym (ifKind-is-no kEof _ _ m (rw cur (member-eof (s .parser) kEof w))))
         (go R L stack xs q (h .related .lent .small) (deeper script maxLevels .prefix m) (p .simulates R L stack m (represents-less _ _ (omega arith) (omega arith) h)));
   }
     where
-      go : (R L : ℕ) (stack xs : List ℕ) → RootsAre script roots n s xs → length script ≤ 65536 → (r : Result NodeId) → Ends script (λ a. a ≡ id) kept s′ R L 0 8 stack r
-          → Turned script (rootStep script) kept (RootsAre script roots′ n′ s′) s′ R L stack (elim r as (λ _. Result (ControlFlow (List ℕ))) [ ok a t ↦ ok (continue (xs ++ (a .0 ∷ []))) t | err e t ↦ err e t ])
+      go : (R L : ℕ) (stack xs : List ℕ) → RootsAre script roots n s xs → length script ≤ 65536 → (r : Result NodeId) → Ends script (λ a. a ≡ id) stackUnchanged s′ R L 0 8 stack r
+          → Turned script (rootStep script) stackUnchanged (RootsAre script roots′ n′ s′) s′ R L stack (elim r as (λ _. Result (ControlFlow (List ℕ))) [ ok a t ↦ ok (continue (xs ++ (a .0 ∷ []))) t | err e t ↦ err e t ])
       go R L stack xs q small (ok a m) h =
           let g : going s′ ≡ true = represents-going (h .1) in
           (root-pushed script s s′ xs a (h .0) q small long (p .progress g) (some-ahead (h .1 .related)) (f g), represents-less _ _ (omega arith) (omega arith) (h .1))
@@ -164,7 +162,7 @@ at-eof {q = q} w g =
 -- the arrays hold the tree once the docs that wait are dropped
 pub tree-held : {script nodes types types′ lists roots xs : List ℕ} {q : Parser} {r : RootsRead} {m : State}
     → Represents script (code nodes types lists q) 0 0 [] m → RootsAre script roots (r .members) (code nodes types lists q) xs
-    → Refines script 0 0 dropDocs (λ n. n ≡ 0) kept 0 0 0 (code nodes types lists q) (code nodes types′ lists (r .parser))
+    → Refines script 0 0 dropDocs (λ n. n ≡ 0) stackUnchanged 0 0 0 (code nodes types lists q) (code nodes types′ lists (r .parser))
     → Holds nodes types′ lists roots r xs m
 unfolding dropDocs withDocs flatten
 tree-held {script} {nodes} {types′ = types′} {lists} {roots} {xs} {r = r} {m} h k p =
@@ -190,7 +188,7 @@ tree-held {script} {nodes} {types′ = types′} {lists} {roots} {xs} {r = r} {m
     }
 
 -- a failed reading leaves records and cells in front, what waits at the far end, and zeros between
-pub left-behind : {script : List ℕ} {s : Code} {e : Diagnostic} {r l : ℕ} {stack : List ℕ} {m : State} {roots : List ℕ} {n : ℕ} → FailedAt script s e r l stack m → Left roots n 0 → LeftBehind (s .nodes) (s .types) (s .lists) roots (s .parser .used) n
+pub left-behind : {script : List ℕ} {s : Code} {e : Diagnostic} {r l : ℕ} {stack : List ℕ} {m : State} {roots : List ℕ} {n : ℕ} → FailedAt script s e r l stack m → ZeroBetween roots n 0 → LeftBehind (s .nodes) (s .types) (s .lists) roots (s .parser .used) n
 left-behind {s = s} {stack = stack} {m} h k =
     let ns = h .related .nodes in
     let ts = h .related .types in
@@ -206,7 +204,7 @@ left-behind {s = s} {stack = stack} {m} h k =
 blank-as : {a : List ℕ} (n : ℕ) → a ≡ zeros (length a) → n ≡ 0 → a ≡ zeros (length a - n) ++ []
 blank-as {a} n e z = e ∙ ap zeros {x = length a} {y = length a - n} (omega arith) ∙ sym (append-nil (zeros (length a - n)))
 
-module _ {script nodes types lists roots : List ℕ} (p : Parser) (h : Blank script nodes types lists roots) (e : p ≡ fresh (nextAt script 0)) where
+module _ {script nodes types lists roots : List ℕ} (p : Parser) (h : ZeroedArrays script nodes types lists roots) (e : p ≡ fresh (nextAt script 0)) where
   pub begun : Represents script (code nodes types lists p) 0 0 [] (begin script)
   unfolding begin cut tokensFrom flatten
   begun =
@@ -219,25 +217,25 @@ module _ {script nodes types lists roots : List ℕ} (p : Parser) (h : Blank scr
           left = from-next script 0 refl;
           inRange = inRange;
           lexed = record { taken = 0; stands = stands-next stands-start refl; counted = omega (arith, ap length (from-next script 0 refl)) };
-          nodes = record { laid = blank-as _ (h .blankNodes) (omega arith); counted = refl; valued = refl };
-          types = record { laid = blank-as _ (h .blankTypes) (omega arith); counted = refl; docCounted = refl; allLow = tt };
-          lists = record { laid = blank-as _ (h .blankLists) (omega arith); counted = refl; stacked = refl };
+          nodes = record { laid = blank-as _ (h .zeroNodes) (omega arith); counted = refl; valued = refl };
+          types = record { laid = blank-as _ (h .zeroTypes) (omega arith); counted = refl; docCounted = refl; allLow = tt };
+          lists = record { laid = blank-as _ (h .zeroLists) (omega arith); counted = refl; stacked = refl };
           credit = record { records = omega arith; numbers = omega arith; room = omega arith };
           lent = h .lent;
         };
       }))
 
   -- no root is there
-  pub roots-none : Left roots 0 0
-  roots-none = left-front (length roots) [] (h .blankRoots) refl
+  pub roots-none : ZeroBetween roots 0 0
+  roots-none = left-front (length roots) [] (h .zeroRoots) refl
 
-  pub roots-start : LoopInvariant script (rootStep script) kept [] (RootsAre script roots 0 (code nodes types lists p)) (code nodes types lists p) (code nodes types lists p)
-  roots-start = round-start-at (λ R L stack m k. (h .blankRoots ∙ ap zeros {x = length roots} {y = length roots - 0} (omega arith), refl, omega (arith, k .related .credit .records, ap length (k .related .left))))
+  pub roots-start : LoopInvariant script (rootStep script) stackUnchanged [] (RootsAre script roots 0 (code nodes types lists p)) (code nodes types lists p) (code nodes types lists p)
+  roots-start = round-start-at (λ R L stack m k. (h .zeroRoots ∙ ap zeros {x = length roots} {y = length roots - 0} (omega arith), refl, omega (arith, k .related .credit .records, ap length (k .related .left))))
 
   module _ {nodes′ types′ types″ lists′ roots′ : List ℕ} {q : Parser} {r : RootsRead} where
-    pub roots-end : LoopInvariant script (rootStep script) kept [] (RootsAre script roots′ (r .members) (code nodes′ types′ lists′ q)) (code nodes types lists p) (code nodes′ types′ lists′ q)
-        → Left roots′ (r .members) 0 → memberFollows q kEof ≡ false
-        → Refines script 0 0 dropDocs (λ n. n ≡ 0) kept 0 0 0 (code nodes′ types′ lists′ q) (code nodes′ types″ lists′ (r .parser))
+    pub roots-end : LoopInvariant script (rootStep script) stackUnchanged [] (RootsAre script roots′ (r .members) (code nodes′ types′ lists′ q)) (code nodes types lists p) (code nodes′ types′ lists′ q)
+        → ZeroBetween roots′ (r .members) 0 → memberFollows q kEof ≡ false
+        → Refines script 0 0 dropDocs (λ n. n ≡ 0) stackUnchanged 0 0 0 (code nodes′ types′ lists′ q) (code nodes′ types″ lists′ (r .parser))
         → RootsEnd nodes′ types″ lists′ roots′ r (parseRoots stageOne script (begin script))
     unfolding parseRoots pure
     roots-end i z w d = go (loop (rootStep script) [] (begin script)) (round-out i (λ stack. refl) out .simulates 0 0 [] (begin script) begun)
@@ -245,7 +243,7 @@ module _ {script nodes types lists roots : List ℕ} (p : Parser) (h : Blank scr
         out : (R L : ℕ) (stack xs : List ℕ) (m : State) → RootsAre script roots′ (r .members) (code nodes′ types′ lists′ q) xs → Represents script (code nodes′ types′ lists′ q) R L stack m → rootStep script xs m ≡ ok (break xs) m
         out R L stack xs m k g = ifKind-is-yes kEof _ _ m (at-eof w g)
 
-        go : (res : Result (List ℕ)) → Ends script (RootsAre script roots′ (r .members) (code nodes′ types′ lists′ q)) kept (code nodes′ types′ lists′ q) 0 0 0 0 [] res → RootsEnd nodes′ types″ lists′ roots′ r res
+        go : (res : Result (List ℕ)) → Ends script (RootsAre script roots′ (r .members) (code nodes′ types′ lists′ q)) stackUnchanged (code nodes′ types′ lists′ q) 0 0 0 0 [] res → RootsEnd nodes′ types″ lists′ roots′ r res
         go (ok xs m) k = tree-held (k .1) (k .0) d
         go (err e m) k =
             let same : code nodes′ types″ lists′ (r .parser) ≡ code nodes′ types′ lists′ q = d .sticky (failed-fails k) in

@@ -7,7 +7,7 @@ use Prim.Native.Nat.{ℕ, _+_, _-_, _≤_, _<_}
 use native.Mathlib.Omega.{arith}
 use lib.Dec.{eqb}
 use lib.ListN.{length, take, length-append, length-reverse}
-use borrow.Author.Tests.{ne-eqb, eqb-true, eqb-false}
+use borrow.Author.Tests.{not-true, ne-eqb, eqb-true, eqb-false}
 use Rattle.lex.specs.Bytes.{or}
 use Rattle.lex.specs.Kind.{kEof, kImport, kExtern, kLet, kFn, kMatch, kCurlyRight}
 use Rattle.lex.specs.declared.diagnostic.Diagnostic.{Diagnostic}
@@ -17,11 +17,11 @@ use Rattle.rules.specs.Parse.{synchronizeByKind, synchronizeStep, synchronizeRo
 use Rattle.rules.specs.Layout.{zeros}
 use Rattle.rules.proofs.Results as Results
 use Rattle.parser_state.specs.Represents.{Going, withUsed, withStatus, Code, code, isGoing, Represents, FailedAt}
-use Rattle.parser_state.specs.Refines.{Ends, kept, Refines}
+use Rattle.parser_state.specs.Refines.{Ends, stackUnchanged, Refines}
 use Rattle.parser_state.specs.declared.Parser.{Parser}
 use Rattle.parser_state.specs.declared.Used.{Used}
-use Rattle.parser_state.proofs.Steps.{either, true≢false, at-kind, then, done, enough, represents-less}
-use Rattle.parser_state.proofs.Leaves.{idle, lent}
+use Rattle.parser_state.proofs.Steps.{either, true≢false, and-both, at-kind, then, done, enough, represents-less}
+use Rattle.parser_state.proofs.Leaves.{idle, through-used}
 use Rattle.parser_operators.proofs.Tables.{past, past-all}
 use Rattle.parser.specs.Whole.{Resumes, rootBoundary, skips, synchronizing}
 use Rattle.parser.proofs.Clear.{end-cleared}
@@ -60,7 +60,7 @@ pub resuming : {script nodes types lists lists′ : List ℕ} {p q₁ q : Parser
     → lists′ ≡ take (length lists - u .scratch) lists ++ zeros (length lists - (length lists - u .scratch)) → FailedAt script (code nodes types lists p) e R L stack m → Represents script (code nodes types lists′ q) R L [] m
 resuming {script} {nodes} {types} {lists} {lists′} {p} {R = R} {L} {m = m} f g k w h =
     subst (λ (r : Parser). Represents script (code nodes types lists′ r) R L [] m) (sym k)
-    (lent p emptied (λ (u : Used) (r : Parser). lists′ ≡ take (length lists - u .scratch) lists ++ zeros (length lists - (length lists - u .scratch)) → Represents script (code nodes types lists′ (withStatus r Going)) R L [] m)
+    (through-used p emptied (λ (u : Used) (r : Parser). lists′ ≡ take (length lists - u .scratch) lists ++ zeros (length lists - (length lists - u .scratch)) → Represents script (code nodes types lists′ (withStatus r Going)) R L [] m)
     f g (λ w. stack-cleared w h) w)
 
 -- what is under construction lies in the array
@@ -122,12 +122,9 @@ module _ (n k : ℕ) where
 module _ (p : Parser) where
   pub skips-both : skips p ≡ true → (isGoing (p .status) ≡ true) × (rootBoundary (p .cur .kind) ≡ false)
   unfolding skips
-  skips-both e = go (isGoing (p .status)) (rootBoundary (p .cur .kind)) e
-    where
-      go : (a b : Bool) → (a && not b) ≡ true → (a ≡ true) × (b ≡ false)
-      go true true h = (refl, sym h)
-      go true false h = (refl, refl)
-      go false b h = absurd (true≢false h refl)
+  skips-both e =
+      let a = and-both (isGoing (p .status)) (not (rootBoundary (p .cur .kind))) e in
+      (a .0, not-true _ (a .1))
 
   skips-not : skips p ≡ false → isGoing (p .status) ≡ true → rootBoundary (p .cur .kind) ≡ true
   unfolding skips
@@ -145,14 +142,14 @@ module _ (p : Parser) where
 
 -- a step of the rule, by where the code stands
 module _ {script : List ℕ} {s s′ : Code} where
-  pub continues : skips (s .parser) ≡ true → Refines script 0 0 advance (λ t. t ≡ s .parser .cur) kept 1 1 8 s s′ → Refines script 0 0 (synchronizeStep 0) (λ t. t ≡ continue 0) kept 1 0 0 s s′
+  pub continues : skips (s .parser) ≡ true → Refines script 0 0 advance (λ t. t ≡ s .parser .cur) stackUnchanged 1 1 8 s s′ → Refines script 0 0 (synchronizeStep 0) (λ t. t ≡ continue 0) stackUnchanged 1 0 0 s s′
   continues e p = at-kind (synchronizeByKind 0) (s .parser .cur .kind) (rw (by-tests 0 (s .parser .cur .kind), skips-both (s .parser) e .1) (enough (then p done) tt)) refl
 
-  pub breaks-past : Refines script 0 0 advance (λ t. t ≡ s .parser .cur) kept 1 1 8 s s′ → s .parser .cur .kind ≡ kCurlyRight → Refines script 0 0 (synchronizeStep 0) (λ t. t ≡ break 0) kept 0 0 0 s s′
+  pub breaks-past : Refines script 0 0 advance (λ t. t ≡ s .parser .cur) stackUnchanged 1 1 8 s s′ → s .parser .cur .kind ≡ kCurlyRight → Refines script 0 0 (synchronizeStep 0) (λ t. t ≡ break 0) stackUnchanged 0 0 0 s s′
   unfolding choose
   breaks-past p e = at-kind (synchronizeByKind 0) kCurlyRight (enough (then p done) tt) e
 
-pub breaks-before : {script : List ℕ} (s : Code) → skips (s .parser) ≡ false → (s .parser .cur .kind ≡ kCurlyRight → ⊥) → Refines script 0 0 (synchronizeStep 0) (λ t. t ≡ break 0) kept 0 0 0 s s
+pub breaks-before : {script : List ℕ} (s : Code) → skips (s .parser) ≡ false → (s .parser .cur .kind ≡ kCurlyRight → ⊥) → Refines script 0 0 (synchronizeStep 0) (λ t. t ≡ break 0) stackUnchanged 0 0 0 s s
 breaks-before s e f = either (isGoing (s .parser .status))
     (λ g. at-kind (synchronizeByKind 0) (s .parser .cur .kind) (rw (by-tests 0 (s .parser .cur .kind), skips-not (s .parser) e g, ne-eqb (s .parser .cur .kind) kCurlyRight f) done) refl)
     (λ g. idle g)
@@ -183,11 +180,11 @@ pub record Recovered (script : List ℕ) (s : Code) (R L : ℕ) (m : State) : Ty
   pub represents : Represents script s R L [] after
   pub fewer : length (after .left) ≤ length (m .left)
 
-pub recovered : {script : List ℕ} {s s₁ s₂ : Code} {e : Diagnostic} {R L : ℕ} {stack : List ℕ} {m : State} → FailedAt script s e R L stack m → Resumes script s s₁ → Refines script 0 0 synchronizing (λ n. n ≡ 0) kept 0 0 0 s₁ s₂ → Recovered script s₂ R L m
+pub recovered : {script : List ℕ} {s s₁ s₂ : Code} {e : Diagnostic} {R L : ℕ} {stack : List ℕ} {m : State} → FailedAt script s e R L stack m → Resumes script s s₁ → Refines script 0 0 synchronizing (λ n. n ≡ 0) stackUnchanged 0 0 0 s₁ s₂ → Recovered script s₂ R L m
 unfolding synchronizing synchronizeRoot
 recovered {script} {s} {s₁} {s₂} {e} {R} {L} {stack} {m} h r p = go (synchronizing (withDocs [] m)) refl (never-fails (withDocs [] m)) (p .simulates R L [] (withDocs [] m) (represents-less _ _ (omega arith) (omega arith) (r .resumes e R L stack m h)))
   where
-    go : (res : Result ℕ) → synchronizing (withDocs [] m) ≡ res → Results.Ends (λ n s′. Unit {0}) (λ s′. ⊥) res → Ends script (λ n. n ≡ 0) kept s₂ R L 0 0 [] res → Recovered script s₂ R L m
+    go : (res : Result ℕ) → synchronizing (withDocs [] m) ≡ res → Results.Ends (λ n s′. Unit {0}) (λ s′. ⊥) res → Ends script (λ n. n ≡ 0) stackUnchanged s₂ R L 0 0 [] res → Recovered script s₂ R L m
     go (ok n m₂) c w d = record {
       after = m₂;
       comes = c ∙ ap (λ (j : ℕ). ok j m₂) (d .0);

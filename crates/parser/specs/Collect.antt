@@ -16,10 +16,11 @@ use Rattle.diagnostics.proofs.Order.{Ordered}
 use Rattle.parser_state.specs.Represents.{Failed, code, ahead, Represents}
 use Rattle.parser_state.specs.Refines.{deeper}
 use Rattle.parser_state.specs.declared.Parser.{Parser}
-use Rattle.parser.specs.Whole.{Left, LeftBehind, RootsAre, Holds}
+use Rattle.parser.specs.Whole.{ZeroBetween, LeftBehind, RootsAre, Holds}
 use Rattle.parser.specs.declared.Gathering.{Gathering}
 
--- the parser behind the roots, how many roots and diagnostics there are, and up to where the lexer's faults are among these
+-- the parser behind the roots, how many roots and diagnostics there are, and up to where the
+-- lexer's faults are among these
 pub record RootsCollected : Type 0 where
   pub parser : Parser
   pub members : ℕ
@@ -36,7 +37,8 @@ collectStep script g = ifKind kEof (pure (break g)) (λ s. elim (deeper script m
   | err e s₁ ↦ recover stageOne script g e s₁
 ])
 
--- the array holds the errors and the faults before `listed`; no more tokens are passed there than all but the `left` that are left, and the one being read
+-- the array holds the errors and the faults before `listed`; no more tokens are passed there than
+-- all but the `left` that are left, and the one being read
 pub record DiagnosticsAre (script array : List ℕ) (n listed left : ℕ) (es : List Occurrence) : Type 0 where
   pub ds : List Diagnostic
   pub passed : ℕ
@@ -45,7 +47,7 @@ pub record DiagnosticsAre (script array : List ℕ) (n listed left : ℕ) (es : 
   pub behind : passed + left ≤ suc (length (tokensOf (cut script)))
 
 -- what is gathered is in the arrays
-pub record Gathers (script nodes types lists roots diagnostics : List ℕ) (c : RootsCollected) (g : Gathered) : Type 0 where
+pub record GatheredAre (script nodes types lists roots diagnostics : List ℕ) (c : RootsCollected) (g : Gathered) : Type 0 where
   pub rootsHeld : RootsAre script roots (c .members) (code nodes types lists (c .parser)) (g .roots)
   pub diagnosticsHeld : DiagnosticsAre script diagnostics (c .diagnostics) (c .listed) (length (ahead script (code nodes types lists (c .parser)))) (g .errors)
 
@@ -57,11 +59,11 @@ pub record Room (script roots diagnostics : List ℕ) (g : Gathered) : Type 0 wh
 
 -- an error has ended the reading, and the arrays hold no more than what is counted
 abbrev pub Stopped : (nodes types lists roots diagnostics : List ℕ) → RootsCollected → Diagnostic → Type 0
-Stopped nodes types lists roots diagnostics c e = (c .parser .status ≡ Failed e) × LeftBehind nodes types lists roots (c .parser .used) (c .members) × Left diagnostics (5 * c .diagnostics) 0
+Stopped nodes types lists roots diagnostics c e = (c .parser .status ≡ Failed e) × LeftBehind nodes types lists roots (c .parser .used) (c .members) × ZeroBetween diagnostics (5 * c .diagnostics) 0
 
 -- how a turn of the loop over roots ends
 abbrev pub TurnEnds : (script nodes types lists roots diagnostics : List ℕ) → RootsCollected → Result (ControlFlow Gathered) → Type 0
-TurnEnds script nodes types lists roots diagnostics c (ok (continue g) m) = Represents script (code nodes types lists (c .parser)) 0 0 [] m × Gathers script nodes types lists roots diagnostics c g
+TurnEnds script nodes types lists roots diagnostics c (ok (continue g) m) = Represents script (code nodes types lists (c .parser)) 0 0 [] m × GatheredAre script nodes types lists roots diagnostics c g
 TurnEnds script nodes types lists roots diagnostics c (ok (break g) m) = ⊥
 TurnEnds script nodes types lists roots diagnostics c (err e m) = Stopped nodes types lists roots diagnostics c e
 

@@ -15,14 +15,10 @@ use Rattle.rules.specs.Rules.{maxLevels}
 use Rattle.rules.specs.Parse.{synchronizeStep}
 use Rattle.rules.specs.Layout.{nodeWidth, typeWidth, zeros, padded, nodeCells, typeCells}
 use Rattle.lex.specs.Answer.{maxBytes}
-use Rattle.rules.specs.Promise.{Arrays}
 use Rattle.parser_state.specs.Represents.{lowToken, Going, Failed, Code, ahead, isGoing, EnoughLent, Represents, FailedAt}
 use Rattle.parser_state.specs.Refines.{deeper}
 use Rattle.parser_state.specs.declared.Parser.{Parser}
 use Rattle.parser_state.specs.declared.Used.{Used}
-
-abbrev pub arrays : List ℕ → List ℕ → List ℕ → List ℕ → List ℕ → Arrays
-arrays nodes types lists roots diagnostics = record { nodes = nodes; types = types; lists = lists; roots = roots; diagnostics = diagnostics }
 
 -- the number of a refusal, or 0, for a script of `n` bytes and the lengths of the arrays
 unfoldable pub refusal : ℕ → ℕ → ℕ → ℕ → ℕ → ℕ → ℕ
@@ -32,21 +28,21 @@ refusal n nodes types lists roots diagnostics =
       | false ↦ elim (or (ltb nodes (nodeWidth * n)) (or (ltb types (typeWidth * n)) (or (ltb lists (8 * n)) (or (ltb roots n) (ltb diagnostics (5 * n)))))) [ true ↦ 2 | false ↦ 0 ]
     ]
 
--- enough is lent, and it is blank
-pub record Blank (script ns ts ls rs : List ℕ) : Type 0 where
+-- enough is lent, and it is all zeros
+pub record ZeroedArrays (script ns ts ls rs : List ℕ) : Type 0 where
   pub lent : EnoughLent script ns ts ls
   pub roots : length script ≤ length rs
-  pub blankNodes : ns ≡ zeros (length ns)
-  pub blankTypes : ts ≡ zeros (length ts)
-  pub blankLists : ls ≡ zeros (length ls)
-  pub blankRoots : rs ≡ zeros (length rs)
+  pub zeroNodes : ns ≡ zeros (length ns)
+  pub zeroTypes : ts ≡ zeros (length ts)
+  pub zeroLists : ls ≡ zeros (length ls)
+  pub zeroRoots : rs ≡ zeros (length rs)
 
 -- cells that are cleared from one place to another
 abbrev pub cleared : List ℕ → ℕ → ℕ → List ℕ
 cleared a from to = take from a ++ (zeros (to - from) ++ drop to a)
 
 -- an array that is zero but for so many cells in front and so many at the far end
-pub record Left (array : List ℕ) (front back : ℕ) : Type 0 where
+pub record ZeroBetween (array : List ℕ) (front back : ℕ) : Type 0 where
   pub before : List ℕ
   pub behind : List ℕ
   pub between : ℕ
@@ -71,16 +67,17 @@ rootStep script roots = ifKind kEof (pure (break roots)) (deeper script maxLevel
 abbrev pub RootsAre : List ℕ → List ℕ → ℕ → Code → List ℕ → Type 0
 RootsAre script array n s xs = (array ≡ xs ++ zeros (length array - n)) × (length xs ≡ n) × (length xs + length (ahead script s) ≤ length script + 1)
 
--- one more root is written: the reading has not failed, and there is a cell behind the `n` that are there
+-- one more root is pushed: the reading has not failed, and there is a cell behind the `n` that are
+-- there
 unfoldable pub hasCell : Parser → ℕ → List ℕ → Bool
 hasCell p n roots = isGoing (p .status) && (ltb n (length roots) && ltb n 65536)
 
 -- the array and the count, by whether it is
 pub record RootPushed (p : Parser) (roots : List ℕ) (n id : ℕ) (roots′ : List ℕ) (n′ : ℕ) : Type 0 where
-  pub written : hasCell p n roots ≡ true → (roots′ ≡ set roots n id) × (n′ ≡ n + 1)
+  pub pushed : hasCell p n roots ≡ true → (roots′ ≡ set roots n id) × (n′ ≡ n + 1)
   pub leftOut : hasCell p n roots ≡ false → (roots′ ≡ roots) × (n′ ≡ n)
 
--- docs that still wait are dropped
+-- docs that are still pending are dropped
 unfoldable pub dropDocs : Rule ℕ
 dropDocs = λ s. ok 0 (withDocs [] s)
 
@@ -99,7 +96,7 @@ pub record Holds (nodes types lists roots : List ℕ) (r : RootsRead) (xs : List
 
 -- the arrays of a tree where a reading has failed
 abbrev pub LeftBehind : List ℕ → List ℕ → List ℕ → List ℕ → Used → ℕ → Type 0
-LeftBehind nodes types lists roots u members = Left nodes (16 * u .nodes) 0 × Left types (8 * u .types) (3 * u .docs) × Left lists (u .cells) (u .scratch) × Left roots members 0
+LeftBehind nodes types lists roots u members = ZeroBetween nodes (16 * u .nodes) 0 × ZeroBetween types (8 * u .types) (3 * u .docs) × ZeroBetween lists (u .cells) (u .scratch) × ZeroBetween roots members 0
 
 -- by how the rule ends
 abbrev pub RootsEnd : List ℕ → List ℕ → List ℕ → List ℕ → RootsRead → Result (List ℕ) → Type 0
@@ -108,7 +105,8 @@ RootsEnd nodes types lists roots r (err e m) = (r .parser .status ≡ Failed e) 
 
 -- ---- after an error
 
--- a failed reading, whatever is under construction, goes on at the same token with nothing under construction and no docs that wait
+-- a failed reading, whatever is under construction, goes on at the same token with nothing under
+-- construction and no pending docs
 pub record Resumes (script : List ℕ) (s s′ : Code) : Type 0 where
   pub same : ahead script s′ ≡ ahead script s
   pub resumes : (e : Diagnostic) (R L : ℕ) (stack : List ℕ) (m : State) → FailedAt script s e R L stack m → Represents script s′ R L [] (withDocs [] m)
@@ -121,6 +119,6 @@ rootBoundary k = or (eqb k kLet) (or (eqb k kFn) (or (eqb k kImport) (or (eqb k 
 unfoldable pub skips : Parser → Bool
 skips p = isGoing (p .status) && not (rootBoundary (p .cur .kind))
 
--- `synchronizeRoot` where no docs wait
+-- `synchronizeRoot` where no docs are pending
 unfoldable pub synchronizing : Rule ℕ
 synchronizing = loop synchronizeStep 0

@@ -9,6 +9,7 @@ use lex::Type;
 use lex::next_token;
 use parser_items::member;
 use parser_state::Parser;
+use parser_state::State;
 use parser_state::Used;
 use parser_state::error;
 use parser_state::get_used;
@@ -32,11 +33,11 @@ ghost use Rattle.rules.specs.Tree.{State};
 ghost use Rattle.rules.specs.Layout.{zeros};
 ghost use Rattle.rules.specs.Rules.{stageOne};
 ghost use Rattle.rules.specs.Parse.{Gathered, begin, parseRoots, parse, recover as recoverRule, parseRootsCollect, parseCollect};
-ghost use Rattle.rules.specs.Promise.{promised};
+ghost use Rattle.rules.specs.Promise.{arraysOf, promised};
 ghost use Rattle.parser_state.specs.Represents.{parserOf, code, Represents, FailedAt};
-ghost use Rattle.parser_state.specs.Refines.{Refines, kept, memberFollows};
-ghost use Rattle.parser.specs.Whole.{arrays, refusal, cleared, Left, Blank, RootPushed, RootsEnd, dropDocs, fresh};
-ghost use Rattle.parser.specs.Collect.{collected, Gathers, Room, TurnEnds, collectStep, CollectEnds};
+ghost use Rattle.parser_state.specs.Refines.{Refines, stackUnchanged, memberFollows};
+ghost use Rattle.parser.specs.Whole.{refusal, cleared, ZeroBetween, ZeroedArrays, RootPushed, RootsEnd, dropDocs, fresh};
+ghost use Rattle.parser.specs.Collect.{collected, GatheredAre, Room, TurnEnds, collectStep, CollectEnds};
 
 // ---- arrays
 
@@ -55,7 +56,8 @@ fn clear_range(a: &mut [u32], from: usize, to: usize)
 // From a place on an array is cleared.
 fn clear_from(a: &mut [u32], from: usize)
     requires { ⌜ from ≤ length (now a) ⌝ }
-    ensures { λ r. ⌜ now (a .exit) ≡ take from (now (a .entry)) ++ zeros (length (now (a .entry)) - from) ⌝ }
+    ensures { λ r.
+        ⌜ now (a .exit) ≡ take from (now (a .entry)) ++ zeros (length (now (a .entry)) - from) ⌝ }
 {
     let to = a.len();
     clear_range(a, from, to);
@@ -63,7 +65,9 @@ fn clear_from(a: &mut [u32], from: usize)
 
 // An array that is zero but for so many cells in front and so many at the far end is cleared.
 fn clear_ends(a: &mut [u32], front: usize, back: usize)
-    ensures { λ r. ⌜ (Left (now (a .entry)) front back → now (a .exit) ≡ zeros (length (now (a .entry)))) ⌝ }
+    ensures { λ r.
+        ⌜ (ZeroBetween (now (a .entry)) front back
+        → now (a .exit) ≡ zeros (length (now (a .entry)))) ⌝ }
 {
     if a.len() < front {
         return;
@@ -84,7 +88,15 @@ fn clear_left(
     u: Used,
     members: u32,
 )
-    ensures { λ r. ⌜ (Left (now (nodes .entry)) (16 * u .nodes) 0 → now (nodes .exit) ≡ zeros (length (now (nodes .entry)))) × (Left (now (types .entry)) (8 * u .types) (3 * u .docs) → now (types .exit) ≡ zeros (length (now (types .entry)))) × (Left (now (lists .entry)) (u .cells) (u .scratch) → now (lists .exit) ≡ zeros (length (now (lists .entry)))) × (Left (now (roots .entry)) members 0 → now (roots .exit) ≡ zeros (length (now (roots .entry)))) ⌝ }
+    ensures { λ r.
+        ⌜ (ZeroBetween (now (nodes .entry)) (16 * u .nodes) 0
+        → now (nodes .exit) ≡ zeros (length (now (nodes .entry))))
+        × (ZeroBetween (now (types .entry)) (8 * u .types) (3 * u .docs)
+        → now (types .exit) ≡ zeros (length (now (types .entry))))
+        × (ZeroBetween (now (lists .entry)) (u .cells) (u .scratch)
+        → now (lists .exit) ≡ zeros (length (now (lists .entry))))
+        × (ZeroBetween (now (roots .entry)) members 0
+        → now (roots .exit) ≡ zeros (length (now (roots .entry)))) ⌝ }
 {
     clear_ends(nodes, 16 * u.nodes as usize, 0);
     clear_ends(types, 8 * u.types as usize, 3 * u.docs as usize);
@@ -94,7 +106,11 @@ fn clear_left(
 
 // The four arrays of a tree are cleared.
 fn clear_tree(nodes: &mut [u32], types: &mut [u32], lists: &mut [u32], roots: &mut [u32])
-    ensures { λ r. ⌜ (now (nodes .exit) ≡ zeros (length (now (nodes .entry)))) × (now (types .exit) ≡ zeros (length (now (types .entry)))) × (now (lists .exit) ≡ zeros (length (now (lists .entry)))) × (now (roots .exit) ≡ zeros (length (now (roots .entry)))) ⌝ }
+    ensures { λ r.
+        ⌜ (now (nodes .exit) ≡ zeros (length (now (nodes .entry))))
+        × (now (types .exit) ≡ zeros (length (now (types .entry))))
+        × (now (lists .exit) ≡ zeros (length (now (lists .entry))))
+        × (now (roots .exit) ≡ zeros (length (now (roots .entry)))) ⌝ }
 {
     clear_from(nodes, 0);
     clear_from(types, 0);
@@ -102,7 +118,8 @@ fn clear_tree(nodes: &mut [u32], types: &mut [u32], lists: &mut [u32], roots: &m
     clear_from(roots, 0);
 }
 
-// 1 for a script of `n` bytes that is too long, then 2 where an array has fewer cells than these ask for, and 0 where the script is read.
+// 1 for a script of `n` bytes that is too long, then 2 where an array has fewer cells than these
+// ask for, and 0 where the script is read.
 fn refusal(
     n: usize,
     nodes: usize,
@@ -137,8 +154,10 @@ fn refusal(
 // ---- roots
 
 // A root's number goes behind those that are there, where the reading has not failed.
-fn push_root(roots: &mut [u32], p: &[u32; 17], n: u32, id: NodeId) -> u32
-    ensures { λ r. ⌜ RootPushed (parserOf (now (p .entry))) (now (roots .entry)) n (id .0) (now (roots .exit)) r ⌝ }
+fn push_root(roots: &mut [u32], p: &State, n: u32, id: NodeId) -> u32
+    ensures { λ r.
+        ⌜ RootPushed (parserOf (now (p .entry))) (now (roots .entry)) n (id .0) (now (roots .exit))
+        r ⌝ }
 {
     if !going(p) {
         return n;
@@ -154,9 +173,14 @@ fn push_root(roots: &mut [u32], p: &[u32; 17], n: u32, id: NodeId) -> u32
     n + 1
 }
 
-// Docs that wait are dropped.
-fn drop_docs(types: &mut [u32], p: &mut [u32; 17])
-    ensures { λ r. ⌜ ((script nodes lists : List ℕ) → Refines script 0 0 dropDocs (λ n. n ≡ 0) kept 0 0 0 (code nodes (now (types .entry)) lists (parserOf (now (p .entry)))) (code nodes (now (types .exit)) lists (parserOf (now (p .exit))))) × (parserOf (now (p .exit)) .cur ≡ parserOf (now (p .entry)) .cur) × (parserOf (now (p .exit)) .pos ≡ parserOf (now (p .entry)) .pos) ⌝ }
+// Pending docs are dropped.
+fn drop_docs(types: &mut [u32], p: &mut State)
+    ensures { λ r. ⌜ ((script nodes lists : List ℕ) →
+        let before = code nodes (now (types .entry)) lists (parserOf (now (p .entry))) in
+        let after = code nodes (now (types .exit)) lists (parserOf (now (p .exit))) in
+        Refines script 0 0 dropDocs (λ n. n ≡ 0) stackUnchanged 0 0 0 before after)
+        × (parserOf (now (p .exit)) .cur ≡ parserOf (now (p .entry)) .cur)
+        × (parserOf (now (p .exit)) .pos ≡ parserOf (now (p .entry)) .pos) ⌝ }
 {
     if !going(p) {
         return;
@@ -185,23 +209,27 @@ fn drop_docs(types: &mut [u32], p: &mut [u32; 17])
 }
 
 // A parser at the script's first token.
-fn first(script: &[u8], p: &mut [u32; 17])
+fn first(script: &[u8], p: &mut State)
     ensures { λ r. ⌜ parserOf (now (p .exit)) ≡ fresh (nextAt (now (script .entry)) 0) ⌝ }
 {
-    *p = [0; 17];
+    *p = [0; Parser::CELLS];
     set_next(p, next_token(script, 0));
 }
 
+// program = prefix*
 fn parse_roots(
     script: &[u8],
     nodes: &mut [u32],
     types: &mut [u32],
     lists: &mut [u32],
     roots: &mut [u32],
-    p: &mut [u32; 17],
+    p: &mut State,
 ) -> u32
-    requires { ⌜ Blank (now script) (now nodes) (now types) (now lists) (now roots) ⌝ }
-    ensures { λ r. ⌜ RootsEnd (now (nodes .exit)) (now (types .exit)) (now (lists .exit)) (now (roots .exit)) (record { parser = parserOf (now (p .exit)); members = r }) (parseRoots stageOne (now (script .entry)) (begin (now (script .entry)))) ⌝ }
+    requires { ⌜ ZeroedArrays (now script) (now nodes) (now types) (now lists) (now roots) ⌝ }
+    ensures { λ r.
+        ⌜ RootsEnd (now (nodes .exit)) (now (types .exit)) (now (lists .exit)) (now (roots .exit))
+        (record { parser = parserOf (now (p .exit)); members = r })
+        (parseRoots stageOne (now (script .entry)) (begin (now (script .entry)))) ⌝ }
 {
     first(script, p);
     let mut members: u32 = 0;
@@ -222,16 +250,26 @@ pub struct Gathering {
     pub listed: usize,
 }
 
-// An error is gathered, behind the faults that were met before it, and the reading goes on at the next token that may begin a root; 10 ends it.
+// An error is gathered, behind the faults that were met before it, and the reading goes on at the
+// next token that may begin a root; 10 ends it.
 fn recover(
     script: &[u8],
     types: &mut [u32],
     lists: &mut [u32],
     diagnostics: &mut [u32],
-    p: &mut [u32; 17],
+    p: &mut State,
     c: Gathering,
 ) -> Gathering
-    ensures { λ r. ⌜ ((nodes roots : List ℕ) (g : Gathered) (e : Diagnostic) (m : State) → Room (now (script .entry)) roots (now (diagnostics .entry)) g → FailedAt (now (script .entry)) (code nodes (now (types .entry)) (now (lists .entry)) (parserOf (now (p .entry)))) e 0 0 [] m → Gathers (now (script .entry)) nodes (now (types .entry)) (now (lists .entry)) roots (now (diagnostics .entry)) (collected (parserOf (now (p .entry))) c) g → TurnEnds (now (script .entry)) nodes (now (types .exit)) (now (lists .exit)) roots (now (diagnostics .exit)) (collected (parserOf (now (p .exit))) r) (recoverRule stageOne (now (script .entry)) g e m)) ⌝ }
+    ensures { λ r. ⌜ ((nodes roots : List ℕ) (g : Gathered) (e : Diagnostic) (m : State) →
+        let before = code nodes (now (types .entry)) (now (lists .entry))
+        (parserOf (now (p .entry))) in
+        Room (now (script .entry)) roots (now (diagnostics .entry)) g
+        → FailedAt (now (script .entry)) before e 0 0 [] m
+        → GatheredAre (now (script .entry)) nodes (now (types .entry)) (now (lists .entry)) roots
+        (now (diagnostics .entry)) (collected (parserOf (now (p .entry))) c) g
+        → TurnEnds (now (script .entry)) nodes (now (types .exit)) (now (lists .exit)) roots
+        (now (diagnostics .exit)) (collected (parserOf (now (p .exit))) r)
+        (recoverRule stageOne (now (script .entry)) g e m)) ⌝ }
 {
     if going(p) {
         return c;
@@ -260,11 +298,21 @@ fn collect_root(
     lists: &mut [u32],
     roots: &mut [u32],
     diagnostics: &mut [u32],
-    p: &mut [u32; 17],
+    p: &mut State,
     c: Gathering,
 ) -> Gathering
     requires { ⌜ memberFollows (parserOf (now p)) kEof ≡ true ⌝ }
-    ensures { λ r. ⌜ ((g : Gathered) (m : State) → Room (now (script .entry)) (now (roots .entry)) (now (diagnostics .entry)) g → Represents (now (script .entry)) (code (now (nodes .entry)) (now (types .entry)) (now (lists .entry)) (parserOf (now (p .entry)))) 0 0 [] m → Gathers (now (script .entry)) (now (nodes .entry)) (now (types .entry)) (now (lists .entry)) (now (roots .entry)) (now (diagnostics .entry)) (collected (parserOf (now (p .entry))) c) g → TurnEnds (now (script .entry)) (now (nodes .exit)) (now (types .exit)) (now (lists .exit)) (now (roots .exit)) (now (diagnostics .exit)) (collected (parserOf (now (p .exit))) r) (collectStep (now (script .entry)) g m)) ⌝ }
+    ensures { λ r. ⌜ ((g : Gathered) (m : State) →
+        let before = code (now (nodes .entry)) (now (types .entry)) (now (lists .entry))
+        (parserOf (now (p .entry))) in
+        Room (now (script .entry)) (now (roots .entry)) (now (diagnostics .entry)) g
+        → Represents (now (script .entry)) before 0 0 [] m
+        → GatheredAre (now (script .entry)) (now (nodes .entry)) (now (types .entry))
+        (now (lists .entry)) (now (roots .entry)) (now (diagnostics .entry))
+        (collected (parserOf (now (p .entry))) c) g
+        → TurnEnds (now (script .entry)) (now (nodes .exit)) (now (types .exit)) (now (lists .exit))
+        (now (roots .exit)) (now (diagnostics .exit)) (collected (parserOf (now (p .exit))) r)
+        (collectStep (now (script .entry)) g m)) ⌝ }
 {
     let n = member(script, nodes, types, lists, p, Parser::MAX_LEVELS);
     if going(p) {
@@ -278,6 +326,7 @@ fn collect_root(
     recover(script, types, lists, diagnostics, p, c)
 }
 
+// program = prefix*, errors gathered.
 fn parse_roots_collect(
     script: &[u8],
     nodes: &mut [u32],
@@ -285,10 +334,16 @@ fn parse_roots_collect(
     lists: &mut [u32],
     roots: &mut [u32],
     diagnostics: &mut [u32],
-    p: &mut [u32; 17],
+    p: &mut State,
 ) -> Gathering
-    requires { ⌜ Blank (now script) (now nodes) (now types) (now lists) (now roots) × (now diagnostics ≡ zeros (length (now diagnostics))) × (5 * length (now script) ≤ length (now diagnostics)) ⌝ }
-    ensures { λ r. ⌜ CollectEnds (now (script .entry)) (now (nodes .exit)) (now (types .exit)) (now (lists .exit)) (now (roots .exit)) (now (diagnostics .exit)) (collected (parserOf (now (p .exit))) r) (parseRootsCollect stageOne (now (script .entry)) (begin (now (script .entry)))) ⌝ }
+    requires { ⌜ ZeroedArrays (now script) (now nodes) (now types) (now lists) (now roots)
+        × (now diagnostics ≡ zeros (length (now diagnostics)))
+        × (5 * length (now script) ≤ length (now diagnostics)) ⌝ }
+    ensures { λ r.
+        ⌜ CollectEnds (now (script .entry)) (now (nodes .exit)) (now (types .exit))
+        (now (lists .exit)) (now (roots .exit)) (now (diagnostics .exit))
+        (collected (parserOf (now (p .exit))) r)
+        (parseRootsCollect stageOne (now (script .entry)) (begin (now (script .entry)))) ⌝ }
 {
     first(script, p);
     let mut c = Gathering {
@@ -323,7 +378,13 @@ pub fn parse(
     roots: &mut [u32],
     diagnostics: &mut [u32],
 ) -> Parsed
-    ensures { λ r. ⌜ promised (parse stageOne) (now (script .entry)) (arrays (now (nodes .entry)) (now (types .entry)) (now (lists .entry)) (now (roots .entry)) (now (diagnostics .entry))) ≡ record { answer = r; arrays = arrays (now (nodes .exit)) (now (types .exit)) (now (lists .exit)) (now (roots .exit)) (now (diagnostics .exit)) } ⌝ }
+    ensures { λ r.
+        let before = arraysOf (now (nodes .entry)) (now (types .entry)) (now (lists .entry))
+        (now (roots .entry)) (now (diagnostics .entry)) in
+        let after = arraysOf (now (nodes .exit)) (now (types .exit)) (now (lists .exit))
+        (now (roots .exit)) (now (diagnostics .exit)) in
+        ⌜ promised (parse stageOne) (now (script .entry)) before
+        ≡ record { answer = r; arrays = after } ⌝ }
 {
     let refused = refusal(
         script.len(),
@@ -338,7 +399,7 @@ pub fn parse(
     }
     clear_tree(nodes, types, lists, roots);
     clear_from(diagnostics, 0);
-    let mut p = [0; 17];
+    let mut p = [0; Parser::CELLS];
     let members = parse_roots(script, nodes, types, lists, roots, &mut p);
     if going(&p) {
         let u = get_used(&p);
@@ -355,7 +416,8 @@ pub fn parse(
     Parsed::Error(error(&p))
 }
 
-// The same, each error gathered with the faults of the lexer in the order in which they are met; 10 ends it.
+// The same, each error gathered with the faults of the lexer in the order in which they are met; 10
+// ends it.
 pub fn parse_collect(
     script: &[u8],
     nodes: &mut [u32],
@@ -364,7 +426,13 @@ pub fn parse_collect(
     roots: &mut [u32],
     diagnostics: &mut [u32],
 ) -> Parsed
-    ensures { λ r. ⌜ promised (parseCollect stageOne) (now (script .entry)) (arrays (now (nodes .entry)) (now (types .entry)) (now (lists .entry)) (now (roots .entry)) (now (diagnostics .entry))) ≡ record { answer = r; arrays = arrays (now (nodes .exit)) (now (types .exit)) (now (lists .exit)) (now (roots .exit)) (now (diagnostics .exit)) } ⌝ }
+    ensures { λ r.
+        let before = arraysOf (now (nodes .entry)) (now (types .entry)) (now (lists .entry))
+        (now (roots .entry)) (now (diagnostics .entry)) in
+        let after = arraysOf (now (nodes .exit)) (now (types .exit)) (now (lists .exit))
+        (now (roots .exit)) (now (diagnostics .exit)) in
+        ⌜ promised (parseCollect stageOne) (now (script .entry)) before
+        ≡ record { answer = r; arrays = after } ⌝ }
 {
     let refused = refusal(
         script.len(),
@@ -379,7 +447,7 @@ pub fn parse_collect(
     }
     clear_tree(nodes, types, lists, roots);
     clear_from(diagnostics, 0);
-    let mut p = [0; 17];
+    let mut p = [0; Parser::CELLS];
     let c = parse_roots_collect(script, nodes, types, lists, roots, diagnostics, &mut p);
     if going(&p) {
         let u = get_used(&p);

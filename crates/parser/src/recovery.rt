@@ -3,6 +3,7 @@ use crate::clear_from;
 use crate::drop_docs;
 use lex::Diagnostic;
 use lex::Type;
+use parser_state::State;
 use parser_state::Used;
 use parser_state::advance;
 use parser_state::get_used;
@@ -14,12 +15,17 @@ ghost use mathlib.Core.Path.{_≡_};
 ghost use mathlib.Core.List.{List};
 ghost use Prim.Native.Nat.{ℕ};
 ghost use Rattle.parser_state.specs.Represents.{parserOf, code};
-ghost use Rattle.parser_state.specs.Refines.{Refines, kept};
+ghost use Rattle.parser_state.specs.Refines.{Refines, stackUnchanged};
 ghost use Rattle.parser.specs.Whole.{Resumes, rootBoundary, skips, synchronizing};
 
-// What was under construction when a reading failed is cleared, its docs are dropped, and the reading goes on.
-pub(crate) fn resume(types: &mut [u32], lists: &mut [u32], p: &mut [u32; 17])
-    ensures { λ r. ⌜ ((script nodes : List ℕ) → Resumes script (code nodes (now (types .entry)) (now (lists .entry)) (parserOf (now (p .entry)))) (code nodes (now (types .exit)) (now (lists .exit)) (parserOf (now (p .exit))))) ⌝ }
+// What was under construction when a reading failed is cleared, its docs are dropped, and the
+// reading goes on.
+pub(crate) fn resume(types: &mut [u32], lists: &mut [u32], p: &mut State)
+    ensures { λ r. ⌜ ((script nodes : List ℕ) →
+        let before = code nodes (now (types .entry)) (now (lists .entry))
+        (parserOf (now (p .entry))) in
+        let after = code nodes (now (types .exit)) (now (lists .exit)) (parserOf (now (p .exit))) in
+        Resumes script before after) ⌝ }
 {
     let u = get_used(p);
     let scratch = u.scratch as usize;
@@ -68,7 +74,7 @@ fn is_root_boundary(kind: u32) -> bool
     }
 }
 
-fn skips(p: &[u32; 17]) -> bool
+fn skips(p: &State) -> bool
     ensures { λ r. ⌜ r ≡ skips (parserOf (now (p .entry))) ⌝ }
 {
     if !going(p) {
@@ -78,8 +84,12 @@ fn skips(p: &[u32; 17]) -> bool
 }
 
 // To the next token that may begin a root, past it where it is `}`.
-pub(crate) fn synchronize_root(script: &[u8], p: &mut [u32; 17])
-    ensures { λ r. ⌜ ((nodes types lists : List ℕ) → Refines (now (script .entry)) 0 0 synchronizing (λ n. n ≡ 0) kept 0 0 0 (code nodes types lists (parserOf (now (p .entry)))) (code nodes types lists (parserOf (now (p .exit))))) ⌝ }
+pub(crate) fn synchronize_root(script: &[u8], p: &mut State)
+    ensures { λ r. ⌜ ((nodes types lists : List ℕ) →
+        let before = code nodes types lists (parserOf (now (p .entry))) in
+        let after = code nodes types lists (parserOf (now (p .exit))) in
+        Refines (now (script .entry)) 0 0 synchronizing (λ n. n ≡ 0) stackUnchanged 0 0 0
+        before after) ⌝ }
 {
     while skips(p) {
         advance(script, p);

@@ -13,7 +13,7 @@ use Rattle.rules.specs.Combinators.{Rule, Readers, ControlFlow, break, failExpe
 use Rattle.rules.specs.Rules.{stageOne, readers, itemByKind, parsePrefix, parseExpr, operand}
 use Rattle.rules.specs.declared.NodeId.{NodeId}
 use Rattle.parser_state.specs.Represents.{Code, going}
-use Rattle.parser_state.specs.Refines.{kept, Refines, Refuses, deeper}
+use Rattle.parser_state.specs.Refines.{stackUnchanged, Refines, Refuses, deeper}
 use Rattle.parser_state.proofs.Steps.{either, at-kind, refused, then, enough, current-represents, ifKind-no}
 use Rattle.parser_state.proofs.Docs.{docs-none, require-then}
 use Rattle.parser_state.proofs.Rounds.{Again, weight, ifKind-is-no, round-out, round-start}
@@ -34,32 +34,32 @@ module _ (script : List ℕ) (levels : ℕ) where
       subst (λ (n : ℕ). (deeper script n .prefix ≡ parsePrefix (deeper script (levels - 1))) × ((least : ℕ) → deeper script n .expr least ≡ parseExpr (deeper script (levels - 1)) stageOne script least)) e (refl, λ least. refl)
 
 module _ {script : List ℕ} {Q : NodeId → Type 0} {d r′ l′ : ℕ} {s s′ : Code} (levels : ℕ) where
-  pub prefix-deep : levels ≡ 0 → Refuses script 10 0 s s′ → Refines script 0 0 (deeper script levels .prefix) Q kept d r′ l′ s s′
+  pub prefix-deep : levels ≡ 0 → Refuses script 10 0 s s′ → Refines script 0 0 (deeper script levels .prefix) Q stackUnchanged d r′ l′ s s′
   prefix-deep e p = rw (deeper-zero script levels e .0) (refused p)
 
-  pub expr-deep : (least : ℕ) → levels ≡ 0 → Refuses script 10 0 s s′ → Refines script 0 0 (deeper script levels .expr least) Q kept d r′ l′ s s′
+  pub expr-deep : (least : ℕ) → levels ≡ 0 → Refuses script 10 0 s s′ → Refines script 0 0 (deeper script levels .expr least) Q stackUnchanged d r′ l′ s s′
   expr-deep least e p = rw (deeper-zero script levels e .1 least) (refused p)
 
 module _ {script : List ℕ} {Q : NodeId → Type 0} {r l d r′ l′ : ℕ} {s s′ : Code} (levels : ℕ) where
-  pub prefix-by : (levels ≡ 0 → ⊥) → Refines script r l (parsePrefix (deeper script (levels - 1))) Q kept d r′ l′ s s′ → Refines script r l (deeper script levels .prefix) Q kept d r′ l′ s s′
+  pub prefix-by : (levels ≡ 0 → ⊥) → Refines script r l (parsePrefix (deeper script (levels - 1))) Q stackUnchanged d r′ l′ s s′ → Refines script r l (deeper script levels .prefix) Q stackUnchanged d r′ l′ s s′
   prefix-by f p = rw (deeper-suc script levels f .0) p
 
-  pub expr-by : (least : ℕ) → (levels ≡ 0 → ⊥) → Refines script r l (parseExpr (deeper script (levels - 1)) stageOne script least) Q kept d r′ l′ s s′ → Refines script r l (deeper script levels .expr least) Q kept d r′ l′ s s′
+  pub expr-by : (least : ℕ) → (levels ≡ 0 → ⊥) → Refines script r l (parseExpr (deeper script (levels - 1)) stageOne script least) Q stackUnchanged d r′ l′ s s′ → Refines script r l (deeper script levels .expr least) Q stackUnchanged d r′ l′ s s′
   expr-by least f p = rw (deeper-suc script levels f .1 least) p
 
 -- ---- items
 
 -- no doc is read
-no-doc : {script : List ℕ} {s : Code} → (s .parser .cur .kind ≡ kDoc → ⊥) → Refines script 0 0 collectDocs (λ n. n ≡ 0) kept 0 0 0 s s
+no-doc : {script : List ℕ} {s : Code} → (s .parser .cur .kind ≡ kDoc → ⊥) → Refines script 0 0 collectDocs (λ n. n ≡ 0) stackUnchanged 0 0 0 s s
 unfolding collectDocs pure
 no-doc f = round-out round-start (λ stack. refl) (λ R L stack n m e h. ifKind-is-no _ _ _ m (rw (current-represents (h .related)) (ne-eqb _ kDoc f)))
 
 -- an item that is an expression
-pub prefix-expr : {script : List ℕ} {Q : NodeId → Type 0} {s s′ : Code} (d : Readers) → beginsExpr (s .parser) ≡ true → Refines script 0 0 (d .expr 0) Q kept 1 0 8 s s′ → Refines script 0 0 (parsePrefix d) Q kept 1 0 8 s s′
+pub prefix-expr : {script : List ℕ} {Q : NodeId → Type 0} {s s′ : Code} (d : Readers) → beginsExpr (s .parser) ≡ true → Refines script 0 0 (d .expr 0) Q stackUnchanged 1 0 8 s s′ → Refines script 0 0 (parsePrefix d) Q stackUnchanged 1 0 8 s s′
 unfolding parsePrefix
 prefix-expr {script} {Q} {s} {s′} d e p =
     let plain = begins-expr (s .parser) e in
-    let item : Refines script 0 0 (byKind (itemByKind d)) Q kept 1 0 8 s s′ =
+    let item : Refines script 0 0 (byKind (itemByKind d)) Q stackUnchanged 1 0 8 s s′ =
     at-kind _ _
     (entry-past _ _ _ (plain .1 kImport (omega arith) (omega arith))
     (entry-past _ _ _ (plain .1 kLet (omega arith) (omega arith))
@@ -72,9 +72,9 @@ prefix-expr {script} {Q} {s} {s′} d e p =
 -- ---- tables
 
 module _ (d : Readers) {script : List ℕ} {Q : NodeId → Type 0} {r l k r′ l′ n : ℕ} {s s′ : Code} where
-  pub operand-by : Refines script r l (operandOf d n) Q kept k r′ l′ s s′ → n ≡ operandClass (s .parser .cur .kind) → Refines script r l (operand d) Q kept k r′ l′ s s′
+  pub operand-by : Refines script r l (operandOf d n) Q stackUnchanged k r′ l′ s s′ → n ≡ operandClass (s .parser .cur .kind) → Refines script r l (operand d) Q stackUnchanged k r′ l′ s s′
   unfolding operand
-  operand-by p e = at-kind _ (s .parser .cur .kind) (rw (operand-class d (s .parser .cur .kind)) (subst (λ (c : ℕ). Refines script r l (operandOf d c) Q kept k r′ l′ s s′) e p)) refl
+  operand-by p e = at-kind _ (s .parser .cur .kind) (rw (operand-class d (s .parser .cur .kind)) (subst (λ (c : ℕ). Refines script r l (operandOf d c) Q stackUnchanged k r′ l′ s s′) e p)) refl
 
 -- what begins an operand is no Eof
 pub operand-kind : (k : ℕ) {n : ℕ} → n ≡ operandClass k → (n ≡ 0 → ⊥) → 1 < k

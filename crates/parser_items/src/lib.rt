@@ -1,4 +1,8 @@
-// The readers of items and expressions of parser.rs.
+// The readers of items and expressions of parser.rs. They call each other, so that the names of all
+// of them stand in the name of one module, which is full (docs/PROVING.md): `climb` is the rule
+// `infixStep`, `post_step` `postfixStep`, `record_lit` and `array_lit` `recordLiteral` and
+// `arrayLiteral`, `init` `field`, `case` `nextCase`, `prefix` and `expr` `parsePrefix` and
+// `parseExpr`.
 use lex::Token;
 use lex::Type;
 use parser_operators::CasesRead;
@@ -16,6 +20,7 @@ use parser_operators::operand_class;
 use parser_operators::operator;
 use parser_operators::postfix_follows;
 use parser_operators::push_case;
+use parser_state::State;
 use parser_state::WideNode;
 use parser_state::advance;
 use parser_state::close;
@@ -56,16 +61,23 @@ ghost use Rattle.parser_operators.specs.Matches.{casesGrown, CasesAre, caseCell
 
 // ---- items
 
-// An item of the script or of a list. Most are expressions: these are read without `prefix` in between, whose call takes a fourth of the time of a short one.
+// An item of the script or of a list. Most are expressions: these are read without `prefix` in
+// between, whose call takes a fourth of the time of a short one.
 pub fn member(
     script: &[u8],
     nodes: &mut [u32],
     types: &mut [u32],
     lists: &mut [u32],
-    p: &mut [u32; 17],
+    p: &mut State,
     levels: usize,
 ) -> NodeId
-    ensures { λ r. ⌜ ReadsNode (now (script .entry)) ((deeper (now (script .entry)) levels) .prefix) (code (now (nodes .entry)) (now (types .entry)) (now (lists .entry)) (parserOf (now (p .entry)))) (code (now (nodes .exit)) (now (types .exit)) (now (lists .exit)) (parserOf (now (p .exit)))) r ⌝ }
+    ensures { λ r.
+        let before = code (now (nodes .entry)) (now (types .entry)) (now (lists .entry))
+        (parserOf (now (p .entry))) in
+        let after = code (now (nodes .exit)) (now (types .exit)) (now (lists .exit))
+        (parserOf (now (p .exit))) in
+        ⌜ ReadsNode (now (script .entry)) ((deeper (now (script .entry)) levels) .prefix)
+        before after r ⌝ }
 {
     if levels != 0 {
         if begins_expr(p) {
@@ -75,15 +87,22 @@ pub fn member(
     prefix(script, nodes, types, lists, p, levels)
 }
 
+// prefix = import | let | fn | match | expr
 fn prefix(
     script: &[u8],
     nodes: &mut [u32],
     types: &mut [u32],
     lists: &mut [u32],
-    p: &mut [u32; 17],
+    p: &mut State,
     levels: usize,
 ) -> NodeId
-    ensures { λ r. ⌜ ReadsNode (now (script .entry)) ((deeper (now (script .entry)) levels) .prefix) (code (now (nodes .entry)) (now (types .entry)) (now (lists .entry)) (parserOf (now (p .entry)))) (code (now (nodes .exit)) (now (types .exit)) (now (lists .exit)) (parserOf (now (p .exit)))) r ⌝ }
+    ensures { λ r.
+        let before = code (now (nodes .entry)) (now (types .entry)) (now (lists .entry))
+        (parserOf (now (p .entry))) in
+        let after = code (now (nodes .exit)) (now (types .exit)) (now (lists .exit))
+        (parserOf (now (p .exit))) in
+        ⌜ ReadsNode (now (script .entry)) ((deeper (now (script .entry)) levels) .prefix)
+        before after r ⌝ }
 {
     if levels == 0 {
         fail_expecting(p, 10, 0);
@@ -96,15 +115,22 @@ fn prefix(
     item(script, nodes, types, lists, p, levels - 1)
 }
 
+// A prefix behind its docs.
 fn item(
     script: &[u8],
     nodes: &mut [u32],
     types: &mut [u32],
     lists: &mut [u32],
-    p: &mut [u32; 17],
+    p: &mut State,
     levels: usize,
 ) -> NodeId
-    ensures { λ r. ⌜ ReadsNode (now (script .entry)) (byKind (itemByKind (deeper (now (script .entry)) levels))) (code (now (nodes .entry)) (now (types .entry)) (now (lists .entry)) (parserOf (now (p .entry)))) (code (now (nodes .exit)) (now (types .exit)) (now (lists .exit)) (parserOf (now (p .exit)))) r ⌝ }
+    ensures { λ r.
+        let before = code (now (nodes .entry)) (now (types .entry)) (now (lists .entry))
+        (parserOf (now (p .entry))) in
+        let after = code (now (nodes .exit)) (now (types .exit)) (now (lists .exit))
+        (parserOf (now (p .exit))) in
+        ⌜ ReadsNode (now (script .entry))
+        (byKind (itemByKind (deeper (now (script .entry)) levels))) before after r ⌝ }
 {
     let k = kind(p);
     if k == Type::IMPORT {
@@ -126,15 +152,22 @@ fn item(
     expr(script, nodes, types, lists, p, 0, levels)
 }
 
+// let = "let" ident "=" prefix
 fn parse_let(
     script: &[u8],
     nodes: &mut [u32],
     types: &mut [u32],
     lists: &mut [u32],
-    p: &mut [u32; 17],
+    p: &mut State,
     levels: usize,
 ) -> NodeId
-    ensures { λ r. ⌜ ReadsNode (now (script .entry)) (parseLet (deeper (now (script .entry)) levels)) (code (now (nodes .entry)) (now (types .entry)) (now (lists .entry)) (parserOf (now (p .entry)))) (code (now (nodes .exit)) (now (types .exit)) (now (lists .exit)) (parserOf (now (p .exit)))) r ⌝ }
+    ensures { λ r.
+        let before = code (now (nodes .entry)) (now (types .entry)) (now (lists .entry))
+        (parserOf (now (p .entry))) in
+        let after = code (now (nodes .exit)) (now (types .exit)) (now (lists .exit))
+        (parserOf (now (p .exit))) in
+        ⌜ ReadsNode (now (script .entry)) (parseLet (deeper (now (script .entry)) levels))
+        before after r ⌝ }
 {
     let docs = take_docs(types, lists, p);
     expect(script, p, Type::LET);
@@ -145,16 +178,23 @@ fn parse_let(
     push_let(nodes, p, docs, name, rhs)
 }
 
+// fn = "fn" ident "(" (ident ":" type)* ")" type? "{" prefix* "}"
 fn parse_fn(
     script: &[u8],
     nodes: &mut [u32],
     types: &mut [u32],
     lists: &mut [u32],
-    p: &mut [u32; 17],
+    p: &mut State,
     levels: usize,
 ) -> NodeId
     requires { ⌜ 1 < parserOf (now p) .cur .kind ⌝ }
-    ensures { λ r. ⌜ ReadsNode (now (script .entry)) (parseFn (deeper (now (script .entry)) levels)) (code (now (nodes .entry)) (now (types .entry)) (now (lists .entry)) (parserOf (now (p .entry)))) (code (now (nodes .exit)) (now (types .exit)) (now (lists .exit)) (parserOf (now (p .exit)))) r ⌝ }
+    ensures { λ r.
+        let before = code (now (nodes .entry)) (now (types .entry)) (now (lists .entry))
+        (parserOf (now (p .entry))) in
+        let after = code (now (nodes .exit)) (now (types .exit)) (now (lists .exit))
+        (parserOf (now (p .exit))) in
+        ⌜ ReadsNode (now (script .entry)) (parseFn (deeper (now (script .entry)) levels))
+        before after r ⌝ }
 {
     let docs = take_docs(types, lists, p);
     advance(script, p);
@@ -180,32 +220,46 @@ fn parse_fn(
     )
 }
 
+// body = "{" prefix* "}"
 fn parse_body(
     script: &[u8],
     nodes: &mut [u32],
     types: &mut [u32],
     lists: &mut [u32],
-    p: &mut [u32; 17],
+    p: &mut State,
     levels: usize,
 ) -> Run
-    ensures { λ r. ⌜ ReadsList (now (script .entry)) (parseBody (deeper (now (script .entry)) levels)) (code (now (nodes .entry)) (now (types .entry)) (now (lists .entry)) (parserOf (now (p .entry)))) (code (now (nodes .exit)) (now (types .exit)) (now (lists .exit)) (parserOf (now (p .exit)))) r ⌝ }
+    ensures { λ r.
+        let before = code (now (nodes .entry)) (now (types .entry)) (now (lists .entry))
+        (parserOf (now (p .entry))) in
+        let after = code (now (nodes .exit)) (now (types .exit)) (now (lists .exit))
+        (parserOf (now (p .exit))) in
+        ⌜ ReadsList (now (script .entry)) (parseBody (deeper (now (script .entry)) levels))
+        before after r ⌝ }
 {
     expect(script, p, Type::CURLY_LEFT);
     items(script, nodes, types, lists, p, Type::CURLY_RIGHT, levels)
 }
 
-// Items up to a closing token: a body, or the arguments of a call.
+// prefix*, up to a closing token: a body, or the arguments of a call.
 fn items(
     script: &[u8],
     nodes: &mut [u32],
     types: &mut [u32],
     lists: &mut [u32],
-    p: &mut [u32; 17],
+    p: &mut State,
     stop: u32,
     levels: usize,
 ) -> Run
     requires { ⌜ 1 < stop ⌝ }
-    ensures { λ r. ⌜ ReadsList (now (script .entry)) (listUntil stop (nodeMember ((deeper (now (script .entry)) levels) .prefix))) (code (now (nodes .entry)) (now (types .entry)) (now (lists .entry)) (parserOf (now (p .entry)))) (code (now (nodes .exit)) (now (types .exit)) (now (lists .exit)) (parserOf (now (p .exit)))) r ⌝ }
+    ensures { λ r.
+        let before = code (now (nodes .entry)) (now (types .entry)) (now (lists .entry))
+        (parserOf (now (p .entry))) in
+        let after = code (now (nodes .exit)) (now (types .exit)) (now (lists .exit))
+        (parserOf (now (p .exit))) in
+        ⌜ ReadsList (now (script .entry))
+        (listUntil stop (nodeMember ((deeper (now (script .entry)) levels) .prefix)))
+        before after r ⌝ }
 {
     let mark = get_used(p).scratch;
     let mut members: u32 = 0;
@@ -217,16 +271,23 @@ fn items(
     close(script, lists, p, stop, mark, members)
 }
 
+// match = "match" "{" (expr "{" prefix* "}")* "{" prefix* "}" "}"
 fn parse_match(
     script: &[u8],
     nodes: &mut [u32],
     types: &mut [u32],
     lists: &mut [u32],
-    p: &mut [u32; 17],
+    p: &mut State,
     levels: usize,
 ) -> NodeId
     requires { ⌜ 1 < parserOf (now p) .cur .kind ⌝ }
-    ensures { λ r. ⌜ ReadsNode (now (script .entry)) (parseMatch (deeper (now (script .entry)) levels)) (code (now (nodes .entry)) (now (types .entry)) (now (lists .entry)) (parserOf (now (p .entry)))) (code (now (nodes .exit)) (now (types .exit)) (now (lists .exit)) (parserOf (now (p .exit)))) r ⌝ }
+    ensures { λ r.
+        let before = code (now (nodes .entry)) (now (types .entry)) (now (lists .entry))
+        (parserOf (now (p .entry))) in
+        let after = code (now (nodes .exit)) (now (types .exit)) (now (lists .exit))
+        (parserOf (now (p .exit))) in
+        ⌜ ReadsNode (now (script .entry)) (parseMatch (deeper (now (script .entry)) levels))
+        before after r ⌝ }
 {
     advance(script, p);
     let t = current(p);
@@ -240,11 +301,17 @@ fn cases(
     nodes: &mut [u32],
     types: &mut [u32],
     lists: &mut [u32],
-    p: &mut [u32; 17],
+    p: &mut State,
     t: Token,
     levels: usize,
 ) -> NodeId
-    ensures { λ r. ⌜ ReadsNode (now (script .entry)) (matchRest (deeper (now (script .entry)) levels) (lowToken t)) (code (now (nodes .entry)) (now (types .entry)) (now (lists .entry)) (parserOf (now (p .entry)))) (code (now (nodes .exit)) (now (types .exit)) (now (lists .exit)) (parserOf (now (p .exit)))) r ⌝ }
+    ensures { λ r.
+        let before = code (now (nodes .entry)) (now (types .entry)) (now (lists .entry))
+        (parserOf (now (p .entry))) in
+        let after = code (now (nodes .exit)) (now (types .exit)) (now (lists .exit))
+        (parserOf (now (p .exit))) in
+        ⌜ ReadsNode (now (script .entry))
+        (matchRest (deeper (now (script .entry)) levels) (lowToken t)) before after r ⌝ }
 {
     let mark = get_used(p).scratch;
     let mut members: u32 = 0;
@@ -268,13 +335,20 @@ fn case(
     nodes: &mut [u32],
     types: &mut [u32],
     lists: &mut [u32],
-    p: &mut [u32; 17],
+    p: &mut State,
     d: Default,
     members: u32,
     levels: usize,
 ) -> CasesRead
     requires { ⌜ memberFollows (parserOf (now p)) kCurlyRight ≡ true ⌝ }
-    ensures { λ r. ⌜ Again (now (script .entry)) (nextCase (deeper (now (script .entry)) levels)) casesGrown (CasesAre (now (script .entry)) d members (code (now (nodes .entry)) (now (types .entry)) (now (lists .entry)) (parserOf (now (p .entry))))) (CasesAre (now (script .entry)) (r .default) (r .members) (code (now (nodes .exit)) (now (types .exit)) (now (lists .exit)) (parserOf (now (p .exit))))) (code (now (nodes .entry)) (now (types .entry)) (now (lists .entry)) (parserOf (now (p .entry)))) (code (now (nodes .exit)) (now (types .exit)) (now (lists .exit)) (parserOf (now (p .exit)))) ⌝ }
+    ensures { λ r.
+        let before = code (now (nodes .entry)) (now (types .entry)) (now (lists .entry))
+        (parserOf (now (p .entry))) in
+        let after = code (now (nodes .exit)) (now (types .exit)) (now (lists .exit))
+        (parserOf (now (p .exit))) in
+        ⌜ Again (now (script .entry)) (nextCase (deeper (now (script .entry)) levels)) casesGrown
+        (CasesAre (now (script .entry)) d members before)
+        (CasesAre (now (script .entry)) (r .default) (r .members) after) before after ⌝ }
 {
     if kind(p) == Type::CURLY_LEFT {
         let token = current(p);
@@ -291,15 +365,22 @@ fn case(
     }
 }
 
+// A case = expr "{" prefix* "}"
 fn condition(
     script: &[u8],
     nodes: &mut [u32],
     types: &mut [u32],
     lists: &mut [u32],
-    p: &mut [u32; 17],
+    p: &mut State,
     levels: usize,
 )
-    ensures { λ r. ⌜ ReadsMember (now (script .entry)) (caseCells (deeper (now (script .entry)) levels)) (code (now (nodes .entry)) (now (types .entry)) (now (lists .entry)) (parserOf (now (p .entry)))) (code (now (nodes .exit)) (now (types .exit)) (now (lists .exit)) (parserOf (now (p .exit)))) ⌝ }
+    ensures { λ r.
+        let before = code (now (nodes .entry)) (now (types .entry)) (now (lists .entry))
+        (parserOf (now (p .entry))) in
+        let after = code (now (nodes .exit)) (now (types .exit)) (now (lists .exit))
+        (parserOf (now (p .exit))) in
+        ⌜ ReadsMember (now (script .entry)) (caseCells (deeper (now (script .entry)) levels))
+        before after ⌝ }
 {
     let t = current(p);
     let n = expr(script, nodes, types, lists, p, 0, levels);
@@ -309,16 +390,31 @@ fn condition(
 
 // ---- expressions
 
+// expr =
+//     atom |
+//     ident |
+//     "(" expr ")" |
+//     prefix-op expr |
+//     expr postfix-op |
+//     expr infix-op expr |
+//     { ident ":" expr } |
+//     "[" expr "]"
 fn expr(
     script: &[u8],
     nodes: &mut [u32],
     types: &mut [u32],
     lists: &mut [u32],
-    p: &mut [u32; 17],
+    p: &mut State,
     least: u32,
     levels: usize,
 ) -> NodeId
-    ensures { λ r. ⌜ ReadsNode (now (script .entry)) ((deeper (now (script .entry)) levels) .expr least) (code (now (nodes .entry)) (now (types .entry)) (now (lists .entry)) (parserOf (now (p .entry)))) (code (now (nodes .exit)) (now (types .exit)) (now (lists .exit)) (parserOf (now (p .exit)))) r ⌝ }
+    ensures { λ r.
+        let before = code (now (nodes .entry)) (now (types .entry)) (now (lists .entry))
+        (parserOf (now (p .entry))) in
+        let after = code (now (nodes .exit)) (now (types .exit)) (now (lists .exit))
+        (parserOf (now (p .exit))) in
+        ⌜ ReadsNode (now (script .entry)) ((deeper (now (script .entry)) levels) .expr least)
+        before after r ⌝ }
 {
     if levels == 0 {
         fail_expecting(p, 10, 0);
@@ -329,15 +425,22 @@ fn expr(
     infixes(script, nodes, types, lists, p, y, least, levels - 1)
 }
 
+// What an expr begins with: all but `expr postfix-op` and `expr infix-op expr`.
 fn operand(
     script: &[u8],
     nodes: &mut [u32],
     types: &mut [u32],
     lists: &mut [u32],
-    p: &mut [u32; 17],
+    p: &mut State,
     levels: usize,
 ) -> NodeId
-    ensures { λ r. ⌜ ReadsNode (now (script .entry)) (operand (deeper (now (script .entry)) levels)) (code (now (nodes .entry)) (now (types .entry)) (now (lists .entry)) (parserOf (now (p .entry)))) (code (now (nodes .exit)) (now (types .exit)) (now (lists .exit)) (parserOf (now (p .exit)))) r ⌝ }
+    ensures { λ r.
+        let before = code (now (nodes .entry)) (now (types .entry)) (now (lists .entry))
+        (parserOf (now (p .entry))) in
+        let after = code (now (nodes .exit)) (now (types .exit)) (now (lists .exit))
+        (parserOf (now (p .exit))) in
+        ⌜ ReadsNode (now (script .entry)) (operand (deeper (now (script .entry)) levels))
+        before after r ⌝ }
 {
     let class = operand_class(kind(p));
     if class == 1 {
@@ -362,16 +465,23 @@ fn operand(
     NodeId(0)
 }
 
+// An expr = { ident ":" expr }
 fn record_lit(
     script: &[u8],
     nodes: &mut [u32],
     types: &mut [u32],
     lists: &mut [u32],
-    p: &mut [u32; 17],
+    p: &mut State,
     levels: usize,
 ) -> NodeId
     requires { ⌜ 1 < parserOf (now p) .cur .kind ⌝ }
-    ensures { λ r. ⌜ ReadsNode (now (script .entry)) (recordLiteral (deeper (now (script .entry)) levels)) (code (now (nodes .entry)) (now (types .entry)) (now (lists .entry)) (parserOf (now (p .entry)))) (code (now (nodes .exit)) (now (types .exit)) (now (lists .exit)) (parserOf (now (p .exit)))) r ⌝ }
+    ensures { λ r.
+        let before = code (now (nodes .entry)) (now (types .entry)) (now (lists .entry))
+        (parserOf (now (p .entry))) in
+        let after = code (now (nodes .exit)) (now (types .exit)) (now (lists .exit))
+        (parserOf (now (p .exit))) in
+        ⌜ ReadsNode (now (script .entry)) (recordLiteral (deeper (now (script .entry)) levels))
+        before after r ⌝ }
 {
     let src = current(p);
     advance(script, p);
@@ -379,15 +489,23 @@ fn record_lit(
     push_token_node(nodes, p, NodeKind::RECORD, src, fields.start, fields.len)
 }
 
+// The fields of a record, up to `}`.
 fn inits(
     script: &[u8],
     nodes: &mut [u32],
     types: &mut [u32],
     lists: &mut [u32],
-    p: &mut [u32; 17],
+    p: &mut State,
     levels: usize,
 ) -> Run
-    ensures { λ r. ⌜ ReadsList (now (script .entry)) (listUntil kCurlyRight (field (deeper (now (script .entry)) levels))) (code (now (nodes .entry)) (now (types .entry)) (now (lists .entry)) (parserOf (now (p .entry)))) (code (now (nodes .exit)) (now (types .exit)) (now (lists .exit)) (parserOf (now (p .exit)))) r ⌝ }
+    ensures { λ r.
+        let before = code (now (nodes .entry)) (now (types .entry)) (now (lists .entry))
+        (parserOf (now (p .entry))) in
+        let after = code (now (nodes .exit)) (now (types .exit)) (now (lists .exit))
+        (parserOf (now (p .exit))) in
+        ⌜ ReadsList (now (script .entry))
+        (listUntil kCurlyRight (field (deeper (now (script .entry)) levels)))
+        before after r ⌝ }
 {
     let mark = get_used(p).scratch;
     let mut members: u32 = 0;
@@ -398,15 +516,22 @@ fn inits(
     close(script, lists, p, Type::CURLY_RIGHT, mark, members)
 }
 
+// <key>: <value>
 fn init(
     script: &[u8],
     nodes: &mut [u32],
     types: &mut [u32],
     lists: &mut [u32],
-    p: &mut [u32; 17],
+    p: &mut State,
     levels: usize,
 )
-    ensures { λ r. ⌜ ReadsMember (now (script .entry)) (field (deeper (now (script .entry)) levels)) (code (now (nodes .entry)) (now (types .entry)) (now (lists .entry)) (parserOf (now (p .entry)))) (code (now (nodes .exit)) (now (types .exit)) (now (lists .exit)) (parserOf (now (p .exit)))) ⌝ }
+    ensures { λ r.
+        let before = code (now (nodes .entry)) (now (types .entry)) (now (lists .entry))
+        (parserOf (now (p .entry))) in
+        let after = code (now (nodes .exit)) (now (types .exit)) (now (lists .exit))
+        (parserOf (now (p .exit))) in
+        ⌜ ReadsMember (now (script .entry)) (field (deeper (now (script .entry)) levels))
+        before after ⌝ }
 {
     let key = current(p);
     expect_ident(script, p);
@@ -415,16 +540,23 @@ fn init(
     push_named(lists, p, key, id.0);
 }
 
+// An expr = "[" expr "]"
 fn array_lit(
     script: &[u8],
     nodes: &mut [u32],
     types: &mut [u32],
     lists: &mut [u32],
-    p: &mut [u32; 17],
+    p: &mut State,
     levels: usize,
 ) -> NodeId
     requires { ⌜ 1 < parserOf (now p) .cur .kind ⌝ }
-    ensures { λ r. ⌜ ReadsNode (now (script .entry)) (arrayLiteral (deeper (now (script .entry)) levels)) (code (now (nodes .entry)) (now (types .entry)) (now (lists .entry)) (parserOf (now (p .entry)))) (code (now (nodes .exit)) (now (types .exit)) (now (lists .exit)) (parserOf (now (p .exit)))) r ⌝ }
+    ensures { λ r.
+        let before = code (now (nodes .entry)) (now (types .entry)) (now (lists .entry))
+        (parserOf (now (p .entry))) in
+        let after = code (now (nodes .exit)) (now (types .exit)) (now (lists .exit))
+        (parserOf (now (p .exit))) in
+        ⌜ ReadsNode (now (script .entry)) (arrayLiteral (deeper (now (script .entry)) levels))
+        before after r ⌝ }
 {
     let src = current(p);
     advance(script, p);
@@ -432,15 +564,23 @@ fn array_lit(
     push_token_node(nodes, p, NodeKind::ARRAY, src, members.start, members.len)
 }
 
+// The members of an array, up to `]`.
 fn elems(
     script: &[u8],
     nodes: &mut [u32],
     types: &mut [u32],
     lists: &mut [u32],
-    p: &mut [u32; 17],
+    p: &mut State,
     levels: usize,
 ) -> Run
-    ensures { λ r. ⌜ ReadsList (now (script .entry)) (listUntil kBraketRight (nodeMember ((deeper (now (script .entry)) levels) .expr 0))) (code (now (nodes .entry)) (now (types .entry)) (now (lists .entry)) (parserOf (now (p .entry)))) (code (now (nodes .exit)) (now (types .exit)) (now (lists .exit)) (parserOf (now (p .exit)))) r ⌝ }
+    ensures { λ r.
+        let before = code (now (nodes .entry)) (now (types .entry)) (now (lists .entry))
+        (parserOf (now (p .entry))) in
+        let after = code (now (nodes .exit)) (now (types .exit)) (now (lists .exit))
+        (parserOf (now (p .exit))) in
+        ⌜ ReadsList (now (script .entry))
+        (listUntil kBraketRight (nodeMember ((deeper (now (script .entry)) levels) .expr 0)))
+        before after r ⌝ }
 {
     let mark = get_used(p).scratch;
     let mut members: u32 = 0;
@@ -452,16 +592,23 @@ fn elems(
     close(script, lists, p, Type::BRAKET_RIGHT, mark, members)
 }
 
+// An expr = "(" expr ")"
 fn group(
     script: &[u8],
     nodes: &mut [u32],
     types: &mut [u32],
     lists: &mut [u32],
-    p: &mut [u32; 17],
+    p: &mut State,
     levels: usize,
 ) -> NodeId
     requires { ⌜ 1 < parserOf (now p) .cur .kind ⌝ }
-    ensures { λ r. ⌜ ReadsNode (now (script .entry)) (group (deeper (now (script .entry)) levels)) (code (now (nodes .entry)) (now (types .entry)) (now (lists .entry)) (parserOf (now (p .entry)))) (code (now (nodes .exit)) (now (types .exit)) (now (lists .exit)) (parserOf (now (p .exit)))) r ⌝ }
+    ensures { λ r.
+        let before = code (now (nodes .entry)) (now (types .entry)) (now (lists .entry))
+        (parserOf (now (p .entry))) in
+        let after = code (now (nodes .exit)) (now (types .exit)) (now (lists .exit))
+        (parserOf (now (p .exit))) in
+        ⌜ ReadsNode (now (script .entry)) (group (deeper (now (script .entry)) levels))
+        before after r ⌝ }
 {
     advance(script, p);
     let id = expr(script, nodes, types, lists, p, 0, levels);
@@ -469,16 +616,23 @@ fn group(
     id
 }
 
+// An expr = prefix-op expr
 fn unary(
     script: &[u8],
     nodes: &mut [u32],
     types: &mut [u32],
     lists: &mut [u32],
-    p: &mut [u32; 17],
+    p: &mut State,
     levels: usize,
 ) -> NodeId
     requires { ⌜ 1 < parserOf (now p) .cur .kind ⌝ }
-    ensures { λ r. ⌜ ReadsNode (now (script .entry)) (unary (deeper (now (script .entry)) levels)) (code (now (nodes .entry)) (now (types .entry)) (now (lists .entry)) (parserOf (now (p .entry)))) (code (now (nodes .exit)) (now (types .exit)) (now (lists .exit)) (parserOf (now (p .exit)))) r ⌝ }
+    ensures { λ r.
+        let before = code (now (nodes .entry)) (now (types .entry)) (now (lists .entry))
+        (parserOf (now (p .entry))) in
+        let after = code (now (nodes .exit)) (now (types .exit)) (now (lists .exit))
+        (parserOf (now (p .exit))) in
+        ⌜ ReadsNode (now (script .entry)) (unary (deeper (now (script .entry)) levels))
+        before after r ⌝ }
 {
     let op = current(p);
     advance(script, p);
@@ -486,16 +640,23 @@ fn unary(
     push_token_node(nodes, p, NodeKind::UNARY, op, rhs.0, 0)
 }
 
+// Postfix parsing loop: expr = expr postfix-op
 fn postfix(
     script: &[u8],
     nodes: &mut [u32],
     types: &mut [u32],
     lists: &mut [u32],
-    p: &mut [u32; 17],
+    p: &mut State,
     lhs: NodeId,
     levels: usize,
 ) -> NodeId
-    ensures { λ r. ⌜ LoopsNode (now (script .entry)) (postfix (deeper (now (script .entry)) levels) lhs) (code (now (nodes .entry)) (now (types .entry)) (now (lists .entry)) (parserOf (now (p .entry)))) (code (now (nodes .exit)) (now (types .exit)) (now (lists .exit)) (parserOf (now (p .exit)))) r ⌝ }
+    ensures { λ r.
+        let before = code (now (nodes .entry)) (now (types .entry)) (now (lists .entry))
+        (parserOf (now (p .entry))) in
+        let after = code (now (nodes .exit)) (now (types .exit)) (now (lists .exit))
+        (parserOf (now (p .exit))) in
+        ⌜ LoopsNode (now (script .entry)) (postfix (deeper (now (script .entry)) levels) lhs)
+        before after r ⌝ }
 {
     let mut x = lhs;
     while postfix_follows(nodes, p, x) {
@@ -504,17 +665,24 @@ fn postfix(
     x
 }
 
+// One more field or call.
 fn post_step(
     script: &[u8],
     nodes: &mut [u32],
     types: &mut [u32],
     lists: &mut [u32],
-    p: &mut [u32; 17],
+    p: &mut State,
     lhs: NodeId,
     levels: usize,
 ) -> NodeId
     requires { ⌜ postfixFollows (now nodes) (parserOf (now p)) lhs ≡ true ⌝ }
-    ensures { λ r. ⌜ ReadsStep (now (script .entry)) (postfixStep (deeper (now (script .entry)) levels) lhs) (code (now (nodes .entry)) (now (types .entry)) (now (lists .entry)) (parserOf (now (p .entry)))) (code (now (nodes .exit)) (now (types .exit)) (now (lists .exit)) (parserOf (now (p .exit)))) r ⌝ }
+    ensures { λ r.
+        let before = code (now (nodes .entry)) (now (types .entry)) (now (lists .entry))
+        (parserOf (now (p .entry))) in
+        let after = code (now (nodes .exit)) (now (types .exit)) (now (lists .exit))
+        (parserOf (now (p .exit))) in
+        ⌜ ReadsStep (now (script .entry)) (postfixStep (deeper (now (script .entry)) levels) lhs)
+        before after r ⌝ }
 {
     if kind(p) == Type::DOT {
         field_access(script, nodes, p, lhs)
@@ -523,34 +691,49 @@ fn post_step(
     }
 }
 
+// An expr = expr "(" prefix* ")"
 fn call(
     script: &[u8],
     nodes: &mut [u32],
     types: &mut [u32],
     lists: &mut [u32],
-    p: &mut [u32; 17],
+    p: &mut State,
     lhs: NodeId,
     levels: usize,
 ) -> NodeId
     requires { ⌜ 1 < parserOf (now p) .cur .kind ⌝ }
-    ensures { λ r. ⌜ ReadsStep (now (script .entry)) (call (deeper (now (script .entry)) levels) lhs) (code (now (nodes .entry)) (now (types .entry)) (now (lists .entry)) (parserOf (now (p .entry)))) (code (now (nodes .exit)) (now (types .exit)) (now (lists .exit)) (parserOf (now (p .exit)))) r ⌝ }
+    ensures { λ r.
+        let before = code (now (nodes .entry)) (now (types .entry)) (now (lists .entry))
+        (parserOf (now (p .entry))) in
+        let after = code (now (nodes .exit)) (now (types .exit)) (now (lists .exit))
+        (parserOf (now (p .exit))) in
+        ⌜ ReadsStep (now (script .entry)) (call (deeper (now (script .entry)) levels) lhs)
+        before after r ⌝ }
 {
     advance(script, p);
     let args = items(script, nodes, types, lists, p, Type::BRACE_RIGHT, levels);
     push_call(nodes, p, lhs, args)
 }
 
+// Infix parsing loop: expr = expr infix-op expr
 fn infixes(
     script: &[u8],
     nodes: &mut [u32],
     types: &mut [u32],
     lists: &mut [u32],
-    p: &mut [u32; 17],
+    p: &mut State,
     lhs: NodeId,
     least: u32,
     levels: usize,
 ) -> NodeId
-    ensures { λ r. ⌜ LoopsNode (now (script .entry)) (infixes (deeper (now (script .entry)) levels) stageOne (now (script .entry)) least lhs) (code (now (nodes .entry)) (now (types .entry)) (now (lists .entry)) (parserOf (now (p .entry)))) (code (now (nodes .exit)) (now (types .exit)) (now (lists .exit)) (parserOf (now (p .exit)))) r ⌝ }
+    ensures { λ r.
+        let before = code (now (nodes .entry)) (now (types .entry)) (now (lists .entry))
+        (parserOf (now (p .entry))) in
+        let after = code (now (nodes .exit)) (now (types .exit)) (now (lists .exit))
+        (parserOf (now (p .exit))) in
+        ⌜ LoopsNode (now (script .entry))
+        (infixes (deeper (now (script .entry)) levels) stageOne (now (script .entry)) least
+        lhs) before after r ⌝ }
 {
     let mut x = lhs;
     while infix_follows(script, p, least) {
@@ -559,18 +742,26 @@ fn infixes(
     x
 }
 
+// One more cast, or one more sign with its right side.
 fn climb(
     script: &[u8],
     nodes: &mut [u32],
     types: &mut [u32],
     lists: &mut [u32],
-    p: &mut [u32; 17],
+    p: &mut State,
     lhs: NodeId,
     least: u32,
     levels: usize,
 ) -> NodeId
     requires { ⌜ infixFollows (now script) (parserOf (now p)) least ≡ true ⌝ }
-    ensures { λ r. ⌜ ReadsStep (now (script .entry)) (infixStep (deeper (now (script .entry)) levels) stageOne (now (script .entry)) least lhs) (code (now (nodes .entry)) (now (types .entry)) (now (lists .entry)) (parserOf (now (p .entry)))) (code (now (nodes .exit)) (now (types .exit)) (now (lists .exit)) (parserOf (now (p .exit)))) r ⌝ }
+    ensures { λ r.
+        let before = code (now (nodes .entry)) (now (types .entry)) (now (lists .entry))
+        (parserOf (now (p .entry))) in
+        let after = code (now (nodes .exit)) (now (types .exit)) (now (lists .exit))
+        (parserOf (now (p .exit))) in
+        ⌜ ReadsStep (now (script .entry))
+        (infixStep (deeper (now (script .entry)) levels) stageOne (now (script .entry)) least
+        lhs) before after r ⌝ }
 {
     let k = kind(p);
     if k == Type::AS {
@@ -583,18 +774,26 @@ fn climb(
     binary(script, nodes, types, lists, p, lhs, left_power(n), levels)
 }
 
+// An expr = expr infix-op expr, `left` being the power on the left of the sign. The power on its
+// right is one more.
 fn binary(
     script: &[u8],
     nodes: &mut [u32],
     types: &mut [u32],
     lists: &mut [u32],
-    p: &mut [u32; 17],
+    p: &mut State,
     lhs: NodeId,
     left: u32,
     levels: usize,
 ) -> NodeId
     requires { ⌜ (1 < parserOf (now p) .cur .kind) × (left < prefixPower) ⌝ }
-    ensures { λ r. ⌜ ReadsStep (now (script .entry)) (binary (deeper (now (script .entry)) levels) lhs left) (code (now (nodes .entry)) (now (types .entry)) (now (lists .entry)) (parserOf (now (p .entry)))) (code (now (nodes .exit)) (now (types .exit)) (now (lists .exit)) (parserOf (now (p .exit)))) r ⌝ }
+    ensures { λ r.
+        let before = code (now (nodes .entry)) (now (types .entry)) (now (lists .entry))
+        (parserOf (now (p .entry))) in
+        let after = code (now (nodes .exit)) (now (types .exit)) (now (lists .exit))
+        (parserOf (now (p .exit))) in
+        ⌜ ReadsStep (now (script .entry)) (binary (deeper (now (script .entry)) levels) lhs left)
+        before after r ⌝ }
 {
     let op = current(p);
     advance(script, p);

@@ -1,4 +1,4 @@
--- Whether a node can be called is told by its tag in the array.
+-- Whether a node can be called is tested by its tag in the array.
 use mathlib.Core.Path.{_≡_, refl, sym, ap, subst, _∙_}
 use mathlib.Core.Bool.{Bool, true, false}
 use mathlib.Core.List.{List, [], _∷_, _++_, map, flatten, append-assoc}

@@ -13,7 +13,7 @@ use Rattle.rules.specs.Combinators.{Rule, Readers, _>>=_, pure, cur, current, C
 use Rattle.rules.specs.Rules.{stageOne, breaksOff, callable, call, callStep, postfixStep, binary, signStep, infixStep}
 use Rattle.rules.specs.declared.NodeId.{NodeId}
 use Rattle.parser_state.specs.Represents.{Code, isGoing, Represents}
-use Rattle.parser_state.specs.Refines.{Ends, kept, Refines}
+use Rattle.parser_state.specs.Refines.{Ends, stackUnchanged, Refines}
 use Rattle.parser_state.specs.declared.Parser.{Parser}
 use Rattle.parser_state.proofs.Steps.{either, true≢false, current-represents, represents-going, seq, looks, ifKind-yes, ifKind-no}
 use Rattle.parser_state.proofs.Rounds.{ifKind-is-yes, ifKind-is-no}
@@ -51,16 +51,16 @@ module _ (nodes : List ℕ) (p : Parser) (x : NodeId) where
   postfix-calls e f = postfix-when (isGoing (p .status)) (eqb (p .cur .kind) kDot) (eqb (p .cur .kind) kBraceLeft) (callAt nodes x) e (borrow.Author.Tests.ne-eqb _ _ f) .2
 
 module _ (d : Readers) {script : List ℕ} {Q : ControlFlow NodeId → Type 0} {r l k r′ l′ : ℕ} {s s′ : Code} (x : NodeId) where
-  callable-then : callAt (s .nodes) x ≡ true → Refines script r l (call d x) Q kept k r′ l′ s s′ → Refines script r l (callable x >>= callStep d x) Q kept k r′ l′ s s′
+  callable-then : callAt (s .nodes) x ≡ true → Refines script r l (call d x) Q stackUnchanged k r′ l′ s s′ → Refines script r l (callable x >>= callStep d x) Q stackUnchanged k r′ l′ s s′
   unfolding callable _>>=_
   callable-then e p = record {
     sticky = p .sticky;
     monotone = p .monotone;
     progress = p .progress;
-    simulates = λ R L stack m h. subst (λ (b : Bool). Ends script Q kept s′ R L r′ l′ stack (callStep d x b m)) (sym (sym (call-at x h) ∙ e)) (p .simulates R L stack m h);
+    simulates = λ R L stack m h. subst (λ (b : Bool). Ends script Q stackUnchanged s′ R L r′ l′ stack (callStep d x b m)) (sym (sym (call-at x h) ∙ e)) (p .simulates R L stack m h);
   }
 
-  pub post-call : postfixFollows (s .nodes) (s .parser) x ≡ true → (s .parser .cur .kind ≡ kDot → ⊥) → Refines script r l (call d x) Q kept k r′ l′ s s′ → Refines script r l (postfixStep d x) Q kept k r′ l′ s s′
+  pub post-call : postfixFollows (s .nodes) (s .parser) x ≡ true → (s .parser .cur .kind ≡ kDot → ⊥) → Refines script r l (call d x) Q stackUnchanged k r′ l′ s s′ → Refines script r l (postfixStep d x) Q stackUnchanged k r′ l′ s s′
   post-call e f p = ifKind-no _ _ (ifKind-yes _ _ (callable-then (postfix-calls (s .nodes) (s .parser) x e f) p) (postfix-brace (s .nodes) (s .parser) x e f)) f
 
 module _ (d : Readers) {script : List ℕ} {s : Code} (x : NodeId) where
@@ -75,7 +75,7 @@ module _ (d : Readers) {script : List ℕ} {s : Code} (x : NodeId) where
 
 -- ---- an infix
 
--- a step at an infix sign, by what is told of it
+-- a step at an infix sign, by what is tested of it
 abbrev signBy : Readers → NodeId → ℕ → Bool → Option ℕ → Rule (ControlFlow NodeId)
 signBy d x least b none = pure (break x)
 signBy d x least b (some p) = elim b [ true ↦ pure (break x) | false ↦ elim (ltb p least) [ true ↦ pure (break x) | false ↦ binary d x p ] ]
@@ -127,12 +127,12 @@ module _ (script : List ℕ) (p : Parser) (least : ℕ) where
   no-sign e f n = true≢false (subst (λ (o : Option ℕ). signFollows (breaksOff script (p .cur)) least o ≡ true) n (sign-follows e f)) refl
 
 module _ (d : Readers) {script : List ℕ} {Q : ControlFlow NodeId → Type 0} {s s′ : Code} (least : ℕ) (x : NodeId) (o : ℕ) where
-  pub infix-sign : infixFollows script (s .parser) least ≡ true → (s .parser .cur .kind ≡ kAs → ⊥) → stageOne (s .parser .cur .kind) ≡ some o → Refines script 0 0 (binary d x o) Q kept 1 0 0 s s′
-      → Refines script 0 0 (infixStep d stageOne script least x) Q kept 1 0 0 s s′
+  pub infix-sign : infixFollows script (s .parser) least ≡ true → (s .parser .cur .kind ≡ kAs → ⊥) → stageOne (s .parser .cur .kind) ≡ some o → Refines script 0 0 (binary d x o) Q stackUnchanged 1 0 0 s s′
+      → Refines script 0 0 (infixStep d stageOne script least x) Q stackUnchanged 1 0 0 s s′
   infix-sign e f w p =
       let same : signStep d stageOne script least x (s .parser .cur) ≡ binary d x o = sign-by d script least x (s .parser .cur) ∙ ap (signBy d x least (breaksOff script (s .parser .cur))) w
       ∙ sign-when d x least (breaksOff script (s .parser .cur)) o (subst (λ (q : Option ℕ). signFollows (breaksOff script (s .parser .cur)) least q ≡ true) w (sign-follows script (s .parser) least e f)) in
-      let q : Refines script 0 0 (signStep d stageOne script least x (s .parser .cur)) Q kept 1 0 0 s s′ = subst (λ (y : Rule (ControlFlow NodeId)). Refines script 0 0 y Q kept 1 0 0 s s′) (sym same) p in
+      let q : Refines script 0 0 (signStep d stageOne script least x (s .parser .cur)) Q stackUnchanged 1 0 0 s s′ = subst (λ (y : Rule (ControlFlow NodeId)). Refines script 0 0 y Q stackUnchanged 1 0 0 s s′) (sym same) p in
       ifKind-no _ _ (seq (signStep d stageOne script least x) looks q) f
 
 module _ (d : Readers) {script : List ℕ} {s : Code} (least : ℕ) (x : NodeId) where

@@ -16,7 +16,7 @@ use Rattle.rules.specs.Rules.{Cases, noteAfterDefault, defaultCase, conditionCa
 use Rattle.rules.specs.declared.Run.{Run}
 use Rattle.rules.specs.declared.NodeId.{NodeId}
 use Rattle.parser_state.specs.Represents.{Code, going, ahead, lowToken, Represents, FailedAt}
-use Rattle.parser_state.specs.Refines.{Ends, kept, grown, Refines, ReadsMember, Lists, failAt, memberFollows, closed}
+use Rattle.parser_state.specs.Refines.{Ends, stackUnchanged, grown, Refines, ReadsMember, Lists, failAt, memberFollows, closed}
 use Rattle.parser_state.proofs.Steps.{either, represents-less, represents-going, failed-fails, represents-noted, noted, current-represents, seq, read, looks, done, enough, ifKind-yes}
 use Rattle.parser_state.proofs.Cells.{flatten-snoc}
 use Rattle.parser_state.proofs.Rounds.{Again, Turned, LoopInvariant, round-out, ifKind-is-yes, ifKind-is-no}
@@ -35,7 +35,7 @@ unfolding defaultOf
 default-some d e = ap (λ (b : Bool). elim b as (λ _. Option (Token × Run)) [ true ↦ none | false ↦ some (lowToken (d .token), d .run) ]) (ne-eqb (d .has) 0 e)
 
 -- what fails gives no value, of whatever type
-pub fail-any : {A : Type 0} {script : List ℕ} {Q : A → Type 0} {s s′ : Code} (number : ℕ) (t : Token) → Refines {A = ℕ} script 0 0 (failAt number t) (λ n. n ≡ 0) kept 0 0 0 s s′ → Refines {A = A} script 0 0 (failAt number t) Q kept 0 0 0 s s′
+pub fail-any : {A : Type 0} {script : List ℕ} {Q : A → Type 0} {s s′ : Code} (number : ℕ) (t : Token) → Refines {A = ℕ} script 0 0 (failAt number t) (λ n. n ≡ 0) stackUnchanged 0 0 0 s s′ → Refines {A = A} script 0 0 (failAt number t) Q stackUnchanged 0 0 0 s s′
 unfolding failAt
 fail-any number t p = record { sticky = p .sticky; monotone = p .monotone; progress = p .progress; simulates = λ R L stack m h. p .simulates R L stack m h }
 
@@ -96,15 +96,15 @@ module _ (deeper : Readers) where
 
   -- the default, which replaces an earlier one
   module _ {script : List ℕ} {n : ℕ} {run : Run} {s s′ : Code} (d : Default) where
-    default-own : memberFollows (s .parser) kCurlyRight ≡ true → s .parser .cur .kind ≡ kCurlyLeft → Refines script 0 0 (parseBody deeper) (λ a. a ≡ run) kept 1 1 8 s s′
+    default-own : memberFollows (s .parser) kCurlyRight ≡ true → s .parser .cur .kind ≡ kCurlyLeft → Refines script 0 0 (parseBody deeper) (λ a. a ≡ run) stackUnchanged 1 1 8 s s′
         → Again script (nextCase deeper) casesGrown (CasesAre script d n s) (CasesAre script (record { has = 1; token = s .parser .cur; run = run }) n s′) s s′
     unfolding defaultCase
     default-own w k p = case-again d (record { has = 1; token = s .parser .cur; run = run }) w (p .monotone) (p .progress) (λ R L stack c m q h.
-        let x : Refines script 0 0 (block c) (λ e. e ≡ continue (record { cases = c .cases; default = some (lowToken (s .parser .cur), run) })) kept 1 0 0 s s′ =
+        let x : Refines script 0 0 (block c) (λ e. e ≡ continue (record { cases = c .cases; default = some (lowToken (s .parser .cur), run) })) stackUnchanged 1 0 0 s s′ =
         enough (seq (λ e. pure (continue e)) (ifKind-yes (defaultCase deeper c) (conditionCase deeper c) (read _ looks refl (seq _ p done)) k) done) tt in
         go R L stack c q (block c m) (x .simulates R L (stack ++ flatten (c .cases)) m (represents-less _ _ (omega arith) (omega arith) h)))
       where
-        go : (R L : ℕ) (stack : List ℕ) (c : Cases) → CasesAre script d n s c → (r : Result (ControlFlow Cases)) → Ends script (λ e. e ≡ continue (record { cases = c .cases; default = some (lowToken (s .parser .cur), run) })) kept s′ R L 0 0 (stack ++ flatten (c .cases)) r
+        go : (R L : ℕ) (stack : List ℕ) (c : Cases) → CasesAre script d n s c → (r : Result (ControlFlow Cases)) → Ends script (λ e. e ≡ continue (record { cases = c .cases; default = some (lowToken (s .parser .cur), run) })) stackUnchanged s′ R L 0 0 (stack ++ flatten (c .cases)) r
             → Turned script (nextCase deeper) casesGrown (CasesAre script (record { has = 1; token = s .parser .cur; run = run }) n s′) s′ R L stack r
         go R L stack c q (ok (continue b) m) h =
             let e : continue b ≡ continue (record { cases = c .cases; default = some (lowToken (s .parser .cur), run) }) = h .0 in
@@ -114,7 +114,7 @@ module _ (deeper : Readers) where
         go R L stack c q (ok (break b) m) h = let e : break b ≡ continue (record { cases = c .cases; default = some (lowToken (s .parser .cur), run) }) = h .0 in let z : _≡_ {A = ℕ} 0 1 = cc in omega arith
         go R L stack c q (err e m) h = record { status = h .status; over = flatten (c .cases) ++ h .over; related = rw (← append-assoc stack (flatten (c .cases)) (h .over)) (h .related) }
 
-    pub default-again : {t : Token} → memberFollows (s .parser) kCurlyRight ≡ true → t ≡ s .parser .cur → s .parser .cur .kind ≡ kCurlyLeft → Refines script 0 0 (parseBody deeper) (λ a. a ≡ run) kept 1 1 8 s s′
+    pub default-again : {t : Token} → memberFollows (s .parser) kCurlyRight ≡ true → t ≡ s .parser .cur → s .parser .cur .kind ≡ kCurlyLeft → Refines script 0 0 (parseBody deeper) (λ a. a ≡ run) stackUnchanged 1 1 8 s s′
         → Again script (nextCase deeper) casesGrown (CasesAre script d n s) (CasesAre script (record { has = 1; token = t; run = run }) n s′) s s′
     default-again w e k p = subst (λ (t : Token). Again script (nextCase deeper) casesGrown (CasesAre script d n s) (CasesAre script (record { has = 1; token = t; run = run }) n s′) s s′) (sym e) (default-own w k p)
 
@@ -139,7 +139,7 @@ module _ (deeper : Readers) where
 
   module _ {script : List ℕ} {n mark d₂ r₂ l₂ : ℕ} {id : NodeId} {s₀ s s₂ : Code} (t : Token) (d : Default) where
     pub match-end : LoopInvariant script (nextCase deeper) casesGrown (record { cases = []; default = none }) (CasesAre script d n s) s₀ s → memberFollows (s .parser) kCurlyRight ≡ false → mark ≡ s₀ .parser .used .scratch
-        → Lists script (matchEnd t (defaultOf d)) id d₂ r₂ l₂ mark n s s₂ → Refines script 0 0 (matchRest deeper t) (λ a. a ≡ id) kept d₂ r₂ l₂ s₀ s₂
+        → Lists script (matchEnd t (defaultOf d)) id d₂ r₂ l₂ mark n s s₂ → Refines script 0 0 (matchRest deeper t) (λ a. a ≡ id) stackUnchanged d₂ r₂ l₂ s₀ s₂
     unfolding matchRest _>>=_ nextCase pure flatten
     match-end i w k q = record {
       sticky = λ e. let e₁ : s ≡ s₀ = p .sticky e in q .sticky (ap going e₁ ∙ e) ∙ e₁;
@@ -159,9 +159,9 @@ module _ (deeper : Readers) where
         p = round-out i (λ stack. append-nil stack) out
 
         go : (R L : ℕ) (stack : List ℕ) → length stack ≡ mark → (r : Result Cases) → Ends script (CasesAre script d n s) casesGrown s R L 0 0 stack r
-            → Ends script (λ a. a ≡ id) kept s₂ R L r₂ l₂ stack (elim r as (λ _. Result NodeId) [ ok c m ↦ matchEnd t (c .default) (c .cases) m | err e m ↦ err e m ])
+            → Ends script (λ a. a ≡ id) stackUnchanged s₂ R L r₂ l₂ stack (elim r as (λ _. Result NodeId) [ ok c m ↦ matchEnd t (c .default) (c .cases) m | err e m ↦ err e m ])
         go R L stack j (ok c m) h =
-            subst (λ (o : Option (Token × Run)). Ends script (λ a. a ≡ id) kept s₂ R L r₂ l₂ stack (matchEnd t o (c .cases) m)) (sym (h .0 .0))
+            subst (λ (o : Option (Token × Run)). Ends script (λ a. a ≡ id) stackUnchanged s₂ R L r₂ l₂ stack (matchEnd t o (c .cases) m)) (sym (h .0 .0))
             (q .simulates R L stack (c .cases) m j (h .0 .1 .0) (omega (arith, h .0 .1 .1, ap length (h .1 .related .left))) (represents-less _ _ (omega arith) (omega arith) (h .1)))
         go R L stack j (err e m) h = subst (λ (x : Code). FailedAt script x e R L stack m) (sym (q .sticky (failed-fails h))) h
 

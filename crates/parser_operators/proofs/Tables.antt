@@ -5,7 +5,7 @@ use mathlib.Core.Option.{Option, none, some}
 use mathlib.Core.List.{List, [], _∷_, map}
 use Prim.Native.Nat.{ℕ, zero, suc, _≤_, _<_}
 use native.Mathlib.Omega.{arith}
-use lib.Dec.{T, eqb, ltb, leb, leb→le}
+use lib.Dec.{eqb, ltb, leb}
 use lib.ListN.{length, getD}
 use borrow.Author.Tests.{eqb-true, eq-eqb, ne-eqb, ltb-true, ltb-false, lt-ltb, le-ltb, le-leb, lt-leb}
 use Rattle.lex.specs.Kind.{kDoc, kMatch}
@@ -14,7 +14,7 @@ use Rattle.rules.specs.Rules.{stageOne, rightPower, prefixPower, operandByKind}
 use Rattle.parser_state.specs.Represents.{Code}
 use Rattle.parser_state.specs.Refines.{Refines}
 use Rattle.parser_state.specs.declared.Parser.{Parser}
-use Rattle.parser_state.proofs.Steps.{either, true≢false}
+use Rattle.parser_state.proofs.Steps.{either, true≢false, and-both}
 use Rattle.parser_operators.specs.Tests.{operandClasses, operandClass, operandOf, operatorNumbers, operatorNumber, powerAt, leftPowers, beginsExpr, signFollows, infixBy}
 
 -- ---- one entry after the other
@@ -31,30 +31,15 @@ pub past-all : {A : Type 0} (k : ℕ) (other : A) → choose [] other k ≡ othe
 unfolding choose
 past-all k other = refl
 
--- all keys lie below a number
-abbrev pub below : {A : Type 0} → ℕ → List (ℕ × A) → Bool
-below n [] = true
-below n (x ∷ xs) = ltb (x .0) n && below n xs
-
-both : (a b : Bool) → T (a && b) → T a × T b
-both true b t = (tt, t)
-both false b t = absurd t
-
-pub choose-above : {A : Type 0} (xs : List (ℕ × A)) (other : A) (n k : ℕ) → T (below n xs) → n ≤ k → choose xs other k ≡ other
-choose-above [] other n k t h = past-all k other
-choose-above (x ∷ xs) other n k t h =
-    let w = both (ltb (x .0) n) (below n xs) t in
-    past (x .1) other xs (λ e. omega (arith, leb→le _ n (w .0))) ∙ choose-above xs other n k (w .1) h
-
 -- all entries lie below a number
 abbrev allBelow : ℕ → List ℕ → Bool
 allBelow m [] = true
 allBelow m (x ∷ xs) = ltb x m && allBelow m xs
 
-entry-below : (m : ℕ) (xs : List ℕ) (n : ℕ) → n < length xs → T (allBelow m xs) → getD xs n 0 < m
-entry-below m [] n h t = absurd (omega arith)
-entry-below m (x ∷ xs) zero h t = leb→le _ m (both (ltb x m) (allBelow m xs) t .0)
-entry-below m (x ∷ xs) (suc n) h t = entry-below m xs n (omega arith) (both (ltb x m) (allBelow m xs) t .1)
+entry-below : (m : ℕ) (xs : List ℕ) (n : ℕ) → n < length xs → allBelow m xs ≡ true → getD xs n 0 < m
+entry-below m [] n h e = absurd (omega arith)
+entry-below m (x ∷ xs) zero h e = ltb-true x m (and-both (ltb x m) (allBelow m xs) e .0)
+entry-below m (x ∷ xs) (suc n) h e = entry-below m xs n (omega arith) (and-both (ltb x m) (allBelow m xs) e .1)
 
 -- a table of what a function gives
 abbrev pub mapped : {A B : Type 0} → (A → B) → List (ℕ × A) → List (ℕ × B)
@@ -96,7 +81,7 @@ powers-table = refl
 
 -- a left power is below that of a prefix sign
 pub left-below : {n left : ℕ} → n < 9 → left ≡ getD leftPowers n 0 → left < prefixPower
-left-below {n} h e = rw e (entry-below prefixPower leftPowers n h tt)
+left-below {n} h e = rw e (entry-below prefixPower leftPowers n h refl)
 
 pub operator-power : (k : ℕ) → stageOne k ≡ powerAt (operatorNumber k)
 unfolding stageOne operatorNumber powerAt choose

@@ -1,4 +1,5 @@
--- What the code tests: tables by kind, binding powers, and whether a loop over an expression goes on.
+-- What the code tests: tables by kind, binding powers, and whether a loop over an expression goes
+-- on.
 use mathlib.Core.Bool.{Bool, true, false, not, _&&_, _||_}
 use mathlib.Core.Option.{Option, none, some}
 use mathlib.Core.List.{List, [], _∷_}
@@ -25,7 +26,8 @@ operandOf d = choose ((1, recordLiteral d) ∷ (2, arrayLiteral d) ∷ (3, atom)
 
 -- ---- binding powers
 
--- the number of an infix sign, 9 where there is none; NotEqual, whose number would be 8, is no infix sign
+-- the number of an infix sign, 9 where there is none; NotEqual, whose number would be 8, is no
+-- infix sign of stage one
 abbrev pub operatorNumbers : List (ℕ × ℕ)
 operatorNumbers = (kPlus, 0) ∷ (kMinus, 1) ∷ (kAsteriks, 2) ∷ (kSlash, 3) ∷ (kPercent, 4) ∷ (kDoubleEqual, 5) ∷ (kLessThan, 6) ∷ (kGreaterThan, 7) ∷ []
 
@@ -41,7 +43,7 @@ powerAt n = elim (ltb n 9) [ true ↦ some (getD leftPowers n 0) | false ↦ non
 
 -- ---- items
 
--- an expression begins, before which no doc waits
+-- an expression begins, before which no doc is pending
 unfoldable pub beginsExpr : Parser → Bool
 beginsExpr p = eqb (p .used .docs) 0 && (ltb (p .cur .kind) kDoc || ltb kMatch (p .cur .kind))
 

@@ -2,6 +2,7 @@
 use lex::Token;
 use lex::Type;
 use lex::is_prefix_sign;
+use parser_state::State;
 use parser_state::WideNode;
 use parser_state::advance;
 use parser_state::current;
@@ -10,7 +11,7 @@ use parser_state::fail_at;
 use parser_state::get_used;
 use parser_state::going;
 use parser_state::kind;
-use parser_state::low;
+use parser_state::low_24_bits;
 use parser_state::push_cells;
 use parser_state::push_field;
 use parser_state::push_node;
@@ -28,21 +29,22 @@ ghost use Rattle.rules.specs.Combinators.{pushNode, tokenCells, runCells};
 ghost use Rattle.rules.specs.declared.Node.the-variants as N;
 ghost use Rattle.rules.specs.Rules.{atom, ident, fieldAccess, cast, breaksOff};
 ghost use Rattle.parser_state.specs.Represents.{parserOf, code, lowToken};
-ghost use Rattle.parser_state.specs.Refines.{Refines, kept, ReadsNode, ReadsStep, Pushes, deeper};
+ghost use Rattle.parser_state.specs.Refines.{Refines, stackUnchanged, ReadsNode, ReadsStep, Pushes, deeper};
 ghost use Rattle.parser_operators.specs.Tests.{operandClass, operatorNumber, leftPowers, beginsExpr, callAt, postfixFollows, infixFollows};
 ghost use Rattle.parser_operators.specs.Matches.{defaultOf, matchNode};
 
 // ---- tables
 
-// The binding powers on the left of `+` `-` `*` `/` `%` `==` `<` `>` `!=`, by their numbers. The one
-// on the right is the left one plus 1 (`binary`).
+// The binding powers on the left of `+` `-` `*` `/` `%` `==` `<` `>` `!=`, by their numbers. The
+// one on the right is the left one plus 1 (`binary`).
 const LEFT_POWERS: [u32; 9] = [1, 1, 3, 3, 3, 0, 0, 0, 0];
 
 // The power of a prefix sign.
 pub const PREFIX_POWER: u32 = 5;
 
-// What begins an operand: a record 1, an array 2, an atom 3, a name 4, a bracket 5, a sign 6; 0 what begins none.
-// A chain of tests, which is compiled to one jump: a constant array would be written out at each use.
+// What begins an operand: a record 1, an array 2, an atom 3, a name 4, a bracket 5, a sign 6; 0
+// what begins none. A chain of tests, which is compiled to one jump: a constant array would be
+// written out at each use.
 pub fn operand_class(kind: u32) -> u32
     ensures { λ r. ⌜ r ≡ operandClass kind ⌝ }
 {
@@ -113,6 +115,7 @@ pub fn operator(kind: u32) -> u32
     9
 }
 
+// The power on the left of an infix sign, by its number.
 pub fn left_power(n: u32) -> u32
     requires { ⌜ n < 9 ⌝ }
     ensures { λ r. ⌜ r ≡ getD leftPowers n 0 ⌝ }
@@ -122,8 +125,9 @@ pub fn left_power(n: u32) -> u32
 
 // ---- whether an item is an expression, and a loop over an expression goes on
 
-// No doc waits or is read, and none of the words that begin another item: the kinds from Doc to Match.
-pub fn begins_expr(p: &[u32; 17]) -> bool
+// No doc is pending or read, and none of the words that begin another item: the kinds from Doc to
+// Match.
+pub fn begins_expr(p: &State) -> bool
     ensures { λ r. ⌜ r ≡ beginsExpr (parserOf (now (p .entry))) ⌝ }
 {
     if get_used(p).docs != 0 {
@@ -151,7 +155,7 @@ fn is_callable_target(nodes: &[u32], n: NodeId) -> bool
 }
 
 // A `.`, or a `(` behind a node that can be called.
-pub fn postfix_follows(nodes: &[u32], p: &[u32; 17], n: NodeId) -> bool
+pub fn postfix_follows(nodes: &[u32], p: &State, n: NodeId) -> bool
     ensures { λ r. ⌜ r ≡ postfixFollows (now (nodes .entry)) (parserOf (now (p .entry))) n ⌝ }
 {
     if !going(p) {
@@ -181,7 +185,7 @@ fn breaks_off(script: &[u8], t: Token) -> bool
 }
 
 // `as`, or an infix sign whose left power is no less.
-pub fn infix_follows(script: &[u8], p: &[u32; 17], least: u32) -> bool
+pub fn infix_follows(script: &[u8], p: &State, least: u32) -> bool
     ensures { λ r. ⌜ r ≡ infixFollows (now (script .entry)) (parserOf (now (p .entry))) least ⌝ }
 {
     if !going(p) {
@@ -203,27 +207,39 @@ pub fn infix_follows(script: &[u8], p: &[u32; 17], least: u32) -> bool
 
 // ---- nodes with none below them
 
-pub fn atom(script: &[u8], nodes: &mut [u32], p: &mut [u32; 17]) -> NodeId
+// An expr = atom
+pub fn atom(script: &[u8], nodes: &mut [u32], p: &mut State) -> NodeId
     requires { ⌜ 1 < parserOf (now p) .cur .kind ⌝ }
-    ensures { λ r. ⌜ ((types lists : List ℕ) → ReadsNode (now (script .entry)) atom (code (now (nodes .entry)) types lists (parserOf (now (p .entry)))) (code (now (nodes .exit)) types lists (parserOf (now (p .exit)))) r) ⌝ }
+    ensures { λ r. ⌜ ((types lists : List ℕ) →
+        let before = code (now (nodes .entry)) types lists (parserOf (now (p .entry))) in
+        let after = code (now (nodes .exit)) types lists (parserOf (now (p .exit))) in
+        ReadsNode (now (script .entry)) atom before after r) ⌝ }
 {
     let raw = current(p);
     advance(script, p);
     push_token_node(nodes, p, NodeKind::ATOM, raw, 0, 0)
 }
 
-pub fn ident(script: &[u8], nodes: &mut [u32], p: &mut [u32; 17]) -> NodeId
+// An expr = ident
+pub fn ident(script: &[u8], nodes: &mut [u32], p: &mut State) -> NodeId
     requires { ⌜ 1 < parserOf (now p) .cur .kind ⌝ }
-    ensures { λ r. ⌜ ((types lists : List ℕ) → ReadsNode (now (script .entry)) ident (code (now (nodes .entry)) types lists (parserOf (now (p .entry)))) (code (now (nodes .exit)) types lists (parserOf (now (p .exit)))) r) ⌝ }
+    ensures { λ r. ⌜ ((types lists : List ℕ) →
+        let before = code (now (nodes .entry)) types lists (parserOf (now (p .entry))) in
+        let after = code (now (nodes .exit)) types lists (parserOf (now (p .exit))) in
+        ReadsNode (now (script .entry)) ident before after r) ⌝ }
 {
     let name = current(p);
     advance(script, p);
     push_token_node(nodes, p, NodeKind::IDENT, name, 0, 0)
 }
 
-pub fn field_access(script: &[u8], nodes: &mut [u32], p: &mut [u32; 17], lhs: NodeId) -> NodeId
+// An expr = expr "." ident
+pub fn field_access(script: &[u8], nodes: &mut [u32], p: &mut State, lhs: NodeId) -> NodeId
     requires { ⌜ 1 < parserOf (now p) .cur .kind ⌝ }
-    ensures { λ r. ⌜ ((types lists : List ℕ) → ReadsStep (now (script .entry)) (fieldAccess lhs) (code (now (nodes .entry)) types lists (parserOf (now (p .entry)))) (code (now (nodes .exit)) types lists (parserOf (now (p .exit)))) r) ⌝ }
+    ensures { λ r. ⌜ ((types lists : List ℕ) →
+        let before = code (now (nodes .entry)) types lists (parserOf (now (p .entry))) in
+        let after = code (now (nodes .exit)) types lists (parserOf (now (p .exit))) in
+        ReadsStep (now (script .entry)) (fieldAccess lhs) before after r) ⌝ }
 {
     advance(script, p);
     let name = current(p);
@@ -232,29 +248,34 @@ pub fn field_access(script: &[u8], nodes: &mut [u32], p: &mut [u32; 17], lhs: No
 }
 
 // A Cast is pushed from a node and a type, one of each.
-fn push_cast(
-    nodes: &mut [u32],
-    p: &mut [u32; 17],
-    src: Token,
-    lhs: NodeId,
-    rhs: TypeExprId,
-) -> NodeId
-    ensures { λ r. ⌜ ((script types lists : List ℕ) → Refines script 1 0 (pushNode (λ id. N.Cast id (lowToken src) lhs rhs)) (λ i. i ≡ r) kept 0 0 0 (code (now (nodes .entry)) types lists (parserOf (now (p .entry)))) (code (now (nodes .exit)) types lists (parserOf (now (p .exit))))) ⌝ }
+fn push_cast(nodes: &mut [u32], p: &mut State, src: Token, lhs: NodeId, rhs: TypeExprId) -> NodeId
+    ensures { λ r. ⌜ ((script types lists : List ℕ) →
+        let before = code (now (nodes .entry)) types lists (parserOf (now (p .entry))) in
+        let after = code (now (nodes .exit)) types lists (parserOf (now (p .exit))) in
+        Refines script 1 0 (pushNode (λ id. N.Cast id (lowToken src) lhs rhs)) (λ i. i ≡ r)
+        stackUnchanged 0 0 0 before after) ⌝ }
 {
     push_token_node(nodes, p, NodeKind::CAST, src, lhs.0, rhs.0)
 }
 
+// An expr = expr "as" type
 pub fn cast(
     script: &[u8],
     nodes: &mut [u32],
     types: &mut [u32],
     lists: &mut [u32],
-    p: &mut [u32; 17],
+    p: &mut State,
     lhs: NodeId,
     levels: usize,
 ) -> NodeId
     requires { ⌜ 1 < parserOf (now p) .cur .kind ⌝ }
-    ensures { λ r. ⌜ ReadsStep (now (script .entry)) (cast (deeper (now (script .entry)) levels) lhs) (code (now (nodes .entry)) (now (types .entry)) (now (lists .entry)) (parserOf (now (p .entry)))) (code (now (nodes .exit)) (now (types .exit)) (now (lists .exit)) (parserOf (now (p .exit)))) r ⌝ }
+    ensures { λ r.
+        let before = code (now (nodes .entry)) (now (types .entry)) (now (lists .entry))
+        (parserOf (now (p .entry))) in
+        let after = code (now (nodes .exit)) (now (types .exit)) (now (lists .exit))
+        (parserOf (now (p .exit))) in
+        ⌜ ReadsStep (now (script .entry)) (cast (deeper (now (script .entry)) levels) lhs)
+        before after r ⌝ }
 {
     let src = current(p);
     advance(script, p);
@@ -277,15 +298,32 @@ pub struct CasesRead {
     pub members: u32,
 }
 
-pub fn push_case(lists: &mut [u32], p: &mut [u32; 17], t: Token, n: NodeId, body: Run)
-    ensures { λ r. ⌜ ((script nodes types : List ℕ) → Pushes script 12 (tokenCells (lowToken t) ++ (n .0 ∷ runCells body)) (code nodes types (now (lists .entry)) (parserOf (now (p .entry)))) (code nodes types (now (lists .exit)) (parserOf (now (p .exit))))) ⌝ }
+// The cells of a case.
+pub fn push_case(lists: &mut [u32], p: &mut State, t: Token, n: NodeId, body: Run)
+    ensures { λ r. ⌜ ((script nodes types : List ℕ) →
+        let before = code nodes types (now (lists .entry)) (parserOf (now (p .entry))) in
+        let after = code nodes types (now (lists .exit)) (parserOf (now (p .exit))) in
+        Pushes script 12 (tokenCells (lowToken t) ++ (n .0 ∷ runCells body)) before after) ⌝ }
 {
-    let cells = [body.len, body.start, n.0, low(t.len), low(t.start), t.kind];
+    let cells = [
+        body.len,
+        body.start,
+        n.0,
+        low_24_bits(t.len),
+        low_24_bits(t.start),
+        t.kind,
+    ];
     push_cells(lists, p, &cells);
 }
 
-pub fn match_node(nodes: &mut [u32], p: &mut [u32; 17], t: Token, cases: Run, d: Default) -> NodeId
-    ensures { λ r. ⌜ ((script types lists : List ℕ) → Refines script 1 0 (matchNode (lowToken t) (defaultOf d) cases) (λ n. n ≡ r) kept 0 0 0 (code (now (nodes .entry)) types lists (parserOf (now (p .entry)))) (code (now (nodes .exit)) types lists (parserOf (now (p .exit))))) ⌝ }
+// The node of a match, `t` being the token after `match`; the reading fails where it has no
+// default.
+pub fn match_node(nodes: &mut [u32], p: &mut State, t: Token, cases: Run, d: Default) -> NodeId
+    ensures { λ r. ⌜ ((script types lists : List ℕ) →
+        let before = code (now (nodes .entry)) types lists (parserOf (now (p .entry))) in
+        let after = code (now (nodes .exit)) types lists (parserOf (now (p .exit))) in
+        Refines script 1 0 (matchNode (lowToken t) (defaultOf d) cases) (λ n. n ≡ r)
+        stackUnchanged 0 0 0 before after) ⌝ }
 {
     if d.has == 0 {
         fail_at(p, 18, t);

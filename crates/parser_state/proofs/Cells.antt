@@ -17,11 +17,11 @@ use Rattle.rules.specs.declared.TypeExpr.{TypeExpr}
 use Rattle.rules.specs.declared.TypeExpr.the-variants as TE
 use Rattle.rules.specs.Layout.{zeros, nodeCells, typeCells}
 use Rattle.parser_state.specs.Represents.{code, withUsed, isGoing, docCells, ListsLaid}
-use Rattle.parser_state.specs.Refines.{kept, Refines, Pushes, Lists, hasRoom}
+use Rattle.parser_state.specs.Refines.{stackUnchanged, Refines, Pushes, Lists, hasRoom}
 use Rattle.parser_state.specs.declared.Parser.{Parser}
 use Rattle.parser_state.specs.declared.Used.{Used}
-use Rattle.parser_state.proofs.Leaves.{idle, full, lent}
-use Rattle.parser_state.proofs.Steps.{either, true≢false, left-some}
+use Rattle.parser_state.proofs.Leaves.{idle, full, through-used}
+use Rattle.parser_state.proofs.Steps.{either, true≢false, and-both, left-some}
 
 -- ---- lists
 
@@ -122,7 +122,7 @@ abbrev pub typeMade : Used → Used
 typeMade u = record { nodes = u .nodes; values = u .values; types = u .types + 1; docs = u .docs; cells = u .cells; scratch = u .scratch }
 
 type-made : (script nodes types types′ lists cells : List ℕ) (p : Parser) (t : TypeExpr) → isGoing (p .status) ≡ true → cells ≡ typeCells t → types′ ≡ paste types (8 * p .used .types) cells (length cells)
-    → Refines script 1 0 (pushType t) (λ i. i ≡ record { 0 = p .used .types }) kept 0 0 0 (code nodes types lists p) (code nodes types′ lists (withUsed p (typeMade (p .used))))
+    → Refines script 1 0 (pushType t) (λ i. i ≡ record { 0 = p .used .types }) stackUnchanged 0 0 0 (code nodes types lists p) (code nodes types′ lists (withUsed p (typeMade (p .used))))
 unfolding pushType withArena
 type-made script nodes types types′ lists cells p t g w e = record {
   sticky = λ f. absurd (true≢false g f);
@@ -162,9 +162,9 @@ type-made script nodes types types′ lists cells p t g w e = record {
 }
 
 pub making : (script nodes types types′ lists cells : List ℕ) {p q : Parser} {u : Used} (t : TypeExpr) → isGoing (p .status) ≡ true → cells ≡ typeCells t → u ≡ p .used → q ≡ withUsed p (typeMade u) → types′ ≡ paste types (8 * u .types) cells (length cells)
-    → Refines script 1 0 (pushType t) (λ i. i ≡ record { 0 = u .types }) kept 0 0 0 (code nodes types lists p) (code nodes types′ lists q)
-making script nodes types types′ lists cells {p} t g w e f = lent p typeMade
-    (λ (u : Used) (q : Parser). types′ ≡ paste types (8 * u .types) cells (length cells) → Refines script 1 0 (pushType t) (λ i. i ≡ record { 0 = u .types }) kept 0 0 0 (code nodes types lists p) (code nodes types′ lists q))
+    → Refines script 1 0 (pushType t) (λ i. i ≡ record { 0 = u .types }) stackUnchanged 0 0 0 (code nodes types lists p) (code nodes types′ lists q)
+making script nodes types types′ lists cells {p} t g w e f = through-used p typeMade
+    (λ (u : Used) (q : Parser). types′ ≡ paste types (8 * u .types) cells (length cells) → Refines script 1 0 (pushType t) (λ i. i ≡ record { 0 = u .types }) stackUnchanged 0 0 0 (code nodes types lists p) (code nodes types′ lists q))
     e f (type-made script nodes types types′ lists cells p t g w)
 
 -- ---- nodes
@@ -195,7 +195,7 @@ abbrev pub nodeMade : Used → ℕ → Used
 nodeMade u more = record { nodes = u .nodes + 1; values = u .values + (1 + more); types = u .types; docs = u .docs; cells = u .cells; scratch = u .scratch }
 
 node-made : (script nodes nodes′ types lists cells : List ℕ) (p : Parser) (f : ℕ → Node) (more rooms k₀ : ℕ) → 1 + more ≤ 40000 * rooms → isGoing (p .status) ≡ true → cells ++ zeros k₀ ≡ nodeCells (f (p .used .values)) → nodes′ ≡ paste nodes (16 * p .used .nodes) cells (length cells)
-    → Refines script rooms 0 (pushNodeAnd more f) (λ i. i ≡ record { 0 = p .used .nodes }) kept 0 0 0 (code nodes types lists p) (code nodes′ types lists (withUsed p (nodeMade (p .used) more)))
+    → Refines script rooms 0 (pushNodeAnd more f) (λ i. i ≡ record { 0 = p .used .nodes }) stackUnchanged 0 0 0 (code nodes types lists p) (code nodes′ types lists (withUsed p (nodeMade (p .used) more)))
 unfolding pushNodeAnd withArena
 node-made script nodes nodes′ types lists cells p f more rooms k₀ few g w e = record {
   sticky = λ f. absurd (true≢false g f);
@@ -238,16 +238,12 @@ node-made script nodes nodes′ types lists cells p f more rooms k₀ few g w e 
 -- the first cells of the record are written, and `k` zeros behind them are there
 pub node-making : (script nodes nodes′ types lists cells : List ℕ) {p q : Parser} {u : Used} (f : ℕ → Node) (more rooms k : ℕ) → 1 + more ≤ 40000 * rooms → isGoing (p .status) ≡ true → cells ++ zeros k ≡ nodeCells (f (p .used .values)) → u ≡ p .used
     → q ≡ withUsed p (nodeMade u more) → nodes′ ≡ paste nodes (16 * u .nodes) cells (length cells)
-    → Refines script rooms 0 (pushNodeAnd more f) (λ i. i ≡ record { 0 = u .nodes }) kept 0 0 0 (code nodes types lists p) (code nodes′ types lists q)
-node-making script nodes nodes′ types lists cells {p} f more rooms k few g w e h = lent p (λ (u : Used). nodeMade u more)
-    (λ (u : Used) (q : Parser). nodes′ ≡ paste nodes (16 * u .nodes) cells (length cells) → Refines script rooms 0 (pushNodeAnd more f) (λ i. i ≡ record { 0 = u .nodes }) kept 0 0 0 (code nodes types lists p) (code nodes′ types lists q))
+    → Refines script rooms 0 (pushNodeAnd more f) (λ i. i ≡ record { 0 = u .nodes }) stackUnchanged 0 0 0 (code nodes types lists p) (code nodes′ types lists q)
+node-making script nodes nodes′ types lists cells {p} f more rooms k few g w e h = through-used p (λ (u : Used). nodeMade u more)
+    (λ (u : Used) (q : Parser). nodes′ ≡ paste nodes (16 * u .nodes) cells (length cells) → Refines script rooms 0 (pushNodeAnd more f) (λ i. i ≡ record { 0 = u .nodes }) stackUnchanged 0 0 0 (code nodes types lists p) (code nodes′ types lists q))
     e h (node-made script nodes nodes′ types lists cells p f more rooms k few g w)
 
 -- ---- room for a node
-
-and-both : (a b : Bool) → (a && b) ≡ true → (a ≡ true) × (b ≡ true)
-and-both true b e = (refl, e)
-and-both false b e = absurd (true≢false e refl)
 
 pub record Room (len : ℕ) (p : Parser) : Type 0 where
   pub going : isGoing (p .status) ≡ true
@@ -265,7 +261,7 @@ room len p e =
 
 -- where the arrays hold a state there is room, unless the reading has failed
 pub no-room : (script nodes types lists : List ℕ) (p : Parser) (f : ℕ → Node) (more rooms : ℕ) {Q : NodeId → Type 0} → 1 + more ≤ 40000 * rooms → hasRoom (length nodes) p ≡ false
-    → Refines script rooms 0 (pushNodeAnd more f) Q kept 0 0 0 (code nodes types lists p) (code nodes types lists p)
+    → Refines script rooms 0 (pushNodeAnd more f) Q stackUnchanged 0 0 0 (code nodes types lists p) (code nodes types lists p)
 unfolding hasRoom
 no-room script nodes types lists p f more rooms few e = either (isGoing (p .status))
     (λ g. full (λ R L stack m h.
@@ -328,7 +324,7 @@ cells-pushed script nodes types lists lists′ vs p g e = record {
 
 pub pushing : (script nodes types lists lists′ vs : List ℕ) {p q : Parser} {u : Used} → isGoing (p .status) ≡ true → u ≡ p .used → q ≡ withUsed p (pushed u (length vs)) → lists′ ≡ paste lists (length lists - (u .scratch + length vs)) vs (length vs)
     → Pushes script (2 * length vs) (reverse vs) (code nodes types lists p) (code nodes types lists′ q)
-pushing script nodes types lists lists′ vs {p} g e f = lent p (λ (u : Used). pushed u (length vs))
+pushing script nodes types lists lists′ vs {p} g e f = through-used p (λ (u : Used). pushed u (length vs))
     (λ (u : Used) (q : Parser). lists′ ≡ paste lists (length lists - (u .scratch + length vs)) vs (length vs) → Pushes script (2 * length vs) (reverse vs) (code nodes types lists p) (code nodes types lists′ q))
     e f (cells-pushed script nodes types lists lists′ vs p g)
 
@@ -391,7 +387,7 @@ MovesList lists lists′ cells n scratch = (top base : List ℕ) (z : ℕ) → d
 
 pub allocating : (script nodes types lists lists′ : List ℕ) {p q : Parser} {u : Used} (mark members : ℕ) → isGoing (p .status) ≡ true → u ≡ p .used → q ≡ withUsed p (finished u mark) → MovesList lists lists′ (u .cells) (u .scratch - mark) (u .scratch)
     → Lists script allocSlice (record { start = u .cells; len = members }) 0 0 0 mark members (code nodes types lists p) (code nodes types lists′ q)
-allocating script nodes types lists lists′ {p} mark members g e f = lent p (λ (u : Used). finished u mark)
+allocating script nodes types lists lists′ {p} mark members g e f = through-used p (λ (u : Used). finished u mark)
     (λ (u : Used) (q : Parser). MovesList lists lists′ (u .cells) (u .scratch - mark) (u .scratch) → Lists script allocSlice (record { start = u .cells; len = members }) 0 0 0 mark members (code nodes types lists p) (code nodes types lists′ q))
     e f (list-made script nodes types lists lists′ p mark members g)
 

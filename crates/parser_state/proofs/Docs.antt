@@ -14,11 +14,11 @@ use Rattle.rules.specs.Combinators.{Rule, _>>_, current, pure, ifKind, atToken,
 use Rattle.rules.specs.Rules.{lastOf, requireNoDocs}
 use Rattle.rules.specs.Layout.{zeros, typeCells}
 use Rattle.parser_state.specs.Represents.{Code, code, withUsed, isGoing, lowToken, docCells, AllLow, Represents}
-use Rattle.parser_state.specs.Refines.{Ends, kept, Refines, noDocsWait, failed, tokenAt}
+use Rattle.parser_state.specs.Refines.{Ends, stackUnchanged, Refines, noDocsWait, failed, docAt}
 use Rattle.parser_state.specs.declared.Parser.{Parser}
 use Rattle.parser_state.specs.declared.Used.{Used}
 use Rattle.parser_state.proofs.Steps.{as-rule, either, true≢false, left-some, current-represents, represents-less}
-use Rattle.parser_state.proofs.Leaves.{lent, failing-at}
+use Rattle.parser_state.proofs.Leaves.{through-used, failing-at}
 use Rattle.parser_state.proofs.Cells.{zeros-length, laid-last, flatten-snoc, map-snoc, types-length}
 use Rattle.parser_state.proofs.Rounds.{ifKind-is-yes, ifKind-is-no}
 
@@ -56,7 +56,7 @@ low-low t =
 doc-kept : (script nodes types types′ lists : List ℕ) (p : Parser) (t : Token) (n : ℕ) (vs : List ℕ) → isGoing (p .status) ≡ true
     → vs ≡ lowToken t .len ∷ lowToken t .start ∷ lowToken t .kind ∷ []
     → types′ ≡ paste types (length types - (3 * p .used .docs + 3)) vs (length vs)
-    → Refines script 1 3 (keepDoc n (lowToken t)) (λ c. c ≡ continue n) kept 0 0 0 (code nodes types lists p) (code nodes types′ lists (withUsed p (docKept (p .used))))
+    → Refines script 1 3 (keepDoc n (lowToken t)) (λ c. c ≡ continue n) stackUnchanged 0 0 0 (code nodes types lists p) (code nodes types′ lists (withUsed p (docKept (p .used))))
 unfolding withDocs
 doc-kept script nodes types types′ lists p t n ws g ew e = record {
   sticky = λ f. absurd (true≢false g f);
@@ -103,9 +103,9 @@ doc-kept script nodes types types′ lists p t n ws g ew e = record {
 
 pub keeping : (script nodes types types′ lists : List ℕ) {p q : Parser} {u : Used} (t : Token) (n : ℕ) (vs : List ℕ) → isGoing (p .status) ≡ true → vs ≡ lowToken t .len ∷ lowToken t .start ∷ lowToken t .kind ∷ [] → u ≡ p .used
     → q ≡ withUsed p (docKept u) → types′ ≡ paste types (length types - (3 * u .docs + 3)) vs (length vs)
-    → Refines script 1 3 (keepDoc n (lowToken t)) (λ c. c ≡ continue n) kept 0 0 0 (code nodes types lists p) (code nodes types′ lists q)
-keeping script nodes types types′ lists {p} t n vs g w e f = lent p docKept
-    (λ (u : Used) (q : Parser). types′ ≡ paste types (length types - (3 * u .docs + 3)) vs (length vs) → Refines script 1 3 (keepDoc n (lowToken t)) (λ c. c ≡ continue n) kept 0 0 0 (code nodes types lists p) (code nodes types′ lists q))
+    → Refines script 1 3 (keepDoc n (lowToken t)) (λ c. c ≡ continue n) stackUnchanged 0 0 0 (code nodes types lists p) (code nodes types′ lists q)
+keeping script nodes types types′ lists {p} t n vs g w e f = through-used p docKept
+    (λ (u : Used) (q : Parser). types′ ≡ paste types (length types - (3 * u .docs + 3)) vs (length vs) → Refines script 1 3 (keepDoc n (lowToken t)) (λ c. c ≡ continue n) stackUnchanged 0 0 0 (code nodes types lists p) (code nodes types′ lists q))
     e f (doc-kept script nodes types types′ lists p t n vs g w)
 
 -- ---- the move of all
@@ -170,7 +170,7 @@ docsTaken u = record { nodes = u .nodes; values = u .values; types = u .types; d
 docs-taken : (script nodes types types′ lists lists′ : List ℕ) (p : Parser) → isGoing (p .status) ≡ true
     → ((top front cells back : List ℕ) (z : ℕ) → types ≡ front ++ reverse top → length top ≡ 3 * p .used .docs → lists ≡ cells ++ (zeros z ++ back) → length cells ≡ p .used .cells → 3 * p .used .docs ≤ z
     → (types′ ≡ front ++ zeros (3 * p .used .docs)) × (lists′ ≡ (cells ++ top) ++ (zeros (z - 3 * p .used .docs) ++ back)))
-    → Refines script 0 0 takeDocs (λ t. t ≡ record { start = p .used .cells; len = p .used .docs }) kept 0 0 0 (code nodes types lists p) (code nodes types′ lists′ (withUsed p (docsTaken (p .used))))
+    → Refines script 0 0 takeDocs (λ t. t ≡ record { start = p .used .cells; len = p .used .docs }) stackUnchanged 0 0 0 (code nodes types lists p) (code nodes types′ lists′ (withUsed p (docsTaken (p .used))))
 unfolding takeDocs withDocs allocSlice withArena flatten
 docs-taken script nodes types types′ lists lists′ p g f = record {
   sticky = λ z. absurd (true≢false g z);
@@ -229,9 +229,9 @@ MovesDocs types types′ lists lists′ at n = (top front cells back : List ℕ)
     → (types′ ≡ front ++ zeros n) × (lists′ ≡ (cells ++ top) ++ (zeros (z - n) ++ back))
 
 pub attaching : (script nodes types types′ lists lists′ : List ℕ) {p q : Parser} {u : Used} → isGoing (p .status) ≡ true → u ≡ p .used → q ≡ withUsed p (docsTaken u) → MovesDocs types types′ lists lists′ (u .cells) (3 * u .docs)
-    → Refines script 0 0 takeDocs (λ t. t ≡ record { start = u .cells; len = u .docs }) kept 0 0 0 (code nodes types lists p) (code nodes types′ lists′ q)
-attaching script nodes types types′ lists lists′ {p} g e f = lent p docsTaken
-    (λ (u : Used) (q : Parser). MovesDocs types types′ lists lists′ (u .cells) (3 * u .docs) → Refines script 0 0 takeDocs (λ t. t ≡ record { start = u .cells; len = u .docs }) kept 0 0 0 (code nodes types lists p) (code nodes types′ lists′ q))
+    → Refines script 0 0 takeDocs (λ t. t ≡ record { start = u .cells; len = u .docs }) stackUnchanged 0 0 0 (code nodes types lists p) (code nodes types′ lists′ q)
+attaching script nodes types types′ lists lists′ {p} g e f = through-used p docsTaken
+    (λ (u : Used) (q : Parser). MovesDocs types types′ lists lists′ (u .cells) (3 * u .docs) → Refines script 0 0 takeDocs (λ t. t ≡ record { start = u .cells; len = u .docs }) stackUnchanged 0 0 0 (code nodes types lists p) (code nodes types′ lists′ q))
     e f (docs-taken script nodes types types′ lists lists′ p g)
 
 -- ---- docs that nothing takes
@@ -246,7 +246,7 @@ three xs ys a b c n e =
       ap (λ (l : List ℕ). getD l (n + 2) 0) two ∙ getD-at (xs ++ (a ∷ (b ∷ []))) c ys 0 (n + 2) (omega (arith, length-append xs (a ∷ (b ∷ [])))),
     )
 
-token-there : (types xs ys : List ℕ) (d : Token) (n : ℕ) → types ≡ xs ++ ((d .len ∷ d .start ∷ d .kind ∷ []) ++ ys) → length xs ≡ n → tokenAt types n ≡ d
+token-there : (types xs ys : List ℕ) (d : Token) (n : ℕ) → types ≡ xs ++ ((d .len ∷ d .start ∷ d .kind ∷ []) ++ ys) → length xs ≡ n → docAt types n ≡ d
 token-there types xs ys d n e k =
     let t = three xs ys (d .len) (d .start) (d .kind) n k in
     (λ i. record { kind = (ap (λ (l : List ℕ). getD l (n + 2) 0) e ∙ t .2) i; start = (ap (λ (l : List ℕ). getD l (n + 1) 0) e ∙ t .1) i; len = (ap (λ (l : List ℕ). getD l n 0) e ∙ t .0) i })
@@ -256,14 +256,14 @@ split-last d [] = ([], refl)
 split-last d (e ∷ es) = let r = split-last e es in (d ∷ r .0, ap (λ (l : List Token). d ∷ l) (r .1))
 
 module _ (types front : List ℕ) (d : Token) (ds : List Token) (laid : types ≡ front ++ reverse (docCells (d ∷ ds))) where
-  first-doc : tokenAt types (length types - 3) ≡ d
+  first-doc : docAt types (length types - 3) ≡ d
   unfolding flatten
   first-doc =
       let e : types ≡ (front ++ reverse (docCells ds)) ++ ((d .len ∷ d .start ∷ d .kind ∷ []) ++ []) =
       laid ∙ ap (λ (l : List ℕ). front ++ l) (reverse-append (tokenCells d) (docCells ds) ∙ ap (λ (l : List ℕ). reverse (docCells ds) ++ l) (reverse-token d)) ∙ sym (append-assoc front (reverse (docCells ds)) _) in
       token-there types (front ++ reverse (docCells ds)) [] d _ e (omega (arith, ap length e ∙ length-append (front ++ reverse (docCells ds)) (d .len ∷ d .start ∷ d .kind ∷ [])))
 
-  last-doc : tokenAt types (length types - 3 * length (d ∷ ds)) ≡ lastOf d ds
+  last-doc : docAt types (length types - 3 * length (d ∷ ds)) ≡ lastOf d ds
   last-doc =
       let r = split-last d ds in
       let e : types ≡ front ++ ((lastOf d ds .len ∷ lastOf d ds .start ∷ lastOf d ds .kind ∷ []) ++ reverse (docCells (r .0))) =
@@ -279,7 +279,7 @@ last-low d (e ∷ es) h = last-low e es (h .1)
 byDocs : State → List Token → Result ℕ
 byDocs m ds = elim ds [ [] ↦ ok 0 m | d ∷ ds ↦ ifKind kEof (λ t. err (atToken 13 0 (lastOf d ds)) t) (λ t. err (atToken 14 0 d) t) m ]
 
-pub docs-none : (script nodes types lists : List ℕ) (p : Parser) → p .used .docs ≡ 0 → Refines script 0 0 noDocsWait (λ n. n ≡ 0) kept 0 0 0 (code nodes types lists p) (code nodes types lists p)
+pub docs-none : (script nodes types lists : List ℕ) (p : Parser) → p .used .docs ≡ 0 → Refines script 0 0 noDocsWait (λ n. n ≡ 0) stackUnchanged 0 0 0 (code nodes types lists p) (code nodes types lists p)
 unfolding noDocsWait requireNoDocs pure byDocs
 docs-none script nodes types lists p e = record {
   sticky = λ _. refl;
@@ -289,13 +289,13 @@ docs-none script nodes types lists p e = record {
 }
   where
     go : (R L : ℕ) (stack : List ℕ) (m : State) → Represents script (code nodes types lists p) (R + 0) (L + 0) stack m → (ds : List Token) → p .used .docs ≡ length ds
-        → Ends {A = ℕ} script (λ n. n ≡ 0) kept (code nodes types lists p) R L 0 0 stack (byDocs m ds)
+        → Ends {A = ℕ} script (λ n. n ≡ 0) stackUnchanged (code nodes types lists p) R L 0 0 stack (byDocs m ds)
     go R L stack m h [] n = (refl, h)
     go R L stack m h (d ∷ ds) n = absurd (omega arith)
 
 docs-bad : (script nodes types lists : List ℕ) (p : Parser) (number at : ℕ) → isGoing (p .status) ≡ true → (p .used .docs ≡ 0 → ⊥)
     → (eqb (p .cur .kind) kEof ≡ true → (number ≡ 13) × (at ≡ length types - 3 * p .used .docs)) → (eqb (p .cur .kind) kEof ≡ false → (number ≡ 14) × (at ≡ length types - 3))
-    → Refines script 0 0 noDocsWait (λ n. n ≡ 0) kept 0 0 0 (code nodes types lists p) (code nodes types lists (failed p (atToken number 0 (lowToken (tokenAt types at)))))
+    → Refines script 0 0 noDocsWait (λ n. n ≡ 0) stackUnchanged 0 0 0 (code nodes types lists p) (code nodes types lists (failed p (atToken number 0 (lowToken (docAt types at)))))
 unfolding noDocsWait requireNoDocs pure byDocs
 docs-bad script nodes types lists p number at g waits atEof elsewhere = record {
   sticky = λ f. absurd (true≢false g f);
@@ -305,28 +305,28 @@ docs-bad script nodes types lists p number at g waits atEof elsewhere = record {
 }
   where
     after : Parser
-    after = failed p (atToken number 0 (lowToken (tokenAt types at)))
+    after = failed p (atToken number 0 (lowToken (docAt types at)))
 
     go : (R L : ℕ) (stack : List ℕ) (m : State) → Represents script (code nodes types lists p) (R + 0) (L + 0) stack m → (ds : List Token) → p .used .docs ≡ length ds → AllLow ds
         → types ≡ (flatten (map typeCells (m .arena .types)) ++ zeros (length types - (8 * p .used .types + 3 * p .used .docs))) ++ reverse (docCells ds)
-        → Ends {A = ℕ} script (λ n. n ≡ 0) kept (code nodes types lists (failed p (atToken number 0 (lowToken (tokenAt types at))))) R L 0 0 stack (byDocs m ds)
-    go R L stack m h [] n low e = absurd (waits n)
-    go R L stack m h (d ∷ ds) n low e =
+        → Ends {A = ℕ} script (λ n. n ≡ 0) stackUnchanged (code nodes types lists (failed p (atToken number 0 (lowToken (docAt types at))))) R L 0 0 stack (byDocs m ds)
+    go R L stack m h [] n allLow e = absurd (waits n)
+    go R L stack m h (d ∷ ds) n allLow e =
         let front : List ℕ = flatten (map typeCells (m .arena .types)) ++ zeros (length types - (8 * p .used .types + 3 * p .used .docs)) in
         let h₀ : Represents script (code nodes types lists p) R L stack m = represents-less _ _ (omega arith) (omega arith) h in
         either (eqb (p .cur .kind) kEof)
-        (λ f. subst (Ends {A = ℕ} script (λ n. n ≡ 0) kept (code nodes types lists (failed p (atToken number 0 (lowToken (tokenAt types at))))) R L 0 0 stack) (sym (ifKind-is-yes kEof (λ t. err (atToken 13 0 (lastOf d ds)) t) (λ t. err (atToken 14 0 d) t) m (rw (current-represents (h .related)) f)))
-        (let w : tokenAt types at ≡ lastOf d ds = ap (tokenAt types) (atEof f .1 ∙ ap (λ (j : ℕ). length types - 3 * j) n) ∙ last-doc types front d ds e in
-        failing-at _ _ ((λ i. atToken (atEof f .0 i) 0 (lowToken (w i))) ∙ ap (atToken 13 0) (last-low d ds low)) h₀))
-        (λ f. subst (Ends {A = ℕ} script (λ n. n ≡ 0) kept (code nodes types lists (failed p (atToken number 0 (lowToken (tokenAt types at))))) R L 0 0 stack) (sym (ifKind-is-no kEof (λ t. err (atToken 13 0 (lastOf d ds)) t) (λ t. err (atToken 14 0 d) t) m (rw (current-represents (h .related)) f)))
-        (let w : tokenAt types at ≡ d = ap (tokenAt types) (elsewhere f .1) ∙ first-doc types front d ds e in
-        failing-at _ _ ((λ i. atToken (elsewhere f .0 i) 0 (lowToken (w i))) ∙ ap (atToken 14 0) (low .0)) h₀))
+        (λ f. subst (Ends {A = ℕ} script (λ n. n ≡ 0) stackUnchanged (code nodes types lists (failed p (atToken number 0 (lowToken (docAt types at))))) R L 0 0 stack) (sym (ifKind-is-yes kEof (λ t. err (atToken 13 0 (lastOf d ds)) t) (λ t. err (atToken 14 0 d) t) m (rw (current-represents (h .related)) f)))
+        (let w : docAt types at ≡ lastOf d ds = ap (docAt types) (atEof f .1 ∙ ap (λ (j : ℕ). length types - 3 * j) n) ∙ last-doc types front d ds e in
+        failing-at _ _ ((λ i. atToken (atEof f .0 i) 0 (lowToken (w i))) ∙ ap (atToken 13 0) (last-low d ds allLow)) h₀))
+        (λ f. subst (Ends {A = ℕ} script (λ n. n ≡ 0) stackUnchanged (code nodes types lists (failed p (atToken number 0 (lowToken (docAt types at))))) R L 0 0 stack) (sym (ifKind-is-no kEof (λ t. err (atToken 13 0 (lastOf d ds)) t) (λ t. err (atToken 14 0 d) t) m (rw (current-represents (h .related)) f)))
+        (let w : docAt types at ≡ d = ap (docAt types) (elsewhere f .1) ∙ first-doc types front d ds e in
+        failing-at _ _ ((λ i. atToken (elsewhere f .0 i) 0 (lowToken (w i))) ∙ ap (atToken 14 0) (allLow .0)) h₀))
 
-pub docs-fail : (script nodes types lists : List ℕ) (p r : Parser) (number at : ℕ) (d : Token) → d ≡ tokenAt types at → r ≡ failed p (atToken number 0 (lowToken d)) → isGoing (p .status) ≡ true → (p .used .docs ≡ 0 → ⊥)
+pub docs-fail : (script nodes types lists : List ℕ) (p r : Parser) (number at : ℕ) (d : Token) → d ≡ docAt types at → r ≡ failed p (atToken number 0 (lowToken d)) → isGoing (p .status) ≡ true → (p .used .docs ≡ 0 → ⊥)
     → (eqb (p .cur .kind) kEof ≡ true → (number ≡ 13) × (at ≡ length types - 3 * p .used .docs)) → (eqb (p .cur .kind) kEof ≡ false → (number ≡ 14) × (at ≡ length types - 3))
-    → Refines script 0 0 noDocsWait (λ n. n ≡ 0) kept 0 0 0 (code nodes types lists p) (code nodes types lists r)
+    → Refines script 0 0 noDocsWait (λ n. n ≡ 0) stackUnchanged 0 0 0 (code nodes types lists p) (code nodes types lists r)
 docs-fail script nodes types lists p r number at d e f g waits atEof elsewhere =
-    subst (λ (q : Parser). Refines script 0 0 noDocsWait (λ n. n ≡ 0) kept 0 0 0 (code nodes types lists p) (code nodes types lists q)) (sym (f ∙ ap (λ (t : Token). failed p (atToken number 0 (lowToken t))) e))
+    subst (λ (q : Parser). Refines script 0 0 noDocsWait (λ n. n ≡ 0) stackUnchanged 0 0 0 (code nodes types lists p) (code nodes types lists q)) (sym (f ∙ ap (λ (t : Token). failed p (atToken number 0 (lowToken t))) e))
     (docs-bad script nodes types lists p number at g waits atEof elsewhere)
 
 -- the rule goes on where no docs wait

@@ -19,7 +19,7 @@ use Rattle.lex.proofs.Passed.{stands-next}
 use Rattle.rules.specs.Tree.{State}
 use Rattle.rules.specs.Combinators.{Rule, rest, advance, atToken}
 use Rattle.parser_state.specs.Represents.{Failed, withNext, withUsed, lowToken, InRange, Code, code, going, isGoing, from, Related, Represents, FailedAt}
-use Rattle.parser_state.specs.Refines.{kept, Refines, Refuses, Takes, Lists, failAt, failed}
+use Rattle.parser_state.specs.Refines.{stackUnchanged, Refines, Refuses, Takes, Lists, failAt, failed}
 use Rattle.parser_state.specs.declared.Parser.{Parser}
 use Rattle.parser_state.specs.declared.Used.{Used}
 use Rattle.parser_state.proofs.Steps.{either, true≢false, represents-going, represents-less, current-represents, low-near}
@@ -65,8 +65,8 @@ lists-full f = record {
 -- ---- counts
 
 -- what holds of a parser's counts and of the parser with others also holds of what was read of them and of the parser that was written
-pub lent : (p : Parser) (f : Used → Used) (P : Used → Parser → Type 0) {u : Used} {q : Parser} → u ≡ p .used → q ≡ withUsed p (f u) → P (p .used) (withUsed p (f (p .used))) → P u q
-lent p f P {u} e w h = subst (λ (r : Parser). P u r) (sym w) (subst (λ (v : Used). P v (withUsed p (f v))) (sym e) h)
+pub through-used : (p : Parser) (f : Used → Used) (P : Used → Parser → Type 0) {u : Used} {q : Parser} → u ≡ p .used → q ≡ withUsed p (f u) → P (p .used) (withUsed p (f (p .used))) → P u q
+through-used p f P {u} e w h = subst (λ (r : Parser). P u r) (sym w) (subst (λ (v : Used). P v (withUsed p (f v))) (sym e) h)
 
 -- ---- tokens
 
@@ -187,13 +187,13 @@ module _ (script nodes types lists : List ℕ) (p q : Parser) (number wanted : �
 
 module _ {A : Type 0} {Q : A → Type 0} {d r′ l′ : ℕ} (script nodes types lists : List ℕ) (p q : Parser) (number : ℕ) (t : Token) where
   pub failing-before : (isGoing (p .status) ≡ true → q ≡ failed p (atToken number 0 (lowToken t))) → (isGoing (p .status) ≡ false → q ≡ p)
-      → Refines {A = A} script 0 0 (failAt number (lowToken t)) Q kept d r′ l′ (code nodes types lists p) (code nodes types lists q)
+      → Refines {A = A} script 0 0 (failAt number (lowToken t)) Q stackUnchanged d r′ l′ (code nodes types lists p) (code nodes types lists q)
   unfolding failAt
   failing-before f g = either (isGoing (p .status))
-      (λ e. subst (λ (r : Parser). Refines {A = A} script 0 0 (failAt number (lowToken t)) Q kept d r′ l′ (code nodes types lists p) (code nodes types lists r)) (sym (f e)) (record {
+      (λ e. subst (λ (r : Parser). Refines {A = A} script 0 0 (failAt number (lowToken t)) Q stackUnchanged d r′ l′ (code nodes types lists p) (code nodes types lists r)) (sym (f e)) (record {
         sticky = λ z. absurd (true≢false e z);
         monotone = omega arith;
         progress = λ z. absurd (true≢false z refl);
         simulates = λ R L stack m h. failing-at _ _ refl (represents-less _ _ (omega arith) (omega arith) h);
       }))
-      (λ e. subst (λ (r : Parser). Refines {A = A} script 0 0 (failAt number (lowToken t)) Q kept d r′ l′ (code nodes types lists p) (code nodes types lists r)) (sym (g e)) (idle e))
+      (λ e. subst (λ (r : Parser). Refines {A = A} script 0 0 (failAt number (lowToken t)) Q stackUnchanged d r′ l′ (code nodes types lists p) (code nodes types lists r)) (sym (g e)) (idle e))

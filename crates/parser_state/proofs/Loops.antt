@@ -13,7 +13,7 @@ use Rattle.rules.specs.Tree.{State, Result, ok, err}
 use Rattle.rules.specs.Combinators.{Rule, _>>=_, pure, current, ifKind, ControlFlow, continue, break, iterate, loop, members, listUntil}
 use Rattle.rules.specs.declared.Run.{Run}
 use Rattle.parser_state.specs.Represents.{Code, going, isGoing, ahead, Represents, FailedAt}
-use Rattle.parser_state.specs.Refines.{Ends, kept, grown, allGrown, Collected, Refines, ReadsMember, Lists, memberFollows, followsBy, closed}
+use Rattle.parser_state.specs.Refines.{Ends, stackUnchanged, grown, allGrown, Collected, Refines, ReadsMember, Lists, memberFollows, followsBy, closed}
 use Rattle.parser_state.specs.declared.Parser.{Parser}
 use Rattle.parser_state.proofs.Steps.{lists-after, either, true≢false, represents-going, represents-less, failed-fails, current-represents, left-some}
 use Rattle.parser_state.proofs.Cells.{flatten-snoc}
@@ -173,6 +173,6 @@ module _ {script : List ℕ} {stop : ℕ} {item : Rule (List ℕ)} {s₀ s : Cod
       go R L stack res (lost v) = subst (Ends script (Collected script n s) allGrown s R L 0 0 stack) (sym (v .comes)) (v .failedAt)
 
 module _ {script : List ℕ} {stop : ℕ} {item : Rule (List ℕ)} {run : Run} {s₀ s s′ : Code} {mark n : ℕ} where
-  pub midway-end : MembersInvariant script stop item s₀ s n → memberFollows (s .parser) stop ≡ false → mark ≡ s₀ .parser .used .scratch → Lists script (closed stop) run 1 1 8 mark n s s′ → Refines script 0 0 (listUntil stop item) (λ a. a ≡ run) kept 1 1 8 s₀ s′
+  pub midway-end : MembersInvariant script stop item s₀ s n → memberFollows (s .parser) stop ≡ false → mark ≡ s₀ .parser .used .scratch → Lists script (closed stop) run 1 1 8 mark n s s′ → Refines script 0 0 (listUntil stop item) (λ a. a ≡ run) stackUnchanged 1 1 8 s₀ s′
   unfolding listUntil closed
   midway-end i w k p = lists-after (closed stop) (members-end i w) p k

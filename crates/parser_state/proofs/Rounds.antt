@@ -12,9 +12,9 @@ use Rattle.lex.specs.Kind.{kDoc}
 use Rattle.rules.specs.Tree.{State, Result, ok, err}
 use Rattle.rules.specs.Combinators.{Rule, current, byKind, ifKind, ControlFlow, continue, break, iterate, loop, struck}
 use Rattle.parser_state.specs.Represents.{Code, going, isGoing, ahead, Represents, FailedAt}
-use Rattle.parser_state.specs.Refines.{Ends, kept, Refines, docFollows}
+use Rattle.parser_state.specs.Refines.{Ends, stackUnchanged, Refines, docFollows}
 use Rattle.parser_state.specs.declared.Parser.{Parser}
-use Rattle.parser_state.proofs.Steps.{represents-noted, either, true≢false, represents-going, represents-less, failed-fails, left-some}
+use Rattle.parser_state.proofs.Steps.{represents-noted, either, true≢false, and-both, represents-going, represents-less, failed-fails, left-some}
 
 -- after a turn
 unfoldable pub after : {A : Type 0} → (A → Rule (ControlFlow A)) → ℕ → Result (ControlFlow A) → Result A
@@ -157,31 +157,31 @@ module _ {A : Type 0} {script : List ℕ} {f : A → Rule (ControlFlow A)} {grow
     })
 
 -- a turn from what a step of the code meets
-pub again-of : {A : Type 0} {script : List ℕ} {v w : A} {r′ l′ : ℕ} {s s′ : Code} (f : A → Rule (ControlFlow A)) → Refines script 0 0 (f v) (λ t. t ≡ continue w) kept 1 r′ l′ s s′
-    → Again script f kept (λ a. a ≡ v) (λ b. b ≡ w) s s′
+pub again-of : {A : Type 0} {script : List ℕ} {v w : A} {r′ l′ : ℕ} {s s′ : Code} (f : A → Rule (ControlFlow A)) → Refines script 0 0 (f v) (λ t. t ≡ continue w) stackUnchanged 1 r′ l′ s s′
+    → Again script f stackUnchanged (λ a. a ≡ v) (λ b. b ≡ w) s s′
 again-of {A} {script} {v} {w} {r′} {l′} {s} {s′} f p = record {
   monotone = p .monotone;
   progress = p .progress;
   flowValue = λ R L stack a m e h.
-      subst (λ (x : A). Turned script f kept (λ b. b ≡ w) s′ R L stack (f x m)) (sym e) (go R L stack (f v m) (p .simulates R L stack m (represents-less _ _ (omega arith) (omega arith) h)));
+      subst (λ (x : A). Turned script f stackUnchanged (λ b. b ≡ w) s′ R L stack (f x m)) (sym e) (go R L stack (f v m) (p .simulates R L stack m (represents-less _ _ (omega arith) (omega arith) h)));
 }
   where
-    go : (R L : ℕ) (stack : List ℕ) (r : Result (ControlFlow A)) → Ends script (λ t. t ≡ continue w) kept s′ R L r′ l′ stack r → Turned script f kept (λ b. b ≡ w) s′ R L stack r
+    go : (R L : ℕ) (stack : List ℕ) (r : Result (ControlFlow A)) → Ends script (λ t. t ≡ continue w) stackUnchanged s′ R L r′ l′ stack r → Turned script f stackUnchanged (λ b. b ≡ w) s′ R L stack r
     go R L stack (ok (continue b) m) h = (let e : continue b ≡ continue w = h .0 in cc, represents-less _ _ (omega arith) (omega arith) (h .1))
     go R L stack (ok (break b) m) h = let e : break b ≡ continue w = h .0 in let z : _≡_ {A = ℕ} 0 1 = cc in omega arith
     go R L stack (err e m) h = h
 
 -- a last turn likewise
-pub last-of : {A : Type 0} {script : List ℕ} {v w : A} {d r′ l′ : ℕ} {s s′ : Code} (f : A → Rule (ControlFlow A)) → Refines script 0 0 (f v) (λ t. t ≡ break w) kept d r′ l′ s s′
-    → Last script f kept (λ a. a ≡ v) (λ b. b ≡ w) s s′
+pub last-of : {A : Type 0} {script : List ℕ} {v w : A} {d r′ l′ : ℕ} {s s′ : Code} (f : A → Rule (ControlFlow A)) → Refines script 0 0 (f v) (λ t. t ≡ break w) stackUnchanged d r′ l′ s s′
+    → Last script f stackUnchanged (λ a. a ≡ v) (λ b. b ≡ w) s s′
 last-of {A} {script} {v} {w} {d} {r′} {l′} {s} {s′} f p = record {
   sticky = p .sticky;
   monotone = p .monotone;
   flowValue = λ R L stack a m e h.
-      subst (λ (x : A). Stopped script f kept (λ b. b ≡ w) s′ R L stack (f x m)) (sym e) (go R L stack (f v m) (p .simulates R L stack m (represents-less _ _ (omega arith) (omega arith) h)));
+      subst (λ (x : A). Stopped script f stackUnchanged (λ b. b ≡ w) s′ R L stack (f x m)) (sym e) (go R L stack (f v m) (p .simulates R L stack m (represents-less _ _ (omega arith) (omega arith) h)));
 }
   where
-    go : (R L : ℕ) (stack : List ℕ) (r : Result (ControlFlow A)) → Ends script (λ t. t ≡ break w) kept s′ R L r′ l′ stack r → Stopped script f kept (λ b. b ≡ w) s′ R L stack r
+    go : (R L : ℕ) (stack : List ℕ) (r : Result (ControlFlow A)) → Ends script (λ t. t ≡ break w) stackUnchanged s′ R L r′ l′ stack r → Stopped script f stackUnchanged (λ b. b ≡ w) s′ R L stack r
     go R L stack (ok (break b) m) h = (let e : break b ≡ break w = h .0 in cc, represents-less _ _ (omega arith) (omega arith) (h .1))
     go R L stack (ok (continue b) m) h = let e : continue b ≡ break w = h .0 in let z : _≡_ {A = ℕ} 0 1 = cc in omega arith
     go R L stack (err e m) h = h
@@ -221,15 +221,11 @@ lighter {script = script} {s = s} {s′} g p = either (going s′) (λ g′. rw 
 module _ (p : Parser) where
   pub doc-going : docFollows p ≡ true → isGoing (p .status) ≡ true
   unfolding docFollows
-  doc-going e = go (isGoing (p .status)) e
-    where
-      go : (b : Bool) → (b && eqb (p .cur .kind) kDoc) ≡ true → b ≡ true
-      go true h = refl
-      go false h = h
+  doc-going e = and-both (isGoing (p .status)) (eqb (p .cur .kind) kDoc) e .0
 
   pub doc-kind : docFollows p ≡ true → p .cur .kind ≡ kDoc
   unfolding docFollows
-  doc-kind e = eqb-true _ _ (subst (λ (b : Bool). (b && eqb (p .cur .kind) kDoc) ≡ true) (doc-going e) e)
+  doc-kind e = eqb-true _ _ (and-both (isGoing (p .status)) (eqb (p .cur .kind) kDoc) e .1)
 
   pub no-doc : isGoing (p .status) ≡ true → docFollows p ≡ false → eqb (p .cur .kind) kDoc ≡ false
   unfolding docFollows

@@ -4,9 +4,9 @@ use mathlib.Core.Bool.{Bool, true, false, _&&_}
 use mathlib.Core.List.{List, [], _∷_, _++_, flatten, append-assoc, append-nil}
 use Prim.Native.Nat.{ℕ, _+_, _-_, _≤_}
 use native.Mathlib.Omega.{arith}
-use lib.Dec.{T, leb, eqb, leb→le}
+use lib.Dec.{T, leb, eqb}
 use lib.ListN.{length}
-use borrow.Author.Tests.{eq-eqb, ne-eqb, eqb-true, eqb-false}
+use borrow.Author.Tests.{eq-eqb, ne-eqb, eqb-true, eqb-false, leb-true}
 use Rattle.lex.specs.Kind.{kEof}
 use Rattle.lex.specs.Lex.{tokensFrom}
 use Rattle.lex.specs.declared.diagnostic.Diagnostic.{Diagnostic}
@@ -14,8 +14,8 @@ use Rattle.rules.specs.Tree.{Notes, State, Result, ok, err}
 use Rattle.rules.specs.Combinators.{Rule, _>>=_, _>>_, pure, current, cur, byKind, ifKind, failExpecting}
 use Rattle.lex.specs.declared.tok.Token.{Token}
 use Rattle.lex.specs.Answer.{maxBytes}
-use Rattle.parser_state.specs.Represents.{low, lowToken, InRange, Code, going, isGoing, from, ahead, Related, Represents, FailedAt}
-use Rattle.parser_state.specs.Refines.{Ends, kept, allGrown, Collected, Refines, Refuses, Pushes, Lists}
+use Rattle.parser_state.specs.Represents.{low24Bits, lowToken, InRange, Code, going, isGoing, from, ahead, Related, Represents, FailedAt}
+use Rattle.parser_state.specs.Refines.{Ends, stackUnchanged, allGrown, Collected, Refines, Refuses, Pushes, Lists}
 
 -- ---- room that is left over
 
@@ -61,10 +61,19 @@ either false f g = g refl
 pub true≢false : {b : Bool} → b ≡ true → b ≡ false → ⊥
 true≢false p q = let z : _≡_ {A = ℕ} 0 1 = cc in omega arith
 
+-- both parts of a true `&&` are true
+pub and-both : (a b : Bool) → (a && b) ≡ true → (a ≡ true) × (b ≡ true)
+and-both true b e = (refl, e)
+and-both false b e = absurd (true≢false e refl)
+
+T-true : (b : Bool) → T b → b ≡ true
+T-true true t = refl
+T-true false t = absurd t
+
 -- ---- one step and then another
 
 module _ {A B : Type 0} {script : List ℕ} {x : Rule A} {v : A} {Q : B → Type 0} {grow : B → List ℕ → List ℕ} {r l d r₁ l₁ r₂ l₂ d₂ r₃ l₃ : ℕ} {s s₁ s₂ : Code} (f : A → Rule B) where
-  pub seq : Refines script r l x (λ a. a ≡ v) kept d r₁ l₁ s s₁ → Refines script r₂ l₂ (f v) Q grow d₂ r₃ l₃ s₁ s₂
+  pub seq : Refines script r l x (λ a. a ≡ v) stackUnchanged d r₁ l₁ s s₁ → Refines script r₂ l₂ (f v) Q grow d₂ r₃ l₃ s₁ s₂
       → Refines script (r + (r₂ - r₁)) (l + (l₂ - l₁)) (x >>= f) Q grow (d + d₂) (r₃ + (r₁ - r₂)) (l₃ + (l₁ - l₂)) s s₂
   unfolding _>>=_
   seq p q = record {
@@ -80,7 +89,7 @@ module _ {A B : Type 0} {script : List ℕ} {x : Rule A} {v : A} {Q : B → Type
       last R L stack (ok b m) h = (h .0, represents-less _ _ (omega arith) (omega arith) (h .1))
       last R L stack (err e m) h = failed-less _ _ (omega arith) (omega arith) h
 
-      go : (R L : ℕ) (stack : List ℕ) (res : Result A) → Ends script (λ a. a ≡ v) kept s₁ (R + (r₂ - r₁)) (L + (l₂ - l₁)) r₁ l₁ stack res
+      go : (R L : ℕ) (stack : List ℕ) (res : Result A) → Ends script (λ a. a ≡ v) stackUnchanged s₁ (R + (r₂ - r₁)) (L + (l₂ - l₁)) r₁ l₁ stack res
           → Ends script Q grow s₂ R L (r₃ + (r₁ - r₂)) (l₃ + (l₁ - l₂)) stack (elim res [ ok a m ↦ f a m | err e m ↦ err e m ])
       go R L stack (ok a m) h = last R L stack (f a m)
           (subst (λ (w : A). Ends script Q grow s₂ (R + (r₁ - r₂)) (L + (l₁ - l₂)) r₃ l₃ stack (f w m)) (sym (h .0))
@@ -88,7 +97,7 @@ module _ {A B : Type 0} {script : List ℕ} {x : Rule A} {v : A} {Q : B → Type
       go R L stack (err e m) h = subst (λ (t : Code). FailedAt script t e R L stack m) (sym (q .sticky (failed-fails h))) (failed-less _ _ (omega arith) (omega arith) h)
 
 module _ {A B : Type 0} {script : List ℕ} {x : Rule A} {y : Rule B} {v : A} {Q : B → Type 0} {grow : B → List ℕ → List ℕ} {r l d r₁ l₁ r₂ l₂ d₂ r₃ l₃ : ℕ} {s s₁ s₂ : Code} where
-  pub then : Refines script r l x (λ a. a ≡ v) kept d r₁ l₁ s s₁ → Refines script r₂ l₂ y Q grow d₂ r₃ l₃ s₁ s₂
+  pub then : Refines script r l x (λ a. a ≡ v) stackUnchanged d r₁ l₁ s s₁ → Refines script r₂ l₂ y Q grow d₂ r₃ l₃ s₁ s₂
       → Refines script (r + (r₂ - r₁)) (l + (l₂ - l₁)) (x >> y) Q grow (d + d₂) (r₃ + (r₁ - r₂)) (l₃ + (l₁ - l₂)) s s₂
   unfolding _>>_ _>>=_
   then p q = seq (λ _. y) p q
@@ -96,13 +105,13 @@ module _ {A B : Type 0} {script : List ℕ} {x : Rule A} {y : Rule B} {v : A} {Q
 -- a token of the script has no more than 32 bits
 pub low-near : (script : List ℕ) (t : Token) → InRange script t → length script ≤ maxBytes → lowToken t ≡ t
 low-near script t h k =
-    let a : low (t .start) ≡ t .start = omega (arith, h .start) in
-    let b : low (t .len) ≡ t .len = omega (arith, h .len) in
+    let a : low24Bits (t .start) ≡ t .start = omega (arith, h .start) in
+    let b : low24Bits (t .len) ≡ t .len = omega (arith, h .len) in
     λ i. record { kind = t .kind; start = a i; len = b i }
 
--- a token is read that the code keeps: its low bits are all of it
+-- a token is read that the code keeps: its low 24 bits are all of it
 module _ {B : Type 0} {script : List ℕ} {x : Rule Token} {Q : B → Type 0} {grow : B → List ℕ → List ℕ} {r l d r₁ l₁ r₂ l₂ d₂ r₃ l₃ : ℕ} {s s₁ s₂ : Code} (f : Token → Rule B) where
-  pub read : {t : Token} → Refines script r l x (λ t. t ≡ s .parser .cur) kept d r₁ l₁ s s₁ → t ≡ s .parser .cur → Refines script r₂ l₂ (f (lowToken t)) Q grow d₂ r₃ l₃ s₁ s₂
+  pub read : {t : Token} → Refines script r l x (λ t. t ≡ s .parser .cur) stackUnchanged d r₁ l₁ s s₁ → t ≡ s .parser .cur → Refines script r₂ l₂ (f (lowToken t)) Q grow d₂ r₃ l₃ s₁ s₂
       → Refines script (r + (r₂ - r₁)) (l + (l₂ - l₁)) (x >>= f) Q grow (d + d₂) (r₃ + (r₁ - r₂)) (l₃ + (l₁ - l₂)) s s₂
   read p e q₀ =
       let q = subst (λ (t : Token). Refines script r₂ l₂ (f (lowToken t)) Q grow d₂ r₃ l₃ s₁ s₂) e q₀ in
@@ -119,21 +128,18 @@ module _ {B : Type 0} {script : List ℕ} {x : Rule Token} {Q : B → Type 0} {g
 abbrev pub suffices : ℕ → ℕ → ℕ → ℕ → ℕ → ℕ → ℕ → ℕ → ℕ → ℕ → Bool
 suffices r l d r′ l′ r₀ l₀ d₀ r₀′ l₀′ = leb r r₀ && (leb l l₀ && (leb d₀ d && (leb r₀′ r′ && leb l₀′ l′)))
 
-both : (a b : Bool) → T (a && b) → T a × T b
-both true b t = (tt, t)
-both false b t = absurd t
-
 module _ {A : Type 0} {script : List ℕ} {x : Rule A} {Q : A → Type 0} {grow : A → List ℕ → List ℕ} {r l d r′ l′ r₀ l₀ d₀ r₀′ l₀′ : ℕ} {s s′ : Code} where
   pub enough : Refines script r l x Q grow d r′ l′ s s′ → T (suffices r l d r′ l′ r₀ l₀ d₀ r₀′ l₀′) → Refines script r₀ l₀ x Q grow d₀ r₀′ l₀′ s s′
   enough p w₀ =
-      let w₁ : T (leb l l₀ && (leb d₀ d && (leb r₀′ r′ && leb l₀′ l′))) = both (leb r r₀) _ w₀ .1 in
-      let w₂ : T (leb d₀ d && (leb r₀′ r′ && leb l₀′ l′)) = both (leb l l₀) _ w₁ .1 in
-      let w₃ : T (leb r₀′ r′ && leb l₀′ l′) = both (leb d₀ d) _ w₂ .1 in
-      let a : r ≤ r₀ = leb→le _ _ (both (leb r r₀) _ w₀ .0) in
-      let b : l ≤ l₀ = leb→le _ _ (both (leb l l₀) _ w₁ .0) in
-      let c : d₀ ≤ d = leb→le _ _ (both (leb d₀ d) _ w₂ .0) in
-      let e : r₀′ ≤ r′ = leb→le _ _ (both (leb r₀′ r′) (leb l₀′ l′) w₃ .0) in
-      let f : l₀′ ≤ l′ = leb→le _ _ (both (leb r₀′ r′) (leb l₀′ l′) w₃ .1) in
+      let w₁ = and-both (leb r r₀) (leb l l₀ && (leb d₀ d && (leb r₀′ r′ && leb l₀′ l′))) (T-true _ w₀) in
+      let w₂ = and-both (leb l l₀) (leb d₀ d && (leb r₀′ r′ && leb l₀′ l′)) (w₁ .1) in
+      let w₃ = and-both (leb d₀ d) (leb r₀′ r′ && leb l₀′ l′) (w₂ .1) in
+      let w₄ = and-both (leb r₀′ r′) (leb l₀′ l′) (w₃ .1) in
+      let a : r ≤ r₀ = leb-true _ _ (w₁ .0) in
+      let b : l ≤ l₀ = leb-true _ _ (w₂ .0) in
+      let c : d₀ ≤ d = leb-true _ _ (w₃ .0) in
+      let e : r₀′ ≤ r′ = leb-true _ _ (w₄ .0) in
+      let f : l₀′ ≤ l′ = leb-true _ _ (w₄ .1) in
       record {
         sticky = p .sticky;
         monotone = p .monotone;
@@ -147,7 +153,7 @@ module _ {A : Type 0} {script : List ℕ} {x : Rule A} {Q : A → Type 0} {grow 
 
 -- ---- no step, and a step that fails
 
-pub done : {A : Type 0} {script : List ℕ} {v : A} {s : Code} → Refines script 0 0 (pure v) (λ a. a ≡ v) kept 0 0 0 s s
+pub done : {A : Type 0} {script : List ℕ} {v : A} {s : Code} → Refines script 0 0 (pure v) (λ a. a ≡ v) stackUnchanged 0 0 0 s s
 unfolding pure
 done = record { sticky = λ e. refl; monotone = omega arith; progress = λ e. omega arith; simulates = λ R L stack m h. (refl, h) }
 
@@ -211,7 +217,7 @@ pub push-as : {script : List ℕ} {l : ℕ} {vs ws : List ℕ} {s s′ : Code} �
 push-as {script} {l} {s = s} {s′} e p = subst (λ (cells : List ℕ). Pushes script l cells s s′) e p
 
 module _ {A B : Type 0} {script : List ℕ} {x : Rule A} {v : A} {run : B} {d r₁ l₁ d₂ r₂ l₂ mark n : ℕ} {s s₁ s₂ : Code} (y : List (List ℕ) → Rule B) where
-  pub lists-then : Refines script 0 0 x (λ a. a ≡ v) kept d r₁ l₁ s s₁ → Lists script y run d₂ r₂ l₂ mark n s₁ s₂ → Lists script (λ xs. x >> y xs) run (d + d₂) (r₁ + r₂) (l₁ + l₂) mark n s s₂
+  pub lists-then : Refines script 0 0 x (λ a. a ≡ v) stackUnchanged d r₁ l₁ s s₁ → Lists script y run d₂ r₂ l₂ mark n s₁ s₂ → Lists script (λ xs. x >> y xs) run (d + d₂) (r₁ + r₂) (l₁ + l₂) mark n s s₂
   unfolding _>>_
   lists-then p q = record {
     sticky = λ e. let e₁ : s₁ ≡ s = p .sticky e in q .sticky (ap going e₁ ∙ e) ∙ e₁;
@@ -222,12 +228,12 @@ module _ {A B : Type 0} {script : List ℕ} {x : Rule A} {v : A} {run : B} {d r�
     simulates = λ R L stack xs m a b few h. go R L stack xs a b m (ap length (h .related .left)) few (x m) (p .simulates R L (stack ++ flatten xs) m (represents-less _ _ (omega arith) (omega arith) h));
   }
     where
-      last : (R L : ℕ) (stack : List ℕ) (res : Result B) → Ends script (λ a. a ≡ run) kept s₂ (R + r₁) (L + l₁) r₂ l₂ stack res → Ends script (λ a. a ≡ run) kept s₂ R L (r₁ + r₂) (l₁ + l₂) stack res
+      last : (R L : ℕ) (stack : List ℕ) (res : Result B) → Ends script (λ a. a ≡ run) stackUnchanged s₂ (R + r₁) (L + l₁) r₂ l₂ stack res → Ends script (λ a. a ≡ run) stackUnchanged s₂ R L (r₁ + r₂) (l₁ + l₂) stack res
       last R L stack (ok b m) h = (h .0, represents-less _ _ (omega arith) (omega arith) (h .1))
       last R L stack (err e m) h = failed-less _ _ (omega arith) (omega arith) h
 
-      go : (R L : ℕ) (stack : List ℕ) (xs : List (List ℕ)) → length stack ≡ mark → length xs ≡ n → (m₀ : State) → length (m₀ .left) ≡ length (ahead script s) → length xs + length (m₀ .left) ≤ length script + 1 → (res : Result A) → Ends script (λ a. a ≡ v) kept s₁ R L r₁ l₁ (stack ++ flatten xs) res
-          → Ends script (λ a. a ≡ run) kept s₂ R L (r₁ + r₂) (l₁ + l₂) stack (elim res [ ok a m ↦ y xs m | err e m ↦ err e m ])
+      go : (R L : ℕ) (stack : List ℕ) (xs : List (List ℕ)) → length stack ≡ mark → length xs ≡ n → (m₀ : State) → length (m₀ .left) ≡ length (ahead script s) → length xs + length (m₀ .left) ≤ length script + 1 → (res : Result A) → Ends script (λ a. a ≡ v) stackUnchanged s₁ R L r₁ l₁ (stack ++ flatten xs) res
+          → Ends script (λ a. a ≡ run) stackUnchanged s₂ R L (r₁ + r₂) (l₁ + l₂) stack (elim res [ ok a m ↦ y xs m | err e m ↦ err e m ])
       go R L stack xs a b m₀ same few (ok w m) h = last R L stack (y xs m) (q .simulates (R + r₁) (L + l₁) stack xs m a b (omega (arith, p .monotone, ap length (h .1 .related .left))) (h .1))
       go R L stack xs a b m₀ same few (err e m) h =
           subst (λ (t : Code). FailedAt script t e R L stack m) (sym (q .sticky (failed-fails h)))
@@ -258,7 +264,7 @@ module _ {A B C : Type 0} {script : List ℕ} {Q : C → Type 0} {grow : C → L
   reassoc p = as-rule (bind-assoc x f g) p
 
 -- the token being read is looked at
-pub looks : {script : List ℕ} {s : Code} → Refines script 0 0 cur (λ t. t ≡ s .parser .cur) kept 0 0 0 s s
+pub looks : {script : List ℕ} {s : Code} → Refines script 0 0 cur (λ t. t ≡ s .parser .cur) stackUnchanged 0 0 0 s s
 unfolding cur
 looks = record { sticky = λ e. refl; monotone = omega arith; progress = λ e. omega arith; simulates = λ R L stack m h. (current-represents (h .related), h) }
 
@@ -272,7 +278,7 @@ module _ {A : Type 0} {script : List ℕ} {Q : A → Type 0} {grow : A → List 
 -- members, and then their list
 module _ {A : Type 0} {script : List ℕ} {x : Rule (List (List ℕ))} {run : A} {r l d r₁ l₁ d₂ r₂ l₂ mark n : ℕ} {s s₁ s₂ : Code} (y : List (List ℕ) → Rule A) where
   pub lists-after : Refines script r l x (Collected script n s₁) allGrown d r₁ l₁ s s₁ → Lists script y run d₂ r₂ l₂ mark n s₁ s₂ → mark ≡ s .parser .used .scratch
-      → Refines script r l (x >>= y) (λ a. a ≡ run) kept (d + d₂) (r₁ + r₂) (l₁ + l₂) s s₂
+      → Refines script r l (x >>= y) (λ a. a ≡ run) stackUnchanged (d + d₂) (r₁ + r₂) (l₁ + l₂) s s₂
   unfolding _>>=_
   lists-after p q k = record {
     sticky = λ e. let e₁ : s₁ ≡ s = p .sticky e in q .sticky (ap going e₁ ∙ e) ∙ e₁;
@@ -283,18 +289,18 @@ module _ {A : Type 0} {script : List ℕ} {x : Rule (List (List ℕ))} {run : A}
     simulates = λ R L stack m h. go R L stack (sym (k ∙ h .related .lists .stacked)) (x m) (p .simulates R L stack m h);
   }
     where
-      last : (R L : ℕ) (stack : List ℕ) (res : Result A) → Ends script (λ a. a ≡ run) kept s₂ (R + r₁) (L + l₁) r₂ l₂ stack res → Ends script (λ a. a ≡ run) kept s₂ R L (r₁ + r₂) (l₁ + l₂) stack res
+      last : (R L : ℕ) (stack : List ℕ) (res : Result A) → Ends script (λ a. a ≡ run) stackUnchanged s₂ (R + r₁) (L + l₁) r₂ l₂ stack res → Ends script (λ a. a ≡ run) stackUnchanged s₂ R L (r₁ + r₂) (l₁ + l₂) stack res
       last R L stack (ok b m) h = (h .0, represents-less _ _ (omega arith) (omega arith) (h .1))
       last R L stack (err e m) h = failed-less _ _ (omega arith) (omega arith) h
 
       go : (R L : ℕ) (stack : List ℕ) → length stack ≡ mark → (res : Result (List (List ℕ))) → Ends script (Collected script n s₁) allGrown s₁ R L r₁ l₁ stack res
-          → Ends script (λ a. a ≡ run) kept s₂ R L (r₁ + r₂) (l₁ + l₂) stack (elim res [ ok a m ↦ y a m | err e m ↦ err e m ])
+          → Ends script (λ a. a ≡ run) stackUnchanged s₂ R L (r₁ + r₂) (l₁ + l₂) stack (elim res [ ok a m ↦ y a m | err e m ↦ err e m ])
       go R L stack j (ok xs m) h = last R L stack (y xs m) (q .simulates (R + r₁) (L + l₁) stack xs m j (h .0 .0) (omega (arith, h .0 .1, ap length (h .1 .related .left))) (h .1))
       go R L stack j (err e m) h = subst (λ (t : Code). FailedAt script t e R L stack m) (sym (q .sticky (failed-fails h))) h
 
 -- a list, and then what goes on with it
 module _ {A B : Type 0} {script : List ℕ} {y : List (List ℕ) → Rule A} {run : A} {v : B} {d r₁ l₁ r₂ l₂ d₂ r₃ l₃ mark n : ℕ} {s s₁ s₂ : Code} (f : A → Rule B) where
-  pub lists-seq : Lists script y run d r₁ l₁ mark n s s₁ → Refines script r₂ l₂ (f run) (λ b. b ≡ v) kept d₂ r₃ l₃ s₁ s₂ → r₂ ≤ r₁ → l₂ ≤ l₁
+  pub lists-seq : Lists script y run d r₁ l₁ mark n s s₁ → Refines script r₂ l₂ (f run) (λ b. b ≡ v) stackUnchanged d₂ r₃ l₃ s₁ s₂ → r₂ ≤ r₁ → l₂ ≤ l₁
       → Lists script (λ xs. y xs >>= f) v (d + d₂) (r₃ + (r₁ - r₂)) (l₃ + (l₁ - l₂)) mark n s s₂
   unfolding _>>=_
   lists-seq p q a b = record {
@@ -306,20 +312,20 @@ module _ {A B : Type 0} {script : List ℕ} {y : List (List ℕ) → Rule A} {ru
     simulates = λ R L stack xs m j k few h. go R L stack a b (y xs m) (p .simulates R L stack xs m j k few h);
   }
     where
-      last : (R L : ℕ) (stack : List ℕ) (res : Result B) → Ends script (λ b. b ≡ v) kept s₂ (R + (r₁ - r₂)) (L + (l₁ - l₂)) r₃ l₃ stack res → Ends script (λ b. b ≡ v) kept s₂ R L (r₃ + (r₁ - r₂)) (l₃ + (l₁ - l₂)) stack res
+      last : (R L : ℕ) (stack : List ℕ) (res : Result B) → Ends script (λ b. b ≡ v) stackUnchanged s₂ (R + (r₁ - r₂)) (L + (l₁ - l₂)) r₃ l₃ stack res → Ends script (λ b. b ≡ v) stackUnchanged s₂ R L (r₃ + (r₁ - r₂)) (l₃ + (l₁ - l₂)) stack res
       last R L stack (ok b m) h = (h .0, represents-less _ _ (omega arith) (omega arith) (h .1))
       last R L stack (err e m) h = failed-less _ _ (omega arith) (omega arith) h
 
-      go : (R L : ℕ) (stack : List ℕ) → r₂ ≤ r₁ → l₂ ≤ l₁ → (res : Result A) → Ends script (λ a. a ≡ run) kept s₁ R L r₁ l₁ stack res
-          → Ends script (λ b. b ≡ v) kept s₂ R L (r₃ + (r₁ - r₂)) (l₃ + (l₁ - l₂)) stack (elim res [ ok a m ↦ f a m | err e m ↦ err e m ])
+      go : (R L : ℕ) (stack : List ℕ) → r₂ ≤ r₁ → l₂ ≤ l₁ → (res : Result A) → Ends script (λ a. a ≡ run) stackUnchanged s₁ R L r₁ l₁ stack res
+          → Ends script (λ b. b ≡ v) stackUnchanged s₂ R L (r₃ + (r₁ - r₂)) (l₃ + (l₁ - l₂)) stack (elim res [ ok a m ↦ f a m | err e m ↦ err e m ])
       go R L stack a b (ok w m) h = last R L stack (f w m)
-          (subst (λ (x : A). Ends script (λ b. b ≡ v) kept s₂ (R + (r₁ - r₂)) (L + (l₁ - l₂)) r₃ l₃ stack (f x m)) (sym (h .0))
+          (subst (λ (x : A). Ends script (λ b. b ≡ v) stackUnchanged s₂ (R + (r₁ - r₂)) (L + (l₁ - l₂)) r₃ l₃ stack (f x m)) (sym (h .0))
           (q .simulates (R + (r₁ - r₂)) (L + (l₁ - l₂)) stack m (represents-less _ _ (omega arith) (omega arith) (h .1))))
       go R L stack a b (err e m) h = subst (λ (x : Code). FailedAt script x e R L stack m) (sym (q .sticky (failed-fails h))) h
 
 -- members, and then a step that changes none
 module _ {A : Type 0} {script : List ℕ} {x : Rule (List (List ℕ))} {y : Rule A} {v : A} {r l d r₁ l₁ d₂ r₂ l₂ n : ℕ} {s s₁ s₂ : Code} where
-  pub collected-then : Refines script r l x (Collected script n s₁) allGrown d r₁ l₁ s s₁ → Refines script 0 0 y (λ a. a ≡ v) kept d₂ r₂ l₂ s₁ s₂
+  pub collected-then : Refines script r l x (Collected script n s₁) allGrown d r₁ l₁ s s₁ → Refines script 0 0 y (λ a. a ≡ v) stackUnchanged d₂ r₂ l₂ s₁ s₂
       → Refines script r l (x >>= (λ xs. y >> pure xs)) (Collected script n s₂) allGrown (d + d₂) (r₁ + r₂) (l₁ + l₂) s s₂
   unfolding _>>=_ _>>_ pure
   collected-then p q = record {
@@ -331,7 +337,7 @@ module _ {A : Type 0} {script : List ℕ} {x : Rule (List (List ℕ))} {y : Rule
     simulates = λ R L stack m h. go R L stack (x m) (p .simulates R L stack m h);
   }
     where
-      last : (R L : ℕ) (stack : List ℕ) (xs : List (List ℕ)) → Collected script n s₁ xs → (res : Result A) → Ends script (λ a. a ≡ v) kept s₂ (R + r₁) (L + l₁) r₂ l₂ (stack ++ flatten xs) res
+      last : (R L : ℕ) (stack : List ℕ) (xs : List (List ℕ)) → Collected script n s₁ xs → (res : Result A) → Ends script (λ a. a ≡ v) stackUnchanged s₂ (R + r₁) (L + l₁) r₂ l₂ (stack ++ flatten xs) res
           → Ends script (Collected script n s₂) allGrown s₂ R L (r₁ + r₂) (l₁ + l₂) stack (elim res [ ok a m ↦ ok xs m | err e m ↦ err e m ])
       last R L stack xs c (ok b m) h = ((c .0, omega (arith, c .1, q .monotone)), represents-less _ _ (omega arith) (omega arith) (h .1))
       last R L stack xs c (err e m) h =

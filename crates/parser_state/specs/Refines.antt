@@ -21,14 +21,17 @@ use Rattle.parser_state.specs.declared.Parser.{Parser}
 abbrev pub deeper : List ℕ → ℕ → Readers
 deeper script levels = readers stageOne script levels
 
--- how a rule ends, and the code with it: the rule's value has the property Q, and `grow` of it is what is under construction
+-- how a rule ends, and the code with it: the rule's value has the property Q, and `grow` of it is
+-- what is under construction
 abbrev pub Ends : {A : Type 0} (script : List ℕ) (Q : A → Type 0) (grow : A → List ℕ → List ℕ) (s′ : Code) (r l r′ l′ : ℕ) (stack : List ℕ) → Result A → Type 0
 Ends script Q grow s′ r l r′ l′ stack (ok a m) = Q a × Represents script s′ (r + r′) (l + l′) (grow a stack) m
 Ends script Q grow s′ r l r′ l′ stack (err e m) = FailedAt script s′ e r l stack m
 
-abbrev pub kept : {A : Type 0} → A → List ℕ → List ℕ
-kept a stack = stack
+-- what is under construction stays as it is
+abbrev pub stackUnchanged : {A : Type 0} → A → List ℕ → List ℕ
+stackUnchanged a stack = stack
 
+-- the cells of a member are pushed
 abbrev pub grown : List ℕ → List ℕ → List ℕ
 grown cells stack = stack ++ cells
 
@@ -40,7 +43,8 @@ allGrown xs stack = stack ++ flatten xs
 abbrev pub Collected : List ℕ → ℕ → Code → List (List ℕ) → Type 0
 Collected script n s xs = (length xs ≡ n) × (length xs + length (ahead script s) ≤ length script + 1)
 
--- From `r` records' and `l` list cells' room to `r′` and `l′`, taking `d` tokens or more where it does not fail.
+-- From `r` records' and `l` list cells' room to `r′` and `l′`, taking `d` tokens or more where it
+-- does not fail.
 pub record Refines {A : Type 0} (script : List ℕ) (r l : ℕ) (x : Rule A) (Q : A → Type 0) (grow : A → List ℕ → List ℕ) (d r′ l′ : ℕ) (s s′ : Code) : Type 0 where
   -- once failed, the code changes nothing
   pub sticky : going s ≡ false → s′ ≡ s
@@ -50,27 +54,27 @@ pub record Refines {A : Type 0} (script : List ℕ) (r l : ℕ) (x : Rule A) (Q 
 
 -- a token is taken
 abbrev pub Takes : List ℕ → Rule Token → Parser → Parser → Type 0
-Takes script x p q = (nodes types lists : List ℕ) → Refines script 0 0 x (λ t. t ≡ p .cur) kept 1 1 8 (code nodes types lists p) (code nodes types lists q)
+Takes script x p q = (nodes types lists : List ℕ) → Refines script 0 0 x (λ t. t ≡ p .cur) stackUnchanged 1 1 8 (code nodes types lists p) (code nodes types lists q)
 
 -- a type is read
 abbrev pub ReadsType : List ℕ → Rule TypeExprId → Code → Code → TypeExprId → Type 0
-ReadsType script x s s′ r = Refines script 0 0 x (λ t. t ≡ r) kept 1 0 8 s s′
+ReadsType script x s s′ r = Refines script 0 0 x (λ t. t ≡ r) stackUnchanged 1 0 8 s s′
 
 -- a node is made
 abbrev pub ReadsNode : List ℕ → Rule NodeId → Code → Code → NodeId → Type 0
-ReadsNode script x s s′ r = Refines script 0 0 x (λ n. n ≡ r) kept 1 0 8 s s′
+ReadsNode script x s s′ r = Refines script 0 0 x (λ n. n ≡ r) stackUnchanged 1 0 8 s s′
 
 -- a step of a loop over a node goes on
 abbrev pub ReadsStep : List ℕ → Rule (ControlFlow NodeId) → Code → Code → NodeId → Type 0
-ReadsStep script x s s′ r = Refines script 0 0 x (λ t. t ≡ continue r) kept 1 0 0 s s′
+ReadsStep script x s s′ r = Refines script 0 0 x (λ t. t ≡ continue r) stackUnchanged 1 0 0 s s′
 
 -- a loop over a node, which may take nothing
 abbrev pub LoopsNode : List ℕ → Rule NodeId → Code → Code → NodeId → Type 0
-LoopsNode script x s s′ r = Refines script 0 0 x (λ n. n ≡ r) kept 0 0 0 s s′
+LoopsNode script x s s′ r = Refines script 0 0 x (λ n. n ≡ r) stackUnchanged 0 0 0 s s′
 
 -- a list is read and finished
 abbrev pub ReadsList : List ℕ → Rule Run → Code → Code → Run → Type 0
-ReadsList script x s s′ r = Refines script 0 0 x (λ t. t ≡ r) kept 1 1 8 s s′
+ReadsList script x s s′ r = Refines script 0 0 x (λ t. t ≡ r) stackUnchanged 1 1 8 s s′
 
 -- a member of a list is read, and its cells are pushed
 abbrev pub ReadsMember : List ℕ → Rule (List ℕ) → Code → Code → Type 0
@@ -91,7 +95,7 @@ pub record Refuses (script : List ℕ) (number wanted : ℕ) (s s′ : Code) : T
 unfoldable pub failAt : {A : Type 0} → ℕ → Token → Rule A
 failAt number t = λ s. err (atToken number 0 t) s
 
--- no docs wait
+-- no docs are pending
 unfoldable pub noDocsWait : Rule ℕ
 noDocsWait = requireNoDocs (pure 0)
 
@@ -99,9 +103,9 @@ noDocsWait = requireNoDocs (pure 0)
 abbrev pub failed : Parser → Diagnostic → Parser
 failed p e = withStatus p (Failed e)
 
--- the token of a doc that waits, whose cells lie the last first
-abbrev pub tokenAt : List ℕ → ℕ → Token
-tokenAt types at = record { kind = getD types (at + 2) 0; start = getD types (at + 1) 0; len = getD types at 0 }
+-- the token of a pending doc, whose cells lie the last first
+abbrev pub docAt : List ℕ → ℕ → Token
+docAt types at = record { kind = getD types (at + 2) 0; start = getD types (at + 1) 0; len = getD types at 0 }
 
 -- a node of a parser that has not failed has room in so many cells, and its value numbers fit
 unfoldable pub hasRoom : ℕ → Parser → Bool
@@ -130,4 +134,4 @@ pub record Lists {A : Type 0} (script : List ℕ) (x : List (List ℕ) → Rule 
   pub monotone : length (ahead script s′) ≤ length (ahead script s)
   pub progress : going s′ ≡ true → length (ahead script s′) + d ≤ length (ahead script s)
   pub simulates : (R L : ℕ) (stack : List ℕ) (xs : List (List ℕ)) (m : State) → length stack ≡ mark → length xs ≡ n → length xs + length (m .left) ≤ length script + 1
-      → Represents script s R L (stack ++ flatten xs) m → Ends script (λ a. a ≡ run) kept s′ R L r′ l′ stack (x xs m)
+      → Represents script s R L (stack ++ flatten xs) m → Ends script (λ a. a ≡ run) stackUnchanged s′ R L r′ l′ stack (x xs m)

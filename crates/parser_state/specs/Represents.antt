@@ -27,11 +27,11 @@ use Rattle.parser_state.specs.declared.Status.{Status}
 
 -- ---- what an array holds of a token: the low 24 bits of its numbers
 
-abbrev pub low : ℕ → ℕ
-low n = n % 16777216
+abbrev pub low24Bits : ℕ → ℕ
+low24Bits n = n % 16777216
 
 abbrev pub lowToken : Token → Token
-lowToken t = record { kind = t .kind; start = low (t .start); len = low (t .len) }
+lowToken t = record { kind = t .kind; start = low24Bits (t .start); len = low24Bits (t .len) }
 
 abbrev pub lowType : TypeExpr → TypeExpr
 lowType (T.Atom t) = T.Atom (lowToken t)
@@ -61,7 +61,7 @@ Going = record { failed = 0; error = record { number = 0; start = 0; len = 0; wa
 abbrev pub Failed : Diagnostic → Status
 Failed e = record { failed = 1; error = e }
 
--- what the seventeen cells of a parser say
+-- what the cells of a parser say
 unfoldable pub parserOf : List ℕ → Parser
 parserOf c = record {
   cur = record { kind = getD c 1 0; start = getD c 0 0; len = getD c 2 0 };
@@ -106,16 +106,18 @@ pub record Lexed (script : List ℕ) (cur : Token) (pos : ℕ) : Type 0 where
 abbrev pub ahead : List ℕ → Code → List Token
 ahead script s = from script (s .parser .cur) (s .parser .pos)
 
--- the cells of docs that wait, in the order in which they were met
+-- the cells of pending docs, in the order in which they were met
 abbrev pub docCells : List Token → List ℕ
 docCells docs = flatten (map tokenCells docs)
 
--- their numbers have no other bits
+-- the numbers of the docs have no other bits
 abbrev pub AllLow : List Token → Type 0
 AllLow [] = Unit {0}
 AllLow (d ∷ ds) = (lowToken d ≡ d) × AllLow ds
 
--- The arrays as a state has them: records or cells in front, then zeros, and at the far end what grows downward, the last cell first: behind the types the docs that wait, behind the lists the cells of those under construction.
+-- The arrays as a state has them: records or cells in front, then zeros, and at the far end what
+-- grows downward, the last cell first: behind the types the pending docs, behind the lists the
+-- cells of those under construction.
 pub record NodesLaid (nodes : List ℕ) (count values : ℕ) (arena : List Node) (given : ℕ) : Type 0 where
   pub laid : nodes ≡ flatten (map nodeCells arena) ++ (zeros (length nodes - 16 * count) ++ [])
   pub counted : count ≡ length arena
@@ -132,8 +134,10 @@ pub record ListsLaid (lists : List ℕ) (count scratch : ℕ) (cells stack : Lis
   pub counted : count ≡ length cells
   pub stacked : scratch ≡ length stack
 
--- What is left to spend, `n` being the bytes of the script: each of the `left` tokens has room for a record and for eight list cells; `r` more records and `l` more list cells have room besides.
--- A doc that waits has a record's place, and three list cells are kept for it. A cell under construction counts twice, for it is copied before it is cleared. A record has 40,000 value numbers.
+-- What is left to spend, `n` being the bytes of the script: each of the `left` tokens has room for
+-- a record and for eight list cells; `r` more records and `l` more list cells have room besides. A
+-- pending doc has a record's place, and three list cells are kept for it. A cell under construction
+-- counts twice, for it is copied before it is cleared. A record has 40,000 value numbers.
 pub record Credit (n : ℕ) (u : Used) (left r l : ℕ) : Type 0 where
   pub records : u .nodes + u .types + u .docs + left + r ≤ n + 1
   pub numbers : u .values + 40000 * (u .types + u .docs + left + r) ≤ 40000 * (n + 1)

@@ -1,4 +1,5 @@
-// The parser's state, and the functions of parser.rs that take tokens, write records, lists and docs, and fail.
+// The parser's state, and the functions of parser.rs that take tokens, write records, lists and
+// docs, and fail.
 use lex::Diagnostic;
 use lex::Next;
 use lex::Token;
@@ -20,8 +21,8 @@ ghost use Rattle.rules.specs.Layout.{nodeWidth, padded, nodeCells, typeCells};
 ghost use Rattle.rules.specs.Combinators.{continue, atToken, advance, expect, expectIdent, rejectKind, pushNode, pushNodeAnd, pushType, allocSlice, tokenCells, keepDoc, collectDocs, takeDocs};
 ghost use Rattle.rules.specs.declared.Node.{Node};
 ghost use Rattle.rules.specs.declared.Node.the-variants as N;
-ghost use Rattle.parser_state.specs.Represents.{parserOf, withNext, withUsed, withStatus, code, isGoing, low, lowToken, lowType, lowNode};
-ghost use Rattle.parser_state.specs.Refines.{Refines, kept, Takes, Refuses, Pushes, Lists, failAt, noDocsWait, failed, tokenAt, hasRoom, memberFollows, docFollows, closed};
+ghost use Rattle.parser_state.specs.Represents.{parserOf, withNext, withUsed, withStatus, code, isGoing, low24Bits, lowToken, lowType, lowNode};
+ghost use Rattle.parser_state.specs.Refines.{Refines, stackUnchanged, Takes, Refuses, Pushes, Lists, failAt, noDocsWait, failed, docAt, hasRoom, memberFollows, docFollows, closed};
 
 // Whether the reading has failed, and its error.
 pub struct Status {
@@ -29,7 +30,8 @@ pub struct Status {
     pub error: Diagnostic,
 }
 
-// How much is made: node and type records, value numbers, list cells; and what waits: docs, and cells of lists under construction.
+// How much is made: node and type records, value numbers, list cells; the pending docs; and the
+// cells of lists under construction.
 pub struct Used {
     pub nodes: u32,
     pub values: u32,
@@ -39,8 +41,12 @@ pub struct Used {
     pub scratch: u32,
 }
 
-// The token being read and the position after it, what is used of the arrays, and whether the reading has failed.
-// Its numbers lie in seventeen cells that are lent from call to call, since a struct by value would be copied whole at each: the token's start, kind and length, the low and the high 32 bits of the position, the six counts, whether the reading has failed, and the five numbers of the error.
+// The token being read and the position after it, what is used of the arrays, and whether the
+// reading has failed.
+//
+// Its numbers lie in cells that are lent from call to call (`State`), since a struct by value would
+// be copied whole at each: the token's start, kind and length, the low and the high 32 bits of the
+// position, the six counts, whether the reading has failed, and the five numbers of the error.
 pub struct Parser {
     pub cur: Token,
     pub pos: usize,
@@ -52,17 +58,23 @@ impl Parser {
     pub const MAX_BYTES: usize = lex::MAX_BYTES;
 
     pub const MAX_LEVELS: usize = 128;
+
+    pub const CELLS: usize = 17;
 }
+
+// The cells of a parser, in the order in which `set_next`, `set_used` and `set_status` write them.
+pub type State = [u32; Parser::CELLS];
 
 // ---- the cells of a parser
 
 // The reading has not failed.
-pub fn going(p: &[u32; 17]) -> bool
+pub fn going(p: &State) -> bool
     ensures { λ r. ⌜ r ≡ isGoing (parserOf (now (p .entry)) .status) ⌝ }
 {
     p[11] == 0
 }
 
+// The number with 64 bits.
 fn wide(n: u32) -> usize
     ensures { λ r. ⌜ (r ≡ n) × (r < 4294967296) ⌝ }
 {
@@ -70,14 +82,14 @@ fn wide(n: u32) -> usize
 }
 
 // The kind of the token being read.
-pub fn kind(p: &[u32; 17]) -> u32
+pub fn kind(p: &State) -> u32
     ensures { λ r. ⌜ r ≡ parserOf (now (p .entry)) .cur .kind ⌝ }
 {
     p[1]
 }
 
 // The token being read.
-pub fn current(p: &[u32; 17]) -> Token
+pub fn current(p: &State) -> Token
     ensures { λ r. ⌜ r ≡ parserOf (now (p .entry)) .cur ⌝ }
 {
     Token {
@@ -88,14 +100,14 @@ pub fn current(p: &[u32; 17]) -> Token
 }
 
 // The position after the token being read, which has two cells.
-pub fn position(p: &[u32; 17]) -> usize
+pub fn position(p: &State) -> usize
     ensures { λ r. ⌜ r ≡ parserOf (now (p .entry)) .pos ⌝ }
 {
     wide(p[3]) + 4294967296 * wide(p[4])
 }
 
 // What is used of the arrays.
-pub fn get_used(p: &[u32; 17]) -> Used
+pub fn get_used(p: &State) -> Used
     ensures { λ r. ⌜ r ≡ parserOf (now (p .entry)) .used ⌝ }
 {
     Used {
@@ -109,7 +121,7 @@ pub fn get_used(p: &[u32; 17]) -> Used
 }
 
 // The error of a reading that has failed.
-pub fn error(p: &[u32; 17]) -> Diagnostic
+pub fn error(p: &State) -> Diagnostic
     ensures { λ r. ⌜ r ≡ parserOf (now (p .entry)) .status .error ⌝ }
 {
     Diagnostic {
@@ -122,20 +134,21 @@ pub fn error(p: &[u32; 17]) -> Diagnostic
 }
 
 // The low 24 bits. The numbers of a script's tokens have no others.
-pub fn low(n: usize) -> u32
-    ensures { λ r. ⌜ r ≡ low n ⌝ }
+pub fn low_24_bits(n: usize) -> u32
+    ensures { λ r. ⌜ r ≡ low24Bits n ⌝ }
 {
     (n % 16777216) as u32
 }
 
-// The next token is the one being read. Its start and length lie apart: side by side they would be loaded together, at once after each was stored for itself, and that stalls.
-pub fn set_next(p: &mut [u32; 17], n: Next)
+// The next token is the one being read. Its start and length lie apart: side by side they would be
+// loaded together in one step, right after each was stored for itself, and that stalls.
+pub fn set_next(p: &mut State, n: Next)
     ensures { λ r. ⌜ parserOf (now (p .exit)) ≡ withNext (parserOf (now (p .entry))) n ⌝ }
 {
     *p = [
-        low(n.token.start),
+        low_24_bits(n.token.start),
         n.token.kind,
-        low(n.token.len),
+        low_24_bits(n.token.len),
         (n.next % 4294967296) as u32,
         (n.next / 4294967296) as u32,
         p[5],
@@ -153,8 +166,9 @@ pub fn set_next(p: &mut [u32; 17], n: Next)
     ];
 }
 
-// Each `set` writes all cells, of which the compiled code writes those that change.
-pub fn set_used(p: &mut [u32; 17], u: Used)
+// What is used of the arrays. Each `set` writes all cells, of which the compiled code writes those
+// that change.
+pub fn set_used(p: &mut State, u: Used)
     ensures { λ r. ⌜ parserOf (now (p .exit)) ≡ withUsed (parserOf (now (p .entry))) u ⌝ }
 {
     *p = [
@@ -178,8 +192,11 @@ pub fn set_used(p: &mut [u32; 17], u: Used)
     ];
 }
 
-pub fn set_status(p: &mut [u32; 17], failed: u32, d: Diagnostic)
-    ensures { λ r. ⌜ parserOf (now (p .exit)) ≡ withStatus (parserOf (now (p .entry))) (record { failed = failed; error = d }) ⌝ }
+// Whether the reading has failed, and its error.
+pub fn set_status(p: &mut State, failed: u32, d: Diagnostic)
+    ensures { λ r.
+        ⌜ parserOf (now (p .exit))
+        ≡ withStatus (parserOf (now (p .entry))) (record { failed = failed; error = d }) ⌝ }
 {
     *p = [
         p[0],
@@ -204,9 +221,12 @@ pub fn set_status(p: &mut [u32; 17], failed: u32, d: Diagnostic)
 
 // ---- tokens
 
-pub fn advance(script: &[u8], p: &mut [u32; 17])
+// The next token is read.
+pub fn advance(script: &[u8], p: &mut State)
     requires { ⌜ (parserOf (now p) .cur .kind ≡ 1 → ⊥) ⌝ }
-    ensures { λ r. ⌜ Takes (now (script .entry)) advance (parserOf (now (p .entry))) (parserOf (now (p .exit))) ⌝ }
+    ensures { λ r.
+        ⌜ Takes (now (script .entry)) advance (parserOf (now (p .entry)))
+        (parserOf (now (p .exit))) ⌝ }
 {
     if !going(p) {
         return;
@@ -220,15 +240,20 @@ fn span_start(t: Token) -> u32
     ensures { λ r. ⌜ r ≡ atToken 0 0 (lowToken t) .start ⌝ }
 {
     if t.kind == Type::S {
-        std::num::wrapping_add_u32(low(t.start), 1)
+        std::num::wrapping_add_u32(low_24_bits(t.start), 1)
     } else {
-        low(t.start)
+        low_24_bits(t.start)
     }
 }
 
 // The reading fails at a token.
-fn fail_with(p: &mut [u32; 17], number: u32, wanted: u32, t: Token)
-    ensures { λ r. ⌜ (isGoing (parserOf (now (p .entry)) .status) ≡ true → parserOf (now (p .exit)) ≡ failed (parserOf (now (p .entry))) (atToken number wanted (lowToken t))) × (isGoing (parserOf (now (p .entry)) .status) ≡ false → parserOf (now (p .exit)) ≡ parserOf (now (p .entry))) ⌝ }
+fn fail_with(p: &mut State, number: u32, wanted: u32, t: Token)
+    ensures { λ r.
+        ⌜ (isGoing (parserOf (now (p .entry)) .status) ≡ true
+        → parserOf (now (p .exit))
+        ≡ failed (parserOf (now (p .entry))) (atToken number wanted (lowToken t)))
+        × (isGoing (parserOf (now (p .entry)) .status) ≡ false
+        → parserOf (now (p .exit)) ≡ parserOf (now (p .entry))) ⌝ }
 {
     if !going(p) {
         return;
@@ -236,7 +261,7 @@ fn fail_with(p: &mut [u32; 17], number: u32, wanted: u32, t: Token)
     let d = Diagnostic {
         number,
         start: span_start(t),
-        len: low(t.len),
+        len: low_24_bits(t.len),
         wanted,
         seen: t.kind,
     };
@@ -244,23 +269,33 @@ fn fail_with(p: &mut [u32; 17], number: u32, wanted: u32, t: Token)
 }
 
 // The reading fails at the token being read.
-pub fn fail_expecting(p: &mut [u32; 17], number: u32, wanted: u32)
-    ensures { λ r. ⌜ ((script nodes types lists : List ℕ) → Refuses script number wanted (code nodes types lists (parserOf (now (p .entry)))) (code nodes types lists (parserOf (now (p .exit))))) ⌝ }
+pub fn fail_expecting(p: &mut State, number: u32, wanted: u32)
+    ensures { λ r. ⌜ ((script nodes types lists : List ℕ) →
+        let before = code nodes types lists (parserOf (now (p .entry))) in
+        let after = code nodes types lists (parserOf (now (p .exit))) in
+        Refuses script number wanted before after) ⌝ }
 {
     let t = current(p);
     fail_with(p, number, wanted, t);
 }
 
 // The reading fails at a token that was met before.
-pub fn fail_at(p: &mut [u32; 17], number: u32, t: Token)
-    ensures { λ r. ⌜ ((script nodes types lists : List ℕ) → Refines script 0 0 (failAt {A = ℕ} number (lowToken t)) (λ n. n ≡ 0) kept 0 0 0 (code nodes types lists (parserOf (now (p .entry)))) (code nodes types lists (parserOf (now (p .exit))))) ⌝ }
+pub fn fail_at(p: &mut State, number: u32, t: Token)
+    ensures { λ r. ⌜ ((script nodes types lists : List ℕ) →
+        let before = code nodes types lists (parserOf (now (p .entry))) in
+        let after = code nodes types lists (parserOf (now (p .exit))) in
+        Refines script 0 0 (failAt {A = ℕ} number (lowToken t)) (λ n. n ≡ 0) stackUnchanged 0 0 0
+        before after) ⌝ }
 {
     fail_with(p, number, 0, t);
 }
 
-pub fn expect(script: &[u8], p: &mut [u32; 17], wanted: u32)
+// A token of the wanted kind is taken.
+pub fn expect(script: &[u8], p: &mut State, wanted: u32)
     requires { ⌜ 1 < wanted ⌝ }
-    ensures { λ r. ⌜ Takes (now (script .entry)) (expect wanted) (parserOf (now (p .entry))) (parserOf (now (p .exit))) ⌝ }
+    ensures { λ r.
+        ⌜ Takes (now (script .entry)) (expect wanted) (parserOf (now (p .entry)))
+        (parserOf (now (p .exit))) ⌝ }
 {
     if kind(p) == wanted {
         advance(script, p);
@@ -269,8 +304,11 @@ pub fn expect(script: &[u8], p: &mut [u32; 17], wanted: u32)
     }
 }
 
-pub fn expect_ident(script: &[u8], p: &mut [u32; 17])
-    ensures { λ r. ⌜ Takes (now (script .entry)) expectIdent (parserOf (now (p .entry))) (parserOf (now (p .exit))) ⌝ }
+// A name is taken.
+pub fn expect_ident(script: &[u8], p: &mut State)
+    ensures { λ r.
+        ⌜ Takes (now (script .entry)) expectIdent (parserOf (now (p .entry)))
+        (parserOf (now (p .exit))) ⌝ }
 {
     if kind(p) == Type::IDENT {
         advance(script, p);
@@ -279,8 +317,13 @@ pub fn expect_ident(script: &[u8], p: &mut [u32; 17])
     }
 }
 
-pub fn reject_kind(p: &mut [u32; 17], rejected: u32, number: u32)
-    ensures { λ r. ⌜ ((script nodes types lists : List ℕ) → Refines script 0 0 (rejectKind rejected number) (λ n. n ≡ 0) kept 0 0 0 (code nodes types lists (parserOf (now (p .entry)))) (code nodes types lists (parserOf (now (p .exit))))) ⌝ }
+// The reading fails at a token of this kind, with this number.
+pub fn reject_kind(p: &mut State, rejected: u32, number: u32)
+    ensures { λ r. ⌜ ((script nodes types lists : List ℕ) →
+        let before = code nodes types lists (parserOf (now (p .entry))) in
+        let after = code nodes types lists (parserOf (now (p .exit))) in
+        Refines script 0 0 (rejectKind rejected number) (λ n. n ≡ 0) stackUnchanged 0 0 0
+        before after) ⌝ }
 {
     if kind(p) == rejected {
         fail_expecting(p, number, 0);
@@ -288,7 +331,7 @@ pub fn reject_kind(p: &mut [u32; 17], rejected: u32, number: u32)
 }
 
 // Another member of a list follows.
-pub fn member_follows(p: &[u32; 17], stop: u32) -> bool
+pub fn member_follows(p: &State, stop: u32) -> bool
     ensures { λ r. ⌜ r ≡ memberFollows (parserOf (now (p .entry))) stop ⌝ }
 {
     if !going(p) {
@@ -302,7 +345,7 @@ pub fn member_follows(p: &[u32; 17], stop: u32) -> bool
 }
 
 // The reading has not failed, and the token being read is a doc.
-fn doc_follows(p: &[u32; 17]) -> bool
+fn doc_follows(p: &State) -> bool
     ensures { λ r. ⌜ r ≡ docFollows (parserOf (now (p .entry))) ⌝ }
 {
     if !going(p) {
@@ -313,9 +356,12 @@ fn doc_follows(p: &[u32; 17]) -> bool
 
 // ---- records
 
+// Cells are copied to a place of an array.
 fn put(dst: &mut [u32], at: usize, cells: &[u32])
     requires { ⌜ at + length (now cells) ≤ length (now dst) ⌝ }
-    ensures { λ r. ⌜ now (dst .exit) ≡ paste (now (dst .entry)) at (now (cells .entry)) (length (now (cells .entry))) ⌝ }
+    ensures { λ r.
+        ⌜ now (dst .exit)
+        ≡ paste (now (dst .entry)) at (now (cells .entry)) (length (now (cells .entry))) ⌝ }
 {
     let mut i = 0;
     while i < cells.len() {
@@ -324,6 +370,7 @@ fn put(dst: &mut [u32], at: usize, cells: &[u32])
     }
 }
 
+// The record of a type.
 fn type_cells(t: TypeExpr) -> [u32; 8]
     ensures { λ r. ⌜ r ≡ typeCells (lowType t) ⌝ }
 {
@@ -331,8 +378,8 @@ fn type_cells(t: TypeExpr) -> [u32; 8]
         TypeExpr::Atom(n) => [
             TypeExprKind::ATOM,
             n.kind,
-            low(n.start),
-            low(n.len),
+            low_24_bits(n.start),
+            low_24_bits(n.len),
             0,
             0,
             0,
@@ -341,8 +388,8 @@ fn type_cells(t: TypeExpr) -> [u32; 8]
         TypeExpr::Foreign(n) => [
             TypeExprKind::FOREIGN,
             n.kind,
-            low(n.start),
-            low(n.len),
+            low_24_bits(n.start),
+            low_24_bits(n.len),
             0,
             0,
             0,
@@ -353,8 +400,8 @@ fn type_cells(t: TypeExpr) -> [u32; 8]
         TypeExpr::Record { src, fields } => [
             TypeExprKind::RECORD,
             src.kind,
-            low(src.start),
-            low(src.len),
+            low_24_bits(src.start),
+            low_24_bits(src.len),
             fields.start,
             fields.len,
             0,
@@ -363,8 +410,13 @@ fn type_cells(t: TypeExpr) -> [u32; 8]
     }
 }
 
-pub fn push_type(types: &mut [u32], p: &mut [u32; 17], t: TypeExpr) -> TypeExprId
-    ensures { λ r. ⌜ ((script nodes lists : List ℕ) → Refines script 1 0 (pushType (lowType t)) (λ i. i ≡ r) kept 0 0 0 (code nodes (now (types .entry)) lists (parserOf (now (p .entry)))) (code nodes (now (types .exit)) lists (parserOf (now (p .exit))))) ⌝ }
+// The next type, where the reading has not failed and the types have room.
+pub fn push_type(types: &mut [u32], p: &mut State, t: TypeExpr) -> TypeExprId
+    ensures { λ r. ⌜ ((script nodes lists : List ℕ) →
+        let before = code nodes (now (types .entry)) lists (parserOf (now (p .entry))) in
+        let after = code nodes (now (types .exit)) lists (parserOf (now (p .exit))) in
+        Refines script 1 0 (pushType (lowType t)) (λ i. i ≡ r) stackUnchanged 0 0 0
+        before after) ⌝ }
 {
     if !going(p) {
         return TypeExprId(0);
@@ -436,8 +488,8 @@ fn node_cells(n: WideNode) -> [u32; 16]
             docs.start,
             docs.len,
             name.kind,
-            low(name.start),
-            low(name.len),
+            low_24_bits(name.start),
+            low_24_bits(name.len),
             args.start,
             args.len,
             return_type.0,
@@ -459,8 +511,8 @@ fn node_cells(n: WideNode) -> [u32; 16]
             cases.start,
             cases.len,
             default_token.kind,
-            low(default_token.start),
-            low(default_token.len),
+            low_24_bits(default_token.start),
+            low_24_bits(default_token.len),
             default_body.start,
             default_body.len,
             0,
@@ -481,13 +533,13 @@ fn node_cells(n: WideNode) -> [u32; 16]
             NodeKind::EXTERN,
             id,
             src.kind,
-            low(src.start),
-            low(src.len),
+            low_24_bits(src.start),
+            low_24_bits(src.len),
             docs.start,
             docs.len,
             name.kind,
-            low(name.start),
-            low(name.len),
+            low_24_bits(name.start),
+            low_24_bits(name.len),
             fns.start,
             fns.len,
             0,
@@ -499,7 +551,7 @@ fn node_cells(n: WideNode) -> [u32; 16]
 }
 
 // A record is written where the reading has not failed and the nodes have room.
-fn has_room(len: usize, p: &[u32; 17]) -> bool
+fn has_room(len: usize, p: &State) -> bool
     ensures { λ r. ⌜ r ≡ hasRoom len (parserOf (now (p .entry))) ⌝ }
 {
     if !going(p) {
@@ -517,9 +569,15 @@ fn has_room(len: usize, p: &[u32; 17]) -> bool
 }
 
 // `more` value numbers go with the node that no node has.
-pub fn push_node(nodes: &mut [u32], p: &mut [u32; 17], node: WideNode, more: u32) -> NodeId
+pub fn push_node(nodes: &mut [u32], p: &mut State, node: WideNode, more: u32) -> NodeId
     requires { ⌜ more ≤ 65536 ⌝ }
-    ensures { λ r. ⌜ ((script types lists : List ℕ) (f : ℕ → Node) (rooms : ℕ) → 1 + more ≤ 40000 * rooms → lowNode node ≡ f (parserOf (now (p .entry)) .used .values) → Refines script rooms 0 (pushNodeAnd more f) (λ i. i ≡ r) kept 0 0 0 (code (now (nodes .entry)) types lists (parserOf (now (p .entry)))) (code (now (nodes .exit)) types lists (parserOf (now (p .exit))))) ⌝ }
+    ensures { λ r. ⌜ ((script types lists : List ℕ) (f : ℕ → Node) (rooms : ℕ) →
+        let before = code (now (nodes .entry)) types lists (parserOf (now (p .entry))) in
+        let after = code (now (nodes .exit)) types lists (parserOf (now (p .exit))) in
+        1 + more ≤ 40000 * rooms
+        → lowNode node ≡ f (parserOf (now (p .entry)) .used .values)
+        → Refines script rooms 0 (pushNodeAnd more f) (λ i. i ≡ r) stackUnchanged 0 0 0
+        before after) ⌝ }
 {
     if !has_room(nodes.len(), p) {
         return NodeId(0);
@@ -557,7 +615,8 @@ fn put_record(
     h: u32,
 )
     requires { ⌜ at + 8 ≤ length (now dst) ⌝ }
-    ensures { λ r. ⌜ now (dst .exit) ≡ paste (now (dst .entry)) at (a ∷ b ∷ c ∷ d ∷ e ∷ f ∷ g ∷ h ∷ []) 8 ⌝ }
+    ensures { λ r.
+        ⌜ now (dst .exit) ≡ paste (now (dst .entry)) at (a ∷ b ∷ c ∷ d ∷ e ∷ f ∷ g ∷ h ∷ []) 8 ⌝ }
 {
     dst[at] = a;
     dst[at + 1] = b;
@@ -569,10 +628,11 @@ fn put_record(
     dst[at + 7] = h;
 }
 
-// A node of six cells besides its kind and its number: the others are `WideNode`s. The cells behind are zero already.
+// A node of six cells besides its kind and its number: the others are `WideNode`s. The cells
+// behind are zero already.
 fn push_record(
     nodes: &mut [u32],
-    p: &mut [u32; 17],
+    p: &mut State,
     kind: u32,
     a: u32,
     b: u32,
@@ -581,7 +641,14 @@ fn push_record(
     e: u32,
     f: u32,
 ) -> NodeId
-    ensures { λ r. ⌜ ((script types lists : List ℕ) (node : ℕ → Node) → nodeCells (node (parserOf (now (p .entry)) .used .values)) ≡ padded nodeWidth (kind ∷ parserOf (now (p .entry)) .used .values ∷ a ∷ b ∷ c ∷ d ∷ e ∷ f ∷ []) → Refines script 1 0 (pushNodeAnd 0 node) (λ i. i ≡ r) kept 0 0 0 (code (now (nodes .entry)) types lists (parserOf (now (p .entry)))) (code (now (nodes .exit)) types lists (parserOf (now (p .exit))))) ⌝ }
+    ensures { λ r. ⌜ ((script types lists : List ℕ) (node : ℕ → Node) →
+        let before = code (now (nodes .entry)) types lists (parserOf (now (p .entry))) in
+        let after = code (now (nodes .exit)) types lists (parserOf (now (p .exit))) in
+        nodeCells (node (parserOf (now (p .entry)) .used .values))
+        ≡ padded nodeWidth
+        (kind ∷ parserOf (now (p .entry)) .used .values ∷ a ∷ b ∷ c ∷ d ∷ e ∷ f ∷ [])
+        → Refines script 1 0 (pushNodeAnd 0 node) (λ i. i ≡ r) stackUnchanged 0 0 0
+        before after) ⌝ }
 {
     if !has_room(nodes.len(), p) {
         return NodeId(0);
@@ -607,20 +674,41 @@ fn push_record(
 // A node of a token and two cells.
 pub fn push_token_node(
     nodes: &mut [u32],
-    p: &mut [u32; 17],
+    p: &mut State,
     kind: u32,
     t: Token,
     a: u32,
     b: u32,
 ) -> NodeId
-    ensures { λ r. ⌜ ((script types lists : List ℕ) (f : ℕ → Node) → nodeCells (f (parserOf (now (p .entry)) .used .values)) ≡ padded nodeWidth (kind ∷ parserOf (now (p .entry)) .used .values ∷ tokenCells (lowToken t) ++ (a ∷ b ∷ [])) → Refines script 1 0 (pushNodeAnd 0 f) (λ i. i ≡ r) kept 0 0 0 (code (now (nodes .entry)) types lists (parserOf (now (p .entry)))) (code (now (nodes .exit)) types lists (parserOf (now (p .exit))))) ⌝ }
+    ensures { λ r. ⌜ ((script types lists : List ℕ) (f : ℕ → Node) →
+        let before = code (now (nodes .entry)) types lists (parserOf (now (p .entry))) in
+        let after = code (now (nodes .exit)) types lists (parserOf (now (p .exit))) in
+        nodeCells (f (parserOf (now (p .entry)) .used .values))
+        ≡ padded nodeWidth
+        (kind ∷ parserOf (now (p .entry)) .used .values ∷ tokenCells (lowToken t)
+        ++ (a ∷ b ∷ []))
+        → Refines script 1 0 (pushNodeAnd 0 f) (λ i. i ≡ r) stackUnchanged 0 0 0 before after) ⌝ }
 {
-    push_record(nodes, p, kind, t.kind, low(t.start), low(t.len), a, b, 0)
+    push_record(
+        nodes,
+        p,
+        kind,
+        t.kind,
+        low_24_bits(t.start),
+        low_24_bits(t.len),
+        a,
+        b,
+        0,
+    )
 }
 
-// A call, a field of a node, a let.
-pub fn push_call(nodes: &mut [u32], p: &mut [u32; 17], target: NodeId, args: Run) -> NodeId
-    ensures { λ r. ⌜ ((script types lists : List ℕ) → Refines script 1 0 (pushNode (λ id. N.Call id target args)) (λ i. i ≡ r) kept 0 0 0 (code (now (nodes .entry)) types lists (parserOf (now (p .entry)))) (code (now (nodes .exit)) types lists (parserOf (now (p .exit))))) ⌝ }
+// A call.
+pub fn push_call(nodes: &mut [u32], p: &mut State, target: NodeId, args: Run) -> NodeId
+    ensures { λ r. ⌜ ((script types lists : List ℕ) →
+        let before = code (now (nodes .entry)) types lists (parserOf (now (p .entry))) in
+        let after = code (now (nodes .exit)) types lists (parserOf (now (p .exit))) in
+        Refines script 1 0 (pushNode (λ id. N.Call id target args)) (λ i. i ≡ r)
+        stackUnchanged 0 0 0 before after) ⌝ }
 {
     push_record(
         nodes,
@@ -635,8 +723,13 @@ pub fn push_call(nodes: &mut [u32], p: &mut [u32; 17], target: NodeId, args: Run
     )
 }
 
-pub fn push_field(nodes: &mut [u32], p: &mut [u32; 17], target: NodeId, name: Token) -> NodeId
-    ensures { λ r. ⌜ ((script types lists : List ℕ) → Refines script 1 0 (pushNode (λ id. N.Field id target (lowToken name))) (λ i. i ≡ r) kept 0 0 0 (code (now (nodes .entry)) types lists (parserOf (now (p .entry)))) (code (now (nodes .exit)) types lists (parserOf (now (p .exit))))) ⌝ }
+// A field of a node.
+pub fn push_field(nodes: &mut [u32], p: &mut State, target: NodeId, name: Token) -> NodeId
+    ensures { λ r. ⌜ ((script types lists : List ℕ) →
+        let before = code (now (nodes .entry)) types lists (parserOf (now (p .entry))) in
+        let after = code (now (nodes .exit)) types lists (parserOf (now (p .exit))) in
+        Refines script 1 0 (pushNode (λ id. N.Field id target (lowToken name))) (λ i. i ≡ r)
+        stackUnchanged 0 0 0 before after) ⌝ }
 {
     push_record(
         nodes,
@@ -644,15 +737,20 @@ pub fn push_field(nodes: &mut [u32], p: &mut [u32; 17], target: NodeId, name: To
         NodeKind::FIELD,
         target.0,
         name.kind,
-        low(name.start),
-        low(name.len),
+        low_24_bits(name.start),
+        low_24_bits(name.len),
         0,
         0,
     )
 }
 
-pub fn push_let(nodes: &mut [u32], p: &mut [u32; 17], docs: Run, name: Token, rhs: NodeId) -> NodeId
-    ensures { λ r. ⌜ ((script types lists : List ℕ) → Refines script 1 0 (pushNode (λ id. N.Let id docs (lowToken name) rhs)) (λ i. i ≡ r) kept 0 0 0 (code (now (nodes .entry)) types lists (parserOf (now (p .entry)))) (code (now (nodes .exit)) types lists (parserOf (now (p .exit))))) ⌝ }
+// A let.
+pub fn push_let(nodes: &mut [u32], p: &mut State, docs: Run, name: Token, rhs: NodeId) -> NodeId
+    ensures { λ r. ⌜ ((script types lists : List ℕ) →
+        let before = code (now (nodes .entry)) types lists (parserOf (now (p .entry))) in
+        let after = code (now (nodes .exit)) types lists (parserOf (now (p .exit))) in
+        Refines script 1 0 (pushNode (λ id. N.Let id docs (lowToken name) rhs)) (λ i. i ≡ r)
+        stackUnchanged 0 0 0 before after) ⌝ }
 {
     push_record(
         nodes,
@@ -661,17 +759,22 @@ pub fn push_let(nodes: &mut [u32], p: &mut [u32; 17], docs: Run, name: Token, rh
         docs.start,
         docs.len,
         name.kind,
-        low(name.start),
-        low(name.len),
+        low_24_bits(name.start),
+        low_24_bits(name.len),
         rhs.0,
     )
 }
 
 // ---- lists
 
-// Cells of a list under construction, at the far end of the list table, where they lie in reverse: they are given the last first.
-pub fn push_cells(lists: &mut [u32], p: &mut [u32; 17], cells: &[u32])
-    ensures { λ r. ⌜ ((script nodes types : List ℕ) → Pushes script (2 * length (now (cells .entry))) (reverse (now (cells .entry))) (code nodes types (now (lists .entry)) (parserOf (now (p .entry)))) (code nodes types (now (lists .exit)) (parserOf (now (p .exit))))) ⌝ }
+// Cells of a list under construction, at the far end of the list table, where they lie in reverse:
+// they are given the last first.
+pub fn push_cells(lists: &mut [u32], p: &mut State, cells: &[u32])
+    ensures { λ r. ⌜ ((script nodes types : List ℕ) →
+        let before = code nodes types (now (lists .entry)) (parserOf (now (p .entry))) in
+        let after = code nodes types (now (lists .exit)) (parserOf (now (p .exit))) in
+        Pushes script (2 * length (now (cells .entry))) (reverse (now (cells .entry)))
+        before after) ⌝ }
 {
     if !going(p) {
         return;
@@ -698,32 +801,53 @@ pub fn push_cells(lists: &mut [u32], p: &mut [u32; 17], cells: &[u32])
     put(lists, lists.len() - n, cells);
 }
 
-pub fn push_cell(lists: &mut [u32], p: &mut [u32; 17], v: u32)
-    ensures { λ r. ⌜ ((script nodes types : List ℕ) → Pushes script 2 (v ∷ []) (code nodes types (now (lists .entry)) (parserOf (now (p .entry)))) (code nodes types (now (lists .exit)) (parserOf (now (p .exit))))) ⌝ }
+// One cell.
+pub fn push_cell(lists: &mut [u32], p: &mut State, v: u32)
+    ensures { λ r. ⌜ ((script nodes types : List ℕ) →
+        let before = code nodes types (now (lists .entry)) (parserOf (now (p .entry))) in
+        let after = code nodes types (now (lists .exit)) (parserOf (now (p .exit))) in
+        Pushes script 2 (v ∷ []) before after) ⌝ }
 {
     let cells = [v];
     push_cells(lists, p, &cells);
 }
 
-pub fn push_token(lists: &mut [u32], p: &mut [u32; 17], t: Token)
-    ensures { λ r. ⌜ ((script nodes types : List ℕ) → Pushes script 6 (tokenCells (lowToken t)) (code nodes types (now (lists .entry)) (parserOf (now (p .entry)))) (code nodes types (now (lists .exit)) (parserOf (now (p .exit))))) ⌝ }
+// A token.
+pub fn push_token(lists: &mut [u32], p: &mut State, t: Token)
+    ensures { λ r. ⌜ ((script nodes types : List ℕ) →
+        let before = code nodes types (now (lists .entry)) (parserOf (now (p .entry))) in
+        let after = code nodes types (now (lists .exit)) (parserOf (now (p .exit))) in
+        Pushes script 6 (tokenCells (lowToken t)) before after) ⌝ }
 {
-    let cells = [low(t.len), low(t.start), t.kind];
+    let cells = [low_24_bits(t.len), low_24_bits(t.start), t.kind];
     push_cells(lists, p, &cells);
 }
 
 // A name, and the number of the type or node that goes with it.
-pub fn push_named(lists: &mut [u32], p: &mut [u32; 17], name: Token, id: u32)
-    ensures { λ r. ⌜ ((script nodes types : List ℕ) → Pushes script 8 (tokenCells (lowToken name) ++ (id ∷ [])) (code nodes types (now (lists .entry)) (parserOf (now (p .entry)))) (code nodes types (now (lists .exit)) (parserOf (now (p .exit))))) ⌝ }
+pub fn push_named(lists: &mut [u32], p: &mut State, name: Token, id: u32)
+    ensures { λ r. ⌜ ((script nodes types : List ℕ) →
+        let before = code nodes types (now (lists .entry)) (parserOf (now (p .entry))) in
+        let after = code nodes types (now (lists .exit)) (parserOf (now (p .exit))) in
+        Pushes script 8 (tokenCells (lowToken name) ++ (id ∷ [])) before after) ⌝ }
 {
-    let cells = [id, low(name.len), low(name.start), name.kind];
+    let cells = [
+        id,
+        low_24_bits(name.len),
+        low_24_bits(name.start),
+        name.kind,
+    ];
     push_cells(lists, p, &cells);
 }
 
 // The cells of a list move from the far end, where they lie in reverse, to the front.
 fn move_list(part: &mut [u32], n: usize, scratch: usize)
     requires { ⌜ (n ≤ scratch) × (n + scratch ≤ length (now part)) ⌝ }
-    ensures { λ r. ⌜ ((top base : List ℕ) (z : ℕ) → now (part .entry) ≡ replicate z 0 ++ (reverse top ++ base) → length top ≡ n → length base + n ≡ scratch → n ≤ z → now (part .exit) ≡ top ++ (replicate z 0 ++ base)) ⌝ }
+    ensures { λ r. ⌜ ((top base : List ℕ) (z : ℕ) →
+        now (part .entry) ≡ replicate z 0 ++ (reverse top ++ base)
+        → length top ≡ n
+        → length base + n ≡ scratch
+        → n ≤ z
+        → now (part .exit) ≡ top ++ (replicate z 0 ++ base)) ⌝ }
 {
     let mut i = 0;
     while i < n {
@@ -735,8 +859,12 @@ fn move_list(part: &mut [u32], n: usize, scratch: usize)
 }
 
 // The cells above the mark become a list.
-pub fn alloc_slice(lists: &mut [u32], p: &mut [u32; 17], mark: u32, members: u32) -> Run
-    ensures { λ r. ⌜ ((script nodes types : List ℕ) → Lists script allocSlice r 0 0 0 mark members (code nodes types (now (lists .entry)) (parserOf (now (p .entry)))) (code nodes types (now (lists .exit)) (parserOf (now (p .exit))))) × (r .len ≤ 65536) ⌝ }
+pub fn alloc_slice(lists: &mut [u32], p: &mut State, mark: u32, members: u32) -> Run
+    ensures { λ r. ⌜ ((script nodes types : List ℕ) →
+        let before = code nodes types (now (lists .entry)) (parserOf (now (p .entry))) in
+        let after = code nodes types (now (lists .exit)) (parserOf (now (p .exit))) in
+        Lists script allocSlice r 0 0 0 mark members before after)
+        × (r .len ≤ 65536) ⌝ }
 {
     let none = Run { start: 0, len: 0 };
     if !going(p) {
@@ -779,16 +907,21 @@ pub fn alloc_slice(lists: &mut [u32], p: &mut [u32; 17], mark: u32, members: u32
     }
 }
 
+// The end of a list: the closing token, then `alloc_slice`.
 pub fn close(
     script: &[u8],
     lists: &mut [u32],
-    p: &mut [u32; 17],
+    p: &mut State,
     stop: u32,
     mark: u32,
     members: u32,
 ) -> Run
     requires { ⌜ 1 < stop ⌝ }
-    ensures { λ r. ⌜ ((nodes types : List ℕ) → Lists (now (script .entry)) (closed stop) r 1 1 8 mark members (code nodes types (now (lists .entry)) (parserOf (now (p .entry)))) (code nodes types (now (lists .exit)) (parserOf (now (p .exit))))) × (r .len ≤ 65536) ⌝ }
+    ensures { λ r. ⌜ ((nodes types : List ℕ) →
+        let before = code nodes types (now (lists .entry)) (parserOf (now (p .entry))) in
+        let after = code nodes types (now (lists .exit)) (parserOf (now (p .exit))) in
+        Lists (now (script .entry)) (closed stop) r 1 1 8 mark members before after)
+        × (r .len ≤ 65536) ⌝ }
 {
     expect(script, p, stop);
     alloc_slice(lists, p, mark, members)
@@ -796,9 +929,13 @@ pub fn close(
 
 // ---- docs
 
-// A doc waits, at the far end of the type array.
-fn push_doc(types: &mut [u32], p: &mut [u32; 17], d: Token)
-    ensures { λ r. ⌜ ((script nodes lists : List ℕ) (n : ℕ) → Refines script 1 3 (keepDoc n (lowToken d)) (λ t. t ≡ continue n) kept 0 0 0 (code nodes (now (types .entry)) lists (parserOf (now (p .entry)))) (code nodes (now (types .exit)) lists (parserOf (now (p .exit))))) ⌝ }
+// A pending doc, at the far end of the type array.
+fn push_doc(types: &mut [u32], p: &mut State, d: Token)
+    ensures { λ r. ⌜ ((script nodes lists : List ℕ) (n : ℕ) →
+        let before = code nodes (now (types .entry)) lists (parserOf (now (p .entry))) in
+        let after = code nodes (now (types .exit)) lists (parserOf (now (p .exit))) in
+        Refines script 1 3 (keepDoc n (lowToken d)) (λ t. t ≡ continue n) stackUnchanged 0 0 0
+        before after) ⌝ }
 {
     if !going(p) {
         return;
@@ -823,12 +960,17 @@ fn push_doc(types: &mut [u32], p: &mut [u32; 17], d: Token)
         },
     );
     let at = types.len() - (3 * n as usize + 3);
-    let cells = [low(d.len), low(d.start), d.kind];
+    let cells = [low_24_bits(d.len), low_24_bits(d.start), d.kind];
     put(types, at, &cells);
 }
 
-pub fn collect_docs(script: &[u8], types: &mut [u32], p: &mut [u32; 17])
-    ensures { λ r. ⌜ ((nodes lists : List ℕ) → Refines (now (script .entry)) 0 0 collectDocs (λ n. n ≡ 0) kept 0 0 0 (code nodes (now (types .entry)) lists (parserOf (now (p .entry)))) (code nodes (now (types .exit)) lists (parserOf (now (p .exit))))) ⌝ }
+// The docs that stand next are pending.
+pub fn collect_docs(script: &[u8], types: &mut [u32], p: &mut State)
+    ensures { λ r. ⌜ ((nodes lists : List ℕ) →
+        let before = code nodes (now (types .entry)) lists (parserOf (now (p .entry))) in
+        let after = code nodes (now (types .exit)) lists (parserOf (now (p .exit))) in
+        Refines (now (script .entry)) 0 0 collectDocs (λ n. n ≡ 0) stackUnchanged 0 0 0
+        before after) ⌝ }
 {
     while doc_follows(p) {
         let d = current(p);
@@ -840,7 +982,14 @@ pub fn collect_docs(script: &[u8], types: &mut [u32], p: &mut [u32; 17])
 // The last `n` cells of one array go into another, the last first, and are cleared.
 fn move_docs(src: &mut [u32], dst: &mut [u32], at: usize, n: usize)
     requires { ⌜ (n ≤ length (now src)) × (at + n ≤ length (now dst)) ⌝ }
-    ensures { λ r. ⌜ ((top front cells back : List ℕ) (z : ℕ) → now (src .entry) ≡ front ++ reverse top → length top ≡ n → now (dst .entry) ≡ cells ++ (replicate z 0 ++ back) → length cells ≡ at → n ≤ z → (now (src .exit) ≡ front ++ replicate n 0) × (now (dst .exit) ≡ (cells ++ top) ++ (replicate (z - n) 0 ++ back))) ⌝ }
+    ensures { λ r. ⌜ ((top front cells back : List ℕ) (z : ℕ) →
+        now (src .entry) ≡ front ++ reverse top
+        → length top ≡ n
+        → now (dst .entry) ≡ cells ++ (replicate z 0 ++ back)
+        → length cells ≡ at
+        → n ≤ z
+        → (now (src .exit) ≡ front ++ replicate n 0)
+        × (now (dst .exit) ≡ (cells ++ top) ++ (replicate (z - n) 0 ++ back))) ⌝ }
 {
     let mut i = 0;
     while i < n {
@@ -851,9 +1000,14 @@ fn move_docs(src: &mut [u32], dst: &mut [u32], at: usize, n: usize)
     }
 }
 
-// The docs that wait become a list.
-pub fn take_docs(types: &mut [u32], lists: &mut [u32], p: &mut [u32; 17]) -> Run
-    ensures { λ r. ⌜ ((script nodes : List ℕ) → Refines script 0 0 takeDocs (λ t. t ≡ r) kept 0 0 0 (code nodes (now (types .entry)) (now (lists .entry)) (parserOf (now (p .entry)))) (code nodes (now (types .exit)) (now (lists .exit)) (parserOf (now (p .exit))))) × (parserOf (now (p .exit)) .cur ≡ parserOf (now (p .entry)) .cur) ⌝ }
+// The pending docs become a list.
+pub fn take_docs(types: &mut [u32], lists: &mut [u32], p: &mut State) -> Run
+    ensures { λ r. ⌜ ((script nodes : List ℕ) →
+        let before = code nodes (now (types .entry)) (now (lists .entry))
+        (parserOf (now (p .entry))) in
+        let after = code nodes (now (types .exit)) (now (lists .exit)) (parserOf (now (p .exit))) in
+        Refines script 0 0 takeDocs (λ t. t ≡ r) stackUnchanged 0 0 0 before after)
+        × (parserOf (now (p .exit)) .cur ≡ parserOf (now (p .entry)) .cur) ⌝ }
 {
     let none = Run { start: 0, len: 0 };
     if !going(p) {
@@ -894,9 +1048,10 @@ pub fn take_docs(types: &mut [u32], lists: &mut [u32], p: &mut [u32; 17]) -> Run
     }
 }
 
+// A pending doc, whose cells lie the last first.
 fn doc_at(types: &[u32], at: usize) -> Token
     requires { ⌜ at + 3 ≤ length (now types) ⌝ }
-    ensures { λ r. ⌜ r ≡ tokenAt (now (types .entry)) at ⌝ }
+    ensures { λ r. ⌜ r ≡ docAt (now (types .entry)) at ⌝ }
 {
     Token {
         kind: types[at + 2],
@@ -905,9 +1060,13 @@ fn doc_at(types: &[u32], at: usize) -> Token
     }
 }
 
-// The reading fails where docs wait: at the last of them where the script ends, else at the first.
-pub fn require_no_docs(types: &[u32], p: &mut [u32; 17])
-    ensures { λ r. ⌜ ((script nodes lists : List ℕ) → Refines script 0 0 noDocsWait (λ n. n ≡ 0) kept 0 0 0 (code nodes (now (types .entry)) lists (parserOf (now (p .entry)))) (code nodes (now (types .entry)) lists (parserOf (now (p .exit))))) ⌝ }
+// The reading fails where there are pending docs: at the last of them where the script ends, else
+// at the first.
+pub fn require_no_docs(types: &[u32], p: &mut State)
+    ensures { λ r. ⌜ ((script nodes lists : List ℕ) →
+        let before = code nodes (now (types .entry)) lists (parserOf (now (p .entry))) in
+        let after = code nodes (now (types .entry)) lists (parserOf (now (p .exit))) in
+        Refines script 0 0 noDocsWait (λ n. n ≡ 0) stackUnchanged 0 0 0 before after) ⌝ }
 {
     if !going(p) {
         return;

@@ -12,7 +12,7 @@ use Rattle.rules.specs.Combinators.{choose, failExpecting, Readers}
 use Rattle.rules.specs.Rules.{readers, parseType, typeByKind, atomType}
 use Rattle.rules.specs.declared.TypeExprId.{TypeExprId}
 use Rattle.parser_state.specs.Represents.{Code}
-use Rattle.parser_state.specs.Refines.{Refines, Refuses, kept, deeper}
+use Rattle.parser_state.specs.Refines.{Refines, Refuses, stackUnchanged, deeper}
 use Rattle.parser_state.proofs.Steps.{either, at-kind, refused}
 
 deeper-zero : (script : List ℕ) (levels : ℕ) → levels ≡ 0 → deeper script levels .type ≡ failExpecting 10 0
@@ -60,19 +60,19 @@ module _ (below : Readers) (k : ℕ) where
       break n p q e = ⊎-elim (λ w. omega arith) (λ w. omega arith) h
 
 module _ {script : List ℕ} {Q : TypeExprId → Type 0} {d r′ l′ : ℕ} {s s′ : Code} (levels : ℕ) where
-  pub too-deep : levels ≡ 0 → Refuses script 10 0 s s′ → Refines script 0 0 (deeper script levels .type) Q kept d r′ l′ s s′
+  pub too-deep : levels ≡ 0 → Refuses script 10 0 s s′ → Refines script 0 0 (deeper script levels .type) Q stackUnchanged d r′ l′ s s′
   too-deep e p = rw (deeper-zero script levels e) (refused p)
 
 module _ {script : List ℕ} {Q : TypeExprId → Type 0} {r l d r′ l′ : ℕ} {s s′ : Code} (levels : ℕ) where
-  pub type-at : (kind : ℕ) → (levels ≡ 0 → ⊥) → Refines script r l (typeByKind (deeper script (levels - 1)) kind) Q kept d r′ l′ s s′ → s .parser .cur .kind ≡ kind
-      → Refines script r l (deeper script levels .type) Q kept d r′ l′ s s′
+  pub type-at : (kind : ℕ) → (levels ≡ 0 → ⊥) → Refines script r l (typeByKind (deeper script (levels - 1)) kind) Q stackUnchanged d r′ l′ s s′ → s .parser .cur .kind ≡ kind
+      → Refines script r l (deeper script levels .type) Q stackUnchanged d r′ l′ s s′
   unfolding parseType
   type-at kind f p e = rw (deeper-suc script levels f) (at-kind _ kind p e)
 
-  pub type-atom : {k : ℕ} → (levels ≡ 0 → ⊥) → Refines script r l atomType Q kept d r′ l′ s s′ → k ≡ s .parser .cur .kind → kStr ≤ k → k < kOption → Refines script r l (deeper script levels .type) Q kept d r′ l′ s s′
+  pub type-atom : {k : ℕ} → (levels ≡ 0 → ⊥) → Refines script r l atomType Q stackUnchanged d r′ l′ s s′ → k ≡ s .parser .cur .kind → kStr ≤ k → k < kOption → Refines script r l (deeper script levels .type) Q stackUnchanged d r′ l′ s s′
   type-atom {k} f p e a b = type-at k f (rw (of-atom (deeper script (levels - 1)) k a b) p) (sym e)
 
 module _ {script : List ℕ} {Q : TypeExprId → Type 0} {d r′ l′ : ℕ} {s s′ : Code} (levels : ℕ) where
   pub type-none : {k : ℕ} → (levels ≡ 0 → ⊥) → Refuses script 23 0 s s′ → k ≡ s .parser .cur .kind → (k < kStr) ⊎ (kVoid < k) → (k ≡ kOption → ⊥) → (k ≡ kArray → ⊥) → (k ≡ kForeign → ⊥) → (k ≡ kRecord → ⊥)
-      → Refines script 0 0 (deeper script levels .type) Q kept d r′ l′ s s′
+      → Refines script 0 0 (deeper script levels .type) Q stackUnchanged d r′ l′ s s′
   type-none {k} f p e h a b c d = type-at levels k f (rw (of-none (deeper script (levels - 1)) k h a b c d) (refused p)) (sym e)

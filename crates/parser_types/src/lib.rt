@@ -1,6 +1,8 @@
-// The readers of parser.rs that read no item and no expression: types, arguments, imports and externs.
+// The readers of parser.rs that read no item and no expression: types, arguments, imports and
+// externs.
 use lex::Token;
 use lex::Type;
+use parser_state::State;
 use parser_state::WideNode;
 use parser_state::advance;
 use parser_state::alloc_slice;
@@ -12,7 +14,7 @@ use parser_state::expect_ident;
 use parser_state::fail_expecting;
 use parser_state::get_used;
 use parser_state::kind;
-use parser_state::low;
+use parser_state::low_24_bits;
 use parser_state::member_follows;
 use parser_state::push_cells;
 use parser_state::push_named;
@@ -34,32 +36,45 @@ ghost use Rattle.lex.specs.Kind.{kCurlyRight};
 ghost use Rattle.rules.specs.Combinators.{listUntil, tokenCells, runCells};
 ghost use Rattle.rules.specs.Rules.{openAngle, atomType, foreignType, optionType, arrayType, recordType, typedName, suppliedVoid, fnReturn, externReturn, parseArgs, importPath, bracketedPaths, onePath, importPaths, parseImport, externFn, parseExtern, externName};
 ghost use Rattle.parser_state.specs.Represents.{parserOf, code, lowToken};
-ghost use Rattle.parser_state.specs.Refines.{Refines, kept, Takes, ReadsType, ReadsNode, ReadsList, ReadsMember, Pushes, deeper};
+ghost use Rattle.parser_state.specs.Refines.{Refines, stackUnchanged, Takes, ReadsType, ReadsNode, ReadsList, ReadsMember, Pushes, deeper};
 ghost use Rattle.parser_types.specs.Paths.{ReadsPaths};
 
 // ---- types
 
-fn open_angle(script: &[u8], p: &mut [u32; 17], number: u32)
+// The word and the `<` of a type, `number` being the error where `>` follows.
+fn open_angle(script: &[u8], p: &mut State, number: u32)
     requires { ⌜ 1 < parserOf (now p) .cur .kind ⌝ }
-    ensures { λ r. ⌜ ((nodes types lists : List ℕ) → Refines (now (script .entry)) 0 0 (openAngle number) (λ n. n ≡ 0) kept 2 2 16 (code nodes types lists (parserOf (now (p .entry)))) (code nodes types lists (parserOf (now (p .exit))))) ⌝ }
+    ensures { λ r. ⌜ ((nodes types lists : List ℕ) →
+        let before = code nodes types lists (parserOf (now (p .entry))) in
+        let after = code nodes types lists (parserOf (now (p .exit))) in
+        Refines (now (script .entry)) 0 0 (openAngle number) (λ n. n ≡ 0) stackUnchanged 2 2 16
+        before after) ⌝ }
 {
     advance(script, p);
     expect(script, p, Type::LESS_THAN);
     reject_kind(p, Type::GREATER_THAN, number);
 }
 
-fn atom_type(script: &[u8], types: &mut [u32], p: &mut [u32; 17]) -> TypeExprId
+// A type = atom-type
+fn atom_type(script: &[u8], types: &mut [u32], p: &mut State) -> TypeExprId
     requires { ⌜ 1 < parserOf (now p) .cur .kind ⌝ }
-    ensures { λ r. ⌜ ((nodes lists : List ℕ) → ReadsType (now (script .entry)) atomType (code nodes (now (types .entry)) lists (parserOf (now (p .entry)))) (code nodes (now (types .exit)) lists (parserOf (now (p .exit)))) r) ⌝ }
+    ensures { λ r. ⌜ ((nodes lists : List ℕ) →
+        let before = code nodes (now (types .entry)) lists (parserOf (now (p .entry))) in
+        let after = code nodes (now (types .exit)) lists (parserOf (now (p .exit))) in
+        ReadsType (now (script .entry)) atomType before after r) ⌝ }
 {
     let t = current(p);
     advance(script, p);
     push_type(types, p, TypeExpr::Atom(t))
 }
 
-fn foreign_type(script: &[u8], types: &mut [u32], p: &mut [u32; 17]) -> TypeExprId
+// A type = "Foreign" "<" ident ">"
+fn foreign_type(script: &[u8], types: &mut [u32], p: &mut State) -> TypeExprId
     requires { ⌜ 1 < parserOf (now p) .cur .kind ⌝ }
-    ensures { λ r. ⌜ ((nodes lists : List ℕ) → ReadsType (now (script .entry)) foreignType (code nodes (now (types .entry)) lists (parserOf (now (p .entry)))) (code nodes (now (types .exit)) lists (parserOf (now (p .exit)))) r) ⌝ }
+    ensures { λ r. ⌜ ((nodes lists : List ℕ) →
+        let before = code nodes (now (types .entry)) lists (parserOf (now (p .entry))) in
+        let after = code nodes (now (types .exit)) lists (parserOf (now (p .exit))) in
+        ReadsType (now (script .entry)) foreignType before after r) ⌝ }
 {
     open_angle(script, p, 20);
     let name = current(p);
@@ -68,15 +83,21 @@ fn foreign_type(script: &[u8], types: &mut [u32], p: &mut [u32; 17]) -> TypeExpr
     push_type(types, p, TypeExpr::Foreign(name))
 }
 
+// A type = "Option" "<" type ">"
 fn option_type(
     script: &[u8],
     types: &mut [u32],
     lists: &mut [u32],
-    p: &mut [u32; 17],
+    p: &mut State,
     levels: usize,
 ) -> TypeExprId
     requires { ⌜ 1 < parserOf (now p) .cur .kind ⌝ }
-    ensures { λ r. ⌜ ((nodes : List ℕ) → ReadsType (now (script .entry)) (optionType (deeper (now (script .entry)) levels)) (code nodes (now (types .entry)) (now (lists .entry)) (parserOf (now (p .entry)))) (code nodes (now (types .exit)) (now (lists .exit)) (parserOf (now (p .exit)))) r) ⌝ }
+    ensures { λ r. ⌜ ((nodes : List ℕ) →
+        let before = code nodes (now (types .entry)) (now (lists .entry))
+        (parserOf (now (p .entry))) in
+        let after = code nodes (now (types .exit)) (now (lists .exit)) (parserOf (now (p .exit))) in
+        ReadsType (now (script .entry)) (optionType (deeper (now (script .entry)) levels))
+        before after r) ⌝ }
 {
     open_angle(script, p, 21);
     let id = parse_type(script, types, lists, p, levels);
@@ -84,15 +105,21 @@ fn option_type(
     push_type(types, p, TypeExpr::Option(id))
 }
 
+// A type = "Array" "<" type ">"
 fn array_type(
     script: &[u8],
     types: &mut [u32],
     lists: &mut [u32],
-    p: &mut [u32; 17],
+    p: &mut State,
     levels: usize,
 ) -> TypeExprId
     requires { ⌜ 1 < parserOf (now p) .cur .kind ⌝ }
-    ensures { λ r. ⌜ ((nodes : List ℕ) → ReadsType (now (script .entry)) (arrayType (deeper (now (script .entry)) levels)) (code nodes (now (types .entry)) (now (lists .entry)) (parserOf (now (p .entry)))) (code nodes (now (types .exit)) (now (lists .exit)) (parserOf (now (p .exit)))) r) ⌝ }
+    ensures { λ r. ⌜ ((nodes : List ℕ) →
+        let before = code nodes (now (types .entry)) (now (lists .entry))
+        (parserOf (now (p .entry))) in
+        let after = code nodes (now (types .exit)) (now (lists .exit)) (parserOf (now (p .exit))) in
+        ReadsType (now (script .entry)) (arrayType (deeper (now (script .entry)) levels))
+        before after r) ⌝ }
 {
     open_angle(script, p, 22);
     let id = parse_type(script, types, lists, p, levels);
@@ -100,8 +127,14 @@ fn array_type(
     push_type(types, p, TypeExpr::Array(id))
 }
 
-fn field(script: &[u8], types: &mut [u32], lists: &mut [u32], p: &mut [u32; 17], levels: usize)
-    ensures { λ r. ⌜ ((nodes : List ℕ) → ReadsMember (now (script .entry)) (typedName (deeper (now (script .entry)) levels)) (code nodes (now (types .entry)) (now (lists .entry)) (parserOf (now (p .entry)))) (code nodes (now (types .exit)) (now (lists .exit)) (parserOf (now (p .exit))))) ⌝ }
+// A name and its type = ident ":" type
+fn typed_name(script: &[u8], types: &mut [u32], lists: &mut [u32], p: &mut State, levels: usize)
+    ensures { λ r. ⌜ ((nodes : List ℕ) →
+        let before = code nodes (now (types .entry)) (now (lists .entry))
+        (parserOf (now (p .entry))) in
+        let after = code nodes (now (types .exit)) (now (lists .exit)) (parserOf (now (p .exit))) in
+        ReadsMember (now (script .entry)) (typedName (deeper (now (script .entry)) levels))
+        before after) ⌝ }
 {
     let name = current(p);
     expect_ident(script, p);
@@ -110,51 +143,71 @@ fn field(script: &[u8], types: &mut [u32], lists: &mut [u32], p: &mut [u32; 17],
     push_named(lists, p, name, id.0);
 }
 
-fn fields(
+// (ident ":" type)*, up to a closing token.
+fn typed_names(
     script: &[u8],
     types: &mut [u32],
     lists: &mut [u32],
-    p: &mut [u32; 17],
+    p: &mut State,
     stop: u32,
     levels: usize,
 ) -> Run
     requires { ⌜ 1 < stop ⌝ }
-    ensures { λ r. ⌜ ((nodes : List ℕ) → ReadsList (now (script .entry)) (listUntil stop (typedName (deeper (now (script .entry)) levels))) (code nodes (now (types .entry)) (now (lists .entry)) (parserOf (now (p .entry)))) (code nodes (now (types .exit)) (now (lists .exit)) (parserOf (now (p .exit)))) r) × (r .len ≤ 65536) ⌝ }
+    ensures { λ r. ⌜ ((nodes : List ℕ) →
+        let before = code nodes (now (types .entry)) (now (lists .entry))
+        (parserOf (now (p .entry))) in
+        let after = code nodes (now (types .exit)) (now (lists .exit)) (parserOf (now (p .exit))) in
+        ReadsList (now (script .entry))
+        (listUntil stop (typedName (deeper (now (script .entry)) levels))) before after r)
+        × (r .len ≤ 65536) ⌝ }
 {
     let mark = get_used(p).scratch;
     let mut members: u32 = 0;
     while member_follows(p, stop) {
-        field(script, types, lists, p, levels);
+        typed_name(script, types, lists, p, levels);
         members = std::num::wrapping_add_u32(members, 1);
     }
     close(script, lists, p, stop, mark, members)
 }
 
+// A type = "Record" "<" (ident ":" type)* ">"
 fn record_type(
     script: &[u8],
     types: &mut [u32],
     lists: &mut [u32],
-    p: &mut [u32; 17],
+    p: &mut State,
     levels: usize,
 ) -> TypeExprId
     requires { ⌜ 1 < parserOf (now p) .cur .kind ⌝ }
-    ensures { λ r. ⌜ ((nodes : List ℕ) → ReadsType (now (script .entry)) (recordType (deeper (now (script .entry)) levels)) (code nodes (now (types .entry)) (now (lists .entry)) (parserOf (now (p .entry)))) (code nodes (now (types .exit)) (now (lists .exit)) (parserOf (now (p .exit)))) r) ⌝ }
+    ensures { λ r. ⌜ ((nodes : List ℕ) →
+        let before = code nodes (now (types .entry)) (now (lists .entry))
+        (parserOf (now (p .entry))) in
+        let after = code nodes (now (types .exit)) (now (lists .exit)) (parserOf (now (p .exit))) in
+        ReadsType (now (script .entry)) (recordType (deeper (now (script .entry)) levels))
+        before after r) ⌝ }
 {
     let src = current(p);
     advance(script, p);
     expect(script, p, Type::LESS_THAN);
-    let run = fields(script, types, lists, p, Type::GREATER_THAN, levels);
+    let run = typed_names(script, types, lists, p, Type::GREATER_THAN, levels);
     push_type(types, p, TypeExpr::Record { src, fields: run })
 }
 
+// type = atom-type | "Foreign" "<" ident ">" | "Option" "<" type ">" | "Array" "<" type ">" |
+// "Record" "<" (ident ":" type)* ">"
 pub fn parse_type(
     script: &[u8],
     types: &mut [u32],
     lists: &mut [u32],
-    p: &mut [u32; 17],
+    p: &mut State,
     levels: usize,
 ) -> TypeExprId
-    ensures { λ r. ⌜ ((nodes : List ℕ) → ReadsType (now (script .entry)) (deeper (now (script .entry)) levels .type) (code nodes (now (types .entry)) (now (lists .entry)) (parserOf (now (p .entry)))) (code nodes (now (types .exit)) (now (lists .exit)) (parserOf (now (p .exit)))) r) ⌝ }
+    ensures { λ r. ⌜ ((nodes : List ℕ) →
+        let before = code nodes (now (types .entry)) (now (lists .entry))
+        (parserOf (now (p .entry))) in
+        let after = code nodes (now (types .exit)) (now (lists .exit)) (parserOf (now (p .exit))) in
+        ReadsType (now (script .entry)) (deeper (now (script .entry)) levels .type)
+        before after r) ⌝ }
 {
     if levels == 0 {
         fail_expecting(p, 10, 0);
@@ -179,8 +232,12 @@ pub fn parse_type(
 
 // ---- arguments and return types
 
-fn supplied_void(types: &mut [u32], p: &mut [u32; 17]) -> TypeExprId
-    ensures { λ r. ⌜ ((script nodes lists : List ℕ) → Refines script 1 0 suppliedVoid (λ t. t ≡ r) kept 0 0 0 (code nodes (now (types .entry)) lists (parserOf (now (p .entry)))) (code nodes (now (types .exit)) lists (parserOf (now (p .exit))))) ⌝ }
+// A Void that the script leaves out, at the next token.
+fn supplied_void(types: &mut [u32], p: &mut State) -> TypeExprId
+    ensures { λ r. ⌜ ((script nodes lists : List ℕ) →
+        let before = code nodes (now (types .entry)) lists (parserOf (now (p .entry))) in
+        let after = code nodes (now (types .exit)) lists (parserOf (now (p .exit))) in
+        Refines script 1 0 suppliedVoid (λ t. t ≡ r) stackUnchanged 0 0 0 before after) ⌝ }
 {
     let at = current(p).start;
     push_type(
@@ -194,14 +251,20 @@ fn supplied_void(types: &mut [u32], p: &mut [u32; 17]) -> TypeExprId
     )
 }
 
+// The return type of a fn, Void where a `{` follows.
 pub fn fn_return(
     script: &[u8],
     types: &mut [u32],
     lists: &mut [u32],
-    p: &mut [u32; 17],
+    p: &mut State,
     levels: usize,
 ) -> TypeExprId
-    ensures { λ r. ⌜ ((nodes : List ℕ) → Refines (now (script .entry)) 1 0 (fnReturn (deeper (now (script .entry)) levels)) (λ t. t ≡ r) kept 0 0 0 (code nodes (now (types .entry)) (now (lists .entry)) (parserOf (now (p .entry)))) (code nodes (now (types .exit)) (now (lists .exit)) (parserOf (now (p .exit))))) ⌝ }
+    ensures { λ r. ⌜ ((nodes : List ℕ) →
+        let before = code nodes (now (types .entry)) (now (lists .entry))
+        (parserOf (now (p .entry))) in
+        let after = code nodes (now (types .exit)) (now (lists .exit)) (parserOf (now (p .exit))) in
+        Refines (now (script .entry)) 1 0 (fnReturn (deeper (now (script .entry)) levels))
+        (λ t. t ≡ r) stackUnchanged 0 0 0 before after) ⌝ }
 {
     if kind(p) == Type::CURLY_LEFT {
         supplied_void(types, p)
@@ -210,14 +273,20 @@ pub fn fn_return(
     }
 }
 
+// The return type in an extern, Void where a `}` or a `fn` follows.
 fn extern_return(
     script: &[u8],
     types: &mut [u32],
     lists: &mut [u32],
-    p: &mut [u32; 17],
+    p: &mut State,
     levels: usize,
 ) -> TypeExprId
-    ensures { λ r. ⌜ ((nodes : List ℕ) → Refines (now (script .entry)) 1 0 (externReturn (deeper (now (script .entry)) levels)) (λ t. t ≡ r) kept 0 0 0 (code nodes (now (types .entry)) (now (lists .entry)) (parserOf (now (p .entry)))) (code nodes (now (types .exit)) (now (lists .exit)) (parserOf (now (p .exit))))) ⌝ }
+    ensures { λ r. ⌜ ((nodes : List ℕ) →
+        let before = code nodes (now (types .entry)) (now (lists .entry))
+        (parserOf (now (p .entry))) in
+        let after = code nodes (now (types .exit)) (now (lists .exit)) (parserOf (now (p .exit))) in
+        Refines (now (script .entry)) 1 0 (externReturn (deeper (now (script .entry)) levels))
+        (λ t. t ≡ r) stackUnchanged 0 0 0 before after) ⌝ }
 {
     if kind(p) == Type::CURLY_RIGHT {
         return supplied_void(types, p);
@@ -228,23 +297,34 @@ fn extern_return(
     parse_type(script, types, lists, p, levels)
 }
 
+// args = "(" (ident ":" type)* ")"
 pub fn parse_args(
     script: &[u8],
     types: &mut [u32],
     lists: &mut [u32],
-    p: &mut [u32; 17],
+    p: &mut State,
     levels: usize,
 ) -> Run
-    ensures { λ r. ⌜ ((nodes : List ℕ) → ReadsList (now (script .entry)) (parseArgs (deeper (now (script .entry)) levels)) (code nodes (now (types .entry)) (now (lists .entry)) (parserOf (now (p .entry)))) (code nodes (now (types .exit)) (now (lists .exit)) (parserOf (now (p .exit)))) r) × (r .len ≤ 65536) ⌝ }
+    ensures { λ r. ⌜ ((nodes : List ℕ) →
+        let before = code nodes (now (types .entry)) (now (lists .entry))
+        (parserOf (now (p .entry))) in
+        let after = code nodes (now (types .exit)) (now (lists .exit)) (parserOf (now (p .exit))) in
+        ReadsList (now (script .entry)) (parseArgs (deeper (now (script .entry)) levels))
+        before after r)
+        × (r .len ≤ 65536) ⌝ }
 {
     expect(script, p, Type::BRACE_LEFT);
-    fields(script, types, lists, p, Type::BRACE_RIGHT, levels)
+    typed_names(script, types, lists, p, Type::BRACE_RIGHT, levels)
 }
 
 // ---- imports
 
-fn import_path(script: &[u8], lists: &mut [u32], p: &mut [u32; 17])
-    ensures { λ r. ⌜ ((nodes types : List ℕ) → ReadsMember (now (script .entry)) importPath (code nodes types (now (lists .entry)) (parserOf (now (p .entry)))) (code nodes types (now (lists .exit)) (parserOf (now (p .exit))))) ⌝ }
+// A path of an import.
+fn import_path(script: &[u8], lists: &mut [u32], p: &mut State)
+    ensures { λ r. ⌜ ((nodes types : List ℕ) →
+        let before = code nodes types (now (lists .entry)) (parserOf (now (p .entry))) in
+        let after = code nodes types (now (lists .exit)) (parserOf (now (p .exit))) in
+        ReadsMember (now (script .entry)) importPath before after) ⌝ }
 {
     if kind(p) == Type::S {
         let t = current(p);
@@ -255,8 +335,12 @@ fn import_path(script: &[u8], lists: &mut [u32], p: &mut [u32; 17])
     }
 }
 
-fn bracketed_paths(script: &[u8], lists: &mut [u32], p: &mut [u32; 17]) -> u32
-    ensures { λ r. ⌜ ((nodes types : List ℕ) → ReadsPaths (now (script .entry)) bracketedPaths (code nodes types (now (lists .entry)) (parserOf (now (p .entry)))) (code nodes types (now (lists .exit)) (parserOf (now (p .exit)))) r) ⌝ }
+// Multiple package import: import ("io" "runtime")
+fn bracketed_paths(script: &[u8], lists: &mut [u32], p: &mut State) -> u32
+    ensures { λ r. ⌜ ((nodes types : List ℕ) →
+        let before = code nodes types (now (lists .entry)) (parserOf (now (p .entry))) in
+        let after = code nodes types (now (lists .exit)) (parserOf (now (p .exit))) in
+        ReadsPaths (now (script .entry)) bracketedPaths before after r) ⌝ }
 {
     expect(script, p, Type::BRACE_LEFT);
     let mut members: u32 = 0;
@@ -268,9 +352,13 @@ fn bracketed_paths(script: &[u8], lists: &mut [u32], p: &mut [u32; 17]) -> u32
     members
 }
 
-fn one_path(script: &[u8], lists: &mut [u32], p: &mut [u32; 17]) -> u32
+// Single package import: import "io"
+fn one_path(script: &[u8], lists: &mut [u32], p: &mut State) -> u32
     requires { ⌜ 1 < parserOf (now p) .cur .kind ⌝ }
-    ensures { λ r. ⌜ ((nodes types : List ℕ) → ReadsPaths (now (script .entry)) onePath (code nodes types (now (lists .entry)) (parserOf (now (p .entry)))) (code nodes types (now (lists .exit)) (parserOf (now (p .exit)))) r) ⌝ }
+    ensures { λ r. ⌜ ((nodes types : List ℕ) →
+        let before = code nodes types (now (lists .entry)) (parserOf (now (p .entry))) in
+        let after = code nodes types (now (lists .exit)) (parserOf (now (p .exit))) in
+        ReadsPaths (now (script .entry)) onePath before after r) ⌝ }
 {
     let t = current(p);
     advance(script, p);
@@ -278,8 +366,12 @@ fn one_path(script: &[u8], lists: &mut [u32], p: &mut [u32; 17]) -> u32
     1
 }
 
-fn import_paths(script: &[u8], lists: &mut [u32], p: &mut [u32; 17]) -> u32
-    ensures { λ r. ⌜ ((nodes types : List ℕ) → ReadsPaths (now (script .entry)) importPaths (code nodes types (now (lists .entry)) (parserOf (now (p .entry)))) (code nodes types (now (lists .exit)) (parserOf (now (p .exit)))) r) ⌝ }
+// The paths of an import, in brackets or not.
+fn import_paths(script: &[u8], lists: &mut [u32], p: &mut State) -> u32
+    ensures { λ r. ⌜ ((nodes types : List ℕ) →
+        let before = code nodes types (now (lists .entry)) (parserOf (now (p .entry))) in
+        let after = code nodes types (now (lists .exit)) (parserOf (now (p .exit))) in
+        ReadsPaths (now (script .entry)) importPaths before after r) ⌝ }
 {
     if kind(p) == Type::S {
         one_path(script, lists, p)
@@ -288,14 +380,14 @@ fn import_paths(script: &[u8], lists: &mut [u32], p: &mut [u32; 17]) -> u32
     }
 }
 
-pub fn parse_import(
-    script: &[u8],
-    nodes: &mut [u32],
-    lists: &mut [u32],
-    p: &mut [u32; 17],
-) -> NodeId
+// import = "import" string | "import" "(" string* ")"
+pub fn parse_import(script: &[u8], nodes: &mut [u32], lists: &mut [u32], p: &mut State) -> NodeId
     requires { ⌜ 1 < parserOf (now p) .cur .kind ⌝ }
-    ensures { λ r. ⌜ ((types : List ℕ) → ReadsNode (now (script .entry)) parseImport (code (now (nodes .entry)) types (now (lists .entry)) (parserOf (now (p .entry)))) (code (now (nodes .exit)) types (now (lists .exit)) (parserOf (now (p .exit)))) r) ⌝ }
+    ensures { λ r. ⌜ ((types : List ℕ) →
+        let before = code (now (nodes .entry)) types (now (lists .entry))
+        (parserOf (now (p .entry))) in
+        let after = code (now (nodes .exit)) types (now (lists .exit)) (parserOf (now (p .exit))) in
+        ReadsNode (now (script .entry)) parseImport before after r) ⌝ }
 {
     let src = current(p);
     advance(script, p);
@@ -307,22 +399,28 @@ pub fn parse_import(
 
 // ---- externs
 
+// The cells of a fn of an extern.
 fn push_extern_fn(
     lists: &mut [u32],
-    p: &mut [u32; 17],
+    p: &mut State,
     docs: Run,
     name: Token,
     args: Run,
     id: TypeExprId,
 )
-    ensures { λ q. ⌜ ((script nodes types : List ℕ) → Pushes script 16 (runCells docs ++ tokenCells (lowToken name) ++ runCells args ++ (id .0 ∷ [])) (code nodes types (now (lists .entry)) (parserOf (now (p .entry)))) (code nodes types (now (lists .exit)) (parserOf (now (p .exit))))) ⌝ }
+    ensures { λ q. ⌜ ((script nodes types : List ℕ) →
+        let before = code nodes types (now (lists .entry)) (parserOf (now (p .entry))) in
+        let after = code nodes types (now (lists .exit)) (parserOf (now (p .exit))) in
+        Pushes script 16
+        (runCells docs ++ tokenCells (lowToken name) ++ runCells args ++ (id .0 ∷ []))
+        before after) ⌝ }
 {
     let cells = [
         id.0,
         args.len,
         args.start,
-        low(name.len),
-        low(name.start),
+        low_24_bits(name.len),
+        low_24_bits(name.start),
         name.kind,
         docs.len,
         docs.start,
@@ -330,8 +428,14 @@ fn push_extern_fn(
     push_cells(lists, p, &cells);
 }
 
-fn extern_fn(script: &[u8], types: &mut [u32], lists: &mut [u32], p: &mut [u32; 17], levels: usize)
-    ensures { λ r. ⌜ ((nodes : List ℕ) → ReadsMember (now (script .entry)) (externFn (deeper (now (script .entry)) levels)) (code nodes (now (types .entry)) (now (lists .entry)) (parserOf (now (p .entry)))) (code nodes (now (types .exit)) (now (lists .exit)) (parserOf (now (p .exit))))) ⌝ }
+// A fn of an extern = doc* "fn" ident args type?
+fn extern_fn(script: &[u8], types: &mut [u32], lists: &mut [u32], p: &mut State, levels: usize)
+    ensures { λ r. ⌜ ((nodes : List ℕ) →
+        let before = code nodes (now (types .entry)) (now (lists .entry))
+        (parserOf (now (p .entry))) in
+        let after = code nodes (now (types .exit)) (now (lists .exit)) (parserOf (now (p .exit))) in
+        ReadsMember (now (script .entry)) (externFn (deeper (now (script .entry)) levels))
+        before after) ⌝ }
 {
     collect_docs(script, types, p);
     reject_kind(p, Type::EXTERN, 17);
@@ -344,14 +448,21 @@ fn extern_fn(script: &[u8], types: &mut [u32], lists: &mut [u32], p: &mut [u32; 
     push_extern_fn(lists, p, docs, name, args, id);
 }
 
+// (doc* "fn" ident args type?)* "}"
 fn extern_fns(
     script: &[u8],
     types: &mut [u32],
     lists: &mut [u32],
-    p: &mut [u32; 17],
+    p: &mut State,
     levels: usize,
 ) -> Run
-    ensures { λ r. ⌜ ((nodes : List ℕ) → ReadsList (now (script .entry)) (listUntil kCurlyRight (externFn (deeper (now (script .entry)) levels))) (code nodes (now (types .entry)) (now (lists .entry)) (parserOf (now (p .entry)))) (code nodes (now (types .exit)) (now (lists .exit)) (parserOf (now (p .exit)))) r) ⌝ }
+    ensures { λ r. ⌜ ((nodes : List ℕ) →
+        let before = code nodes (now (types .entry)) (now (lists .entry))
+        (parserOf (now (p .entry))) in
+        let after = code nodes (now (types .exit)) (now (lists .exit)) (parserOf (now (p .exit))) in
+        ReadsList (now (script .entry))
+        (listUntil kCurlyRight (externFn (deeper (now (script .entry)) levels)))
+        before after r) ⌝ }
 {
     let mark = get_used(p).scratch;
     let mut members: u32 = 0;
@@ -362,8 +473,11 @@ fn extern_fns(
     close(script, lists, p, Type::CURLY_RIGHT, mark, members)
 }
 
-fn extern_name(script: &[u8], p: &mut [u32; 17])
-    ensures { λ r. ⌜ Takes (now (script .entry)) externName (parserOf (now (p .entry))) (parserOf (now (p .exit))) ⌝ }
+// The string behind `extern`.
+fn extern_name(script: &[u8], p: &mut State)
+    ensures { λ r.
+        ⌜ Takes (now (script .entry)) externName (parserOf (now (p .entry)))
+        (parserOf (now (p .exit))) ⌝ }
 {
     if kind(p) == Type::S {
         advance(script, p);
@@ -372,15 +486,22 @@ fn extern_name(script: &[u8], p: &mut [u32; 17])
     }
 }
 
+// extern = "extern" string "{" (doc* "fn" ident args type?)* "}"
 pub fn parse_extern(
     script: &[u8],
     nodes: &mut [u32],
     types: &mut [u32],
     lists: &mut [u32],
-    p: &mut [u32; 17],
+    p: &mut State,
     levels: usize,
 ) -> NodeId
-    ensures { λ r. ⌜ ReadsNode (now (script .entry)) (parseExtern (deeper (now (script .entry)) levels)) (code (now (nodes .entry)) (now (types .entry)) (now (lists .entry)) (parserOf (now (p .entry)))) (code (now (nodes .exit)) (now (types .exit)) (now (lists .exit)) (parserOf (now (p .exit)))) r ⌝ }
+    ensures { λ r.
+        let before = code (now (nodes .entry)) (now (types .entry)) (now (lists .entry))
+        (parserOf (now (p .entry))) in
+        let after = code (now (nodes .exit)) (now (types .exit)) (now (lists .exit))
+        (parserOf (now (p .exit))) in
+        ⌜ ReadsNode (now (script .entry)) (parseExtern (deeper (now (script .entry)) levels))
+        before after r ⌝ }
 {
     let docs = take_docs(types, lists, p);
     let src = current(p);

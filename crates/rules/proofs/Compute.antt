@@ -69,7 +69,7 @@ unfolding
     Combinators._>>=_ Combinators._>>_ Combinators.pure Combinators.current Combinators.rest Combinators.cur Combinators.advance Combinators.struck Combinators.byKind Combinators.ifKind Combinators.choose Combinators.atToken Combinators.failExpecting Combinators.expect Combinators.expectIdent Combinators.rejectKind Combinators.withArena Combinators.pushNodeAnd Combinators.pushType Combinators.allocSlice Combinators.tokenCells Combinators.runCells Combinators.iterate Combinators.loop Combinators.members Combinators.listUntil Combinators.withDocs Combinators.collectDocs Combinators.takeDocs
     Rules.stageOne Rules.openAngle Rules.atomType Rules.foreignType Rules.suppliedVoid Rules.importPath Rules.bracketedPaths Rules.strikeSingle Rules.parseImport Rules.atom Rules.ident Rules.isCallableTarget Rules.callable Rules.fieldAccess Rules.breaksOff Rules.requireNoDocs Rules.noteAfterDefault Rules.nodeMember Rules.typedName Rules.optionType Rules.arrayType Rules.recordType Rules.typeByKind Rules.parseType Rules.parseBody Rules.parseArgs Rules.returnType Rules.parseLet Rules.parseFn Rules.externFn Rules.parseExtern Rules.defaultCase Rules.conditionCase Rules.nextCase Rules.parseMatch Rules.parsePrefix Rules.field Rules.recordLiteral Rules.arrayLiteral Rules.group Rules.unary Rules.operand Rules.call Rules.postfix Rules.cast Rules.binary Rules.infixes Rules.parseExpr Rules.readers
     Parse.begin Parse.synchronizeRoot Parse.merged Parse.parseRoots Parse.parse Parse.recover Parse.parseRootsCollect Parse.parseCollect
-    Spelling.spellingOffset Spelling.spellingStart Spelling.wellFormed Shape.wordOf Shape.word Shape.map₁ Shape.map₂ Shape.map₃ Shape.map₄ Shape.map₅ Shape.andThen Shape.decoded Shape.chain Shape.number Shape.token Shape.run Shape.resolve Shape.both Shape.items Shape.from Shape.listAt Shape.w Shape.wordIn Shape.paramIn Shape.fieldIn Shape.words Shape.params Shape.shapes Shape.fields Shape.caseIn Shape.cases Shape.fnIn Shape.fns Shape.typeShape Shape.nodeShape Shape.lookup Shape.tabulate Shape.typeIn Shape.typeAt Shape.nodeIn Shape.nodeAt Shape.shapesOf Shape.shapeOf
+    Spelling.spellingOffset Spelling.spellingStart Spelling.wellFormed Shape.wordOf Shape.word Shape.map₁ Shape.map₂ Shape.map₃ Shape.map₄ Shape.map₅ Shape.andThen Shape.decoded Shape.chain Shape.number Shape.token Shape.run Shape.resolve Shape.both Shape.items Shape.from Shape.listAt Shape.w Shape.wordIn Shape.paramIn Shape.fieldIn Shape.words Shape.params Shape.shapes Shape.fields Shape.caseIn Shape.cases Shape.fnIn Shape.fns Shape.typeShape Shape.nodeShape Shape.lookup Shape.tabulate Shape.typeIn Shape.typeShapeAt Shape.nodeIn Shape.nodeShapeAt Shape.shapesOf Shape.shapeOf
     Law.listed Law.nodeIn Law.typeIn Law.fieldIn Law.paramIn Law.caseIn Law.fnIn Law.childrenOf Law.innerOf Law.same Law.times Law.allOf Law.occurrences Law.argumentsOf Law.allArguments Law.resynchronisings Parents.isAmong Parents.parentFrom Parents.parentOf numbersTo namedIn
     Strike.keep Strike.noDocBeforeImport Strike.notesOf Strike.strike
 computedFrom script = record {

@@ -61,7 +61,7 @@ unfoldable pub turned : List Node → List ℕ → ℕ
 unfolding
     bytes flatten
     Bytes.or Bytes.between Spelling.spellingOffset Spelling.spellingStart
-    Spelling.wellFormed Shape.wordOf Shape.word Shape.map₁ Shape.map₂ Shape.map₃ Shape.map₄ Shape.map₅ Shape.andThen Shape.decoded Shape.chain Shape.number Shape.token Shape.run Shape.resolve Shape.both Shape.items Shape.from Shape.listAt Shape.w Shape.wordIn Shape.paramIn Shape.fieldIn Shape.words Shape.params Shape.shapes Shape.fields Shape.caseIn Shape.cases Shape.fnIn Shape.fns Shape.typeShape Shape.nodeShape Shape.lookup Shape.tabulate Shape.typeIn Shape.typeAt Shape.nodeIn Shape.nodeAt Shape.shapesOf Shape.shapeOf
+    Spelling.wellFormed Shape.wordOf Shape.word Shape.map₁ Shape.map₂ Shape.map₃ Shape.map₄ Shape.map₅ Shape.andThen Shape.decoded Shape.chain Shape.number Shape.token Shape.run Shape.resolve Shape.both Shape.items Shape.from Shape.listAt Shape.w Shape.wordIn Shape.paramIn Shape.fieldIn Shape.words Shape.params Shape.shapes Shape.fields Shape.caseIn Shape.cases Shape.fnIn Shape.fns Shape.typeShape Shape.nodeShape Shape.lookup Shape.tabulate Shape.typeIn Shape.typeShapeAt Shape.nodeIn Shape.nodeShapeAt Shape.shapesOf Shape.shapeOf
     Law.listed Law.nodeIn Law.typeIn Law.fieldIn Law.paramIn Law.caseIn Law.fnIn Law.childrenOf Law.innerOf Law.same Law.times Law.allOf Law.occurrences
     Parents.allBelow Parents.isSome Parents.sound Parents.onceEach Parents.turnedAway
 turned nodes roots = Parents.turnedAway (bytes "a") (record { arena = record { nodes = nodes; types = []; cells = 0 ∷ 0 ∷ []; values = 0 }; roots = roots })

@@ -7,7 +7,7 @@ use lib.Dec.{eqb, leb}
 use lib.ListN.{length, getD, take, drop}
 use Rattle.rules.specs.Tree.{Arena, Tree}
 use Rattle.rules.specs.Layout.{nodeWidth}
-use Rattle.rules.specs.Shape.{typeAt, nodeAt, shapeOf}
+use Rattle.rules.specs.Shape.{typeShapeAt, nodeShapeAt, shapeOf}
 use Rattle.rules.specs.Law.{Child, aNode, times, childrenOf, occurrences}
 use Rattle.rules.specs.declared.Node.{Node}
 
@@ -55,8 +55,8 @@ isSome (some a) = true
 unfoldable pub sound : List ℕ → Tree → Bool
 sound script t =
     let m = t .arena in
-    elim (allBelow (length (m .types)) (λ j. isSome (typeAt script m j))) [
-      | true ↦ elim (allBelow (length (m .nodes)) (λ i. isSome (nodeAt script m i))) [ true ↦ isSome (shapeOf script t) | false ↦ false ]
+    elim (allBelow (length (m .types)) (λ j. isSome (typeShapeAt script m j))) [
+      | true ↦ elim (allBelow (length (m .nodes)) (λ i. isSome (nodeShapeAt script m i))) [ true ↦ isSome (shapeOf script t) | false ↦ false ]
       | false ↦ false
     ]
 

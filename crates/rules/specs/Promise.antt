@@ -34,6 +34,9 @@ tooShort script l =
     (or (ltb (length (l .roots)) n)
     (ltb (length (l .diagnostics)) (diagnosticWidth * n)))))
 
+abbrev pub arraysOf : List ℕ → List ℕ → List ℕ → List ℕ → List ℕ → Arrays
+arraysOf nodes types lists roots diagnostics = record { nodes = nodes; types = types; lists = lists; roots = roots; diagnostics = diagnostics }
+
 unfoldable pub zeroed : Arrays → Arrays
 zeroed l = record {
   nodes = zeros (length (l .nodes));

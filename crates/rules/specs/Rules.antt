@@ -1,4 +1,5 @@
--- The reading rules, one for each function of parser.rs and under its name.
+-- The reading rules, one for each function of parser.rs and under its name, with the Rust's line of
+-- grammar. A part of such a line is written `an expr = ..`.
 use mathlib.Core.Bool.{Bool, true, false}
 use mathlib.Core.Option.{Option, none, some}
 use mathlib.Core.List.{List, [], _∷_, _++_}
@@ -34,23 +35,26 @@ stageOne = choose
 abbrev pub rightPower : ℕ → ℕ
 rightPower left = left + 1
 
+-- the power of a prefix sign
 abbrev pub prefixPower : ℕ
 prefixPower = 5
 
 -- ---- rules that read nothing deeper
 
--- `Foreign<`, `Option<`, `Array<`, `number` being the error where nothing follows
+-- the word and the `<` of a type, `number` being the error where `>` follows
 unfoldable pub openAngle : ℕ → Rule ℕ
 openAngle number = do
   advance
   expect kLessThan
   rejectKind kGreaterThan number
 
+-- a type = atom-type
 unfoldable pub atomType : Rule TypeExprId
 atomType = do
   t ← advance
   pushType (T.Atom t)
 
+-- a type = "Foreign" "<" ident ">"
 unfoldable pub foreignType : Rule TypeExprId
 foreignType = do
   openAngle eEmptyForeign
@@ -64,9 +68,11 @@ suppliedVoid = do
   t ← cur
   pushType (T.Atom (record { kind = kVoid; start = t .start; len = 4 }))
 
+-- a path of an import
 unfoldable pub importPath : Rule (List ℕ)
 importPath = ifKind kS (advance >>= (λ p. pure (tokenCells p))) (fail eImportPathNotAString)
 
+-- multiple package import: import ("io" "runtime")
 unfoldable pub bracketedPaths : Rule (List (List ℕ))
 bracketedPaths = do
   expect kBraceLeft
@@ -84,12 +90,14 @@ strikeSingle x = λ s. elim (x s) [
   | err e t ↦ err e t
 ]
 
+-- single package import: import "io"
 abbrev pub onePath : Rule (List (List ℕ))
 onePath = advance >>= (λ p. pure (tokenCells p ∷ []))
 
 abbrev pub importPaths : Rule (List (List ℕ))
 importPaths = ifKind kS onePath (strikeSingle bracketedPaths)
 
+-- import = "import" string | "import" "(" string* ")"
 unfoldable pub parseImport : Rule NodeId
 parseImport = do
   src ← advance
@@ -97,19 +105,23 @@ parseImport = do
   pkgs ← allocSlice paths
   pushNode (λ id. N.Import id src pkgs)
 
+-- the string behind `extern`
 abbrev pub externName : Rule Token
 externName = ifKind kS advance (fail eExternWithoutAString)
 
+-- an expr = atom
 unfoldable pub atom : Rule NodeId
 atom = do
   t ← advance
   pushNode (λ id. N.Atom id t)
 
+-- an expr = ident
 unfoldable pub ident : Rule NodeId
 ident = do
   t ← advance
   pushNode (λ id. N.Ident id t)
 
+-- an Ident or a Field can be called
 unfoldable pub isCallableTarget : Node → Bool
 isCallableTarget (N.Atom id raw) = false
 isCallableTarget (N.Ident id name) = true
@@ -129,6 +141,7 @@ isCallableTarget (N.Array id src elements) = false
 unfoldable pub callable : NodeId → Rule Bool
 callable n = λ s. ok (isCallableTarget (getD (s .arena .nodes) (n .0) (N.Atom 0 (record { kind = 0; start = 0; len = 0 })))) s
 
+-- an expr = expr "." ident
 unfoldable pub fieldAccess : NodeId → Rule (ControlFlow NodeId)
 fieldAccess target = do
   advance
@@ -144,7 +157,7 @@ abbrev pub lastOf : Token → List Token → Token
 lastOf d [] = d
 lastOf d (e ∷ es) = lastOf e es
 
--- docs wait for a let, a fn or an extern
+-- pending docs go to a let, a fn or an extern
 unfoldable pub requireNoDocs : {A : Type 0} → Rule A → Rule A
 requireNoDocs x = λ s. elim (s .docs) [
   | [] ↦ x s
@@ -171,7 +184,7 @@ nodeMember x = do
 module _ (deeper : Readers) where
   -- ---- types
 
-  -- <name> : <type>
+  -- a name and its type = ident ":" type
   unfoldable pub typedName : Rule (List ℕ)
   typedName = do
     name ← expectIdent
@@ -179,6 +192,7 @@ module _ (deeper : Readers) where
     t ← deeper .type
     pure (tokenCells name ++ (t .0 ∷ []))
 
+  -- a type = "Option" "<" type ">"
   unfoldable pub optionType : Rule TypeExprId
   optionType = do
     openAngle eEmptyOption
@@ -186,6 +200,7 @@ module _ (deeper : Readers) where
     expect kGreaterThan
     pushType (T.Option t)
 
+  -- a type = "Array" "<" type ">"
   unfoldable pub arrayType : Rule TypeExprId
   arrayType = do
     openAngle eEmptyArray
@@ -193,6 +208,7 @@ module _ (deeper : Readers) where
     expect kGreaterThan
     pushType (T.Array t)
 
+  -- a type = "Record" "<" (ident ":" type)* ">"
   unfoldable pub recordType : Rule TypeExprId
   recordType = do
     src ← advance
@@ -206,16 +222,20 @@ module _ (deeper : Readers) where
       (kForeign, foreignType) ∷ (kOption, optionType) ∷ (kArray, arrayType) ∷ (kRecord, recordType) ∷ [])
       (fail eBadType)
 
+  -- type = atom-type | "Foreign" "<" ident ">" | "Option" "<" type ">" | "Array" "<" type ">" |
+  -- "Record" "<" (ident ":" type)* ">"
   unfoldable pub parseType : Rule TypeExprId
   parseType = byKind typeByKind
 
   -- ---- items
 
+  -- body = "{" prefix* "}"
   unfoldable pub parseBody : Rule Run
   parseBody = do
     expect kCurlyLeft
     listUntil kCurlyRight (nodeMember (deeper .prefix))
 
+  -- args = "(" (ident ":" type)* ")"
   unfoldable pub parseArgs : Rule Run
   parseArgs = do
     expect kBraceLeft
@@ -225,6 +245,7 @@ module _ (deeper : Readers) where
   unfoldable pub returnType : Rule TypeExprId
   returnType = ifKind kVoid (struck (deeper .type)) (deeper .type)
 
+  -- let = "let" ident "=" prefix
   unfoldable pub parseLet : Rule NodeId
   parseLet = do
     docs ← takeDocs
@@ -234,9 +255,11 @@ module _ (deeper : Readers) where
     rhs ← deeper .prefix
     pushNode (λ id. N.Let id docs name rhs)
 
+  -- the return type of a fn, Void where a `{` follows
   abbrev pub fnReturn : Rule TypeExprId
   fnReturn = ifKind kCurlyLeft suppliedVoid returnType
 
+  -- fn = "fn" ident "(" (ident ":" type)* ")" type? "{" prefix* "}"
   unfoldable pub parseFn : Rule NodeId
   parseFn = do
     docs ← takeDocs
@@ -247,9 +270,11 @@ module _ (deeper : Readers) where
     body ← parseBody
     pushNodeAnd (args .len) (λ id. N.Fn id docs name args return-type body)
 
+  -- the return type in an extern, Void where a `}` or a `fn` follows
   abbrev pub externReturn : Rule TypeExprId
   externReturn = ifKind kCurlyRight suppliedVoid (ifKind kFn suppliedVoid returnType)
 
+  -- a fn of an extern = doc* "fn" ident args type?
   unfoldable pub externFn : Rule (List ℕ)
   externFn = do
     collectDocs
@@ -261,6 +286,7 @@ module _ (deeper : Readers) where
     return-type ← externReturn
     pure (runCells docs ++ tokenCells name ++ runCells args ++ (return-type .0 ∷ []))
 
+  -- extern = "extern" string "{" (doc* "fn" ident args type?)* "}"
   unfoldable pub parseExtern : Rule NodeId
   parseExtern = do
     docs ← takeDocs
@@ -270,12 +296,14 @@ module _ (deeper : Readers) where
     fns ← listUntil kCurlyRight externFn
     pushNode (λ id. N.Extern id src docs name fns)
 
+  -- default case
   unfoldable pub defaultCase : Cases → Rule Cases
   defaultCase c = do
     t ← cur
     body ← parseBody
     pure (record { cases = c .cases; default = some (t, body) })
 
+  -- a case = expr "{" prefix* "}"
   unfoldable pub conditionCase : Cases → Rule Cases
   conditionCase c = do
     t ← cur
@@ -290,6 +318,7 @@ module _ (deeper : Readers) where
     d ← ifKind kCurlyLeft (defaultCase c) (conditionCase c)
     pure (continue d)))
 
+  -- match = "match" "{" (expr "{" prefix* "}")* "{" prefix* "}" "}"
   unfoldable pub parseMatch : Rule NodeId
   parseMatch = do
     advance
@@ -312,6 +341,7 @@ module _ (deeper : Readers) where
       ((kImport, parseImport) ∷ (kLet, parseLet) ∷ (kFn, parseFn) ∷ (kExtern, parseExtern) ∷ [])
       (requireNoDocs plainItem)
 
+  -- prefix = import | let | fn | match | expr
   unfoldable pub parsePrefix : Rule NodeId
   parsePrefix = do
     collectDocs
@@ -319,6 +349,7 @@ module _ (deeper : Readers) where
 
   -- ---- expressions
 
+  -- <key>: <value>
   unfoldable pub field : Rule (List ℕ)
   field = do
     key ← expectIdent
@@ -326,18 +357,21 @@ module _ (deeper : Readers) where
     value ← deeper .expr 0
     pure (tokenCells key ++ (value .0 ∷ []))
 
+  -- an expr = { ident ":" expr }
   unfoldable pub recordLiteral : Rule NodeId
   recordLiteral = do
     src ← advance
     fields ← listUntil kCurlyRight field
     pushNode (λ id. N.Record id src fields)
 
+  -- an expr = "[" expr "]"
   unfoldable pub arrayLiteral : Rule NodeId
   arrayLiteral = do
     src ← advance
     elements ← listUntil kBraketRight (nodeMember (deeper .expr 0))
     pushNode (λ id. N.Array id src elements)
 
+  -- an expr = "(" expr ")"
   unfoldable pub group : Rule NodeId
   group = do
     struck advance
@@ -345,6 +379,7 @@ module _ (deeper : Readers) where
     struck (expect kBraceRight)
     pure e
 
+  -- an expr = prefix-op expr
   unfoldable pub unary : Rule NodeId
   unary = do
     op ← advance
@@ -358,9 +393,11 @@ module _ (deeper : Readers) where
       (kBraceLeft, group) ∷ (kPlus, unary) ∷ (kMinus, unary) ∷ [])
       (fail eExpectedExpression)
 
+  -- what an expr begins with: all but `expr postfix-op` and `expr infix-op expr`
   unfoldable pub operand : Rule NodeId
   operand = byKind operandByKind
 
+  -- an expr = expr "(" prefix* ")"
   unfoldable pub call : NodeId → Rule (ControlFlow NodeId)
   call target = do
     advance
@@ -374,9 +411,11 @@ module _ (deeper : Readers) where
   abbrev pub postfixStep : NodeId → Rule (ControlFlow NodeId)
   postfixStep lhs = ifKind kDot (fieldAccess lhs) (ifKind kBraceLeft (callable lhs >>= callStep lhs) (pure (break lhs)))
 
+  -- postfix parsing loop: expr = expr postfix-op
   unfoldable pub postfix : NodeId → Rule NodeId
   postfix = loop postfixStep
 
+  -- an expr = expr "as" type
   unfoldable pub cast : NodeId → Rule (ControlFlow NodeId)
   cast lhs = do
     src ← advance
@@ -384,7 +423,7 @@ module _ (deeper : Readers) where
     n ← pushNode (λ id. N.Cast id src lhs t)
     pure (continue n)
 
-  -- an infix sign that has the power `left` on its left, and its right side
+  -- an expr = expr infix-op expr, `left` being the power on the left of the sign
   unfoldable pub binary : NodeId → ℕ → Rule (ControlFlow NodeId)
   binary lhs left = do
     op ← advance
@@ -406,9 +445,19 @@ module _ (deeper : Readers) where
   abbrev pub infixStep : (ℕ → Option ℕ) → List ℕ → ℕ → NodeId → Rule (ControlFlow NodeId)
   infixStep power script least lhs = ifKind kAs (cast lhs) (cur >>= signStep power script least lhs)
 
+  -- infix parsing loop: expr = expr infix-op expr
   unfoldable pub infixes : (ℕ → Option ℕ) → List ℕ → ℕ → NodeId → Rule NodeId
   infixes power script least = loop (infixStep power script least)
 
+  -- expr =
+  --     atom |
+  --     ident |
+  --     "(" expr ")" |
+  --     prefix-op expr |
+  --     expr postfix-op |
+  --     expr infix-op expr |
+  --     { ident ":" expr } |
+  --     "[" expr "]"
   unfoldable pub parseExpr : (ℕ → Option ℕ) → List ℕ → ℕ → Rule NodeId
   parseExpr power script least = do
     x ← operand

@@ -236,15 +236,15 @@ module _ (script : List ℕ) (m : Arena) where
   unfoldable pub typeIn : (ℕ → Option TypeShape) → TypeExpr → Option TypeShape
   typeIn types x = typeShape (record { script = script; cells = m .cells; type = types; node = λ i. none }) x
 
-  unfoldable pub typeAt : ℕ → Option TypeShape
-  typeAt = lookup (tabulate typeIn [] (m .types))
+  unfoldable pub typeShapeAt : ℕ → Option TypeShape
+  typeShapeAt = lookup (tabulate typeIn [] (m .types))
 
   -- its nodes
   unfoldable pub nodeIn : (ℕ → Option Shape) → Node → Option Shape
-  nodeIn nodes x = nodeShape (record { script = script; cells = m .cells; type = typeAt; node = nodes }) x
+  nodeIn nodes x = nodeShape (record { script = script; cells = m .cells; type = typeShapeAt; node = nodes }) x
 
-  unfoldable pub nodeAt : ℕ → Option Shape
-  nodeAt = lookup (tabulate nodeIn [] (m .nodes))
+  unfoldable pub nodeShapeAt : ℕ → Option Shape
+  nodeShapeAt = lookup (tabulate nodeIn [] (m .nodes))
 
 -- the shapes of numbered nodes, in order
 unfoldable pub shapesOf : (ℕ → Option Shape) → List ℕ → Option Shapes
@@ -253,4 +253,4 @@ shapesOf node (i ∷ is) = map₂ shape (node i) (shapesOf node is)
 
 -- a tree's shape: that of its roots
 unfoldable pub shapeOf : List ℕ → Tree → Option Shapes
-shapeOf script t = shapesOf (nodeAt script (t .arena)) (t .roots)
+shapeOf script t = shapesOf (nodeShapeAt script (t .arena)) (t .roots)

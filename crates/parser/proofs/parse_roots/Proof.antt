@@ -7,16 +7,16 @@ use mathlib.Core.List.{[]}
 use lib.ListN.{length}
 use Rattle.lex.specs.Kind.{kEof}
 use Rattle.parser_state.specs.Represents.{code}
-use Rattle.parser_state.specs.Refines.{kept}
+use Rattle.parser_state.specs.Refines.{stackUnchanged}
 use Rattle.parser_state.proofs.Rounds.{LoopInvariant, round-again, weight, lighter}
 use Rattle.parser_state.proofs.Loops.{member-going}
-use Rattle.parser.specs.Whole.{Left, rootStep, RootsAre}
+use Rattle.parser.specs.Whole.{ZeroBetween, rootStep, RootsAre}
 use Rattle.parser.proofs.Roots.{root-there, root-front, root-again, roots-none, roots-start, roots-end}
 use Rattle.parser.proofs.parse_roots.Statement.{statement}
 use Rattle.parser.proofs.parse_roots.Tie as tie
 
 abbrev Inv-loop : tie.InvT-loop
-Inv-loop script nodes₀ types₀ lists₀ roots₀ p₀ members₀ nodes types lists roots p members = (length nodes ≡ length nodes₀) × (length types ≡ length types₀) × (length lists ≡ length lists₀) × (length roots ≡ length roots₀) × Left roots members 0 × LoopInvariant script (rootStep script) kept [] (RootsAre script roots members (code nodes types lists (parserOf p))) (code nodes₀ types₀ lists₀ (parserOf p₀)) (code nodes types lists (parserOf p))
+Inv-loop script nodes₀ types₀ lists₀ roots₀ p₀ members₀ nodes types lists roots p members = (length nodes ≡ length nodes₀) × (length types ≡ length types₀) × (length lists ≡ length lists₀) × (length roots ≡ length roots₀) × ZeroBetween roots members 0 × LoopInvariant script (rootStep script) stackUnchanged [] (RootsAre script roots members (code nodes types lists (parserOf p))) (code nodes₀ types₀ lists₀ (parserOf p₀)) (code nodes types lists (parserOf p))
 
 abbrev μ-loop : tie.MeasureT-loop
 μ-loop script nodes₀ types₀ lists₀ roots₀ p₀ members₀ nodes types lists roots p members = weight script (code nodes types lists (parserOf p))

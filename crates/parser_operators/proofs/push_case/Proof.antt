@@ -10,10 +10,10 @@ use Rattle.parser_operators.proofs.push_case.Tie as tie
 returns : tie.Need-returns
 unfolding tokenCells runCells
 returns c =
-    let low = c .before .before .before .before .before .before .before .low in
-    let low2 = c .before .before .before .before .before .before .low2 in
+    let low-24-bits = c .before .before .before .before .before .before .before .low-24-bits in
+    let low-24-bits2 = c .before .before .before .before .before .before .low-24-bits2 in
     let push-cells = c .before .before .push-cells in
-    λ script nodes types. push-as (two-cells (_ ∷ []) _ (low2 .ensures) (low .ensures)) (push-cells .ensures script nodes types)
+    λ script nodes types. push-as (two-cells (_ ∷ []) _ (low-24-bits2 .ensures) (low-24-bits .ensures)) (push-cells .ensures script nodes types)
 
 pub push-case-spec : {M : Type 1} → statement M
 push-case-spec = tie.close (tie.spec

@@ -5,7 +5,7 @@ use Rattle.parser_state.proofs.collect_docs.Tie as tie
 use Rattle.parser_state.proofs.Rounds.{LoopInvariant, again-of, lighter, ifKind-is-no, round-again, round-out, round-start, doc-going, doc-kind, no-doc, weight}
 use Rattle.rules.specs.Combinators.{collectDocs, docStep, pure, keepDoc}
 use Rattle.parser_state.proofs.Steps.{current-represents, represents-going, ifKind-yes, read}
-use Rattle.parser_state.specs.Refines.{kept}
+use Rattle.parser_state.specs.Refines.{stackUnchanged}
 use Rattle.parser_state.specs.Represents.{parserOf, code}
 use mathlib.Core.Path.{_≡_, refl, sym, _∙_}
 use mathlib.Core.Bool.{true}
@@ -15,7 +15,7 @@ use native.Mathlib.Omega.{arith}
 use lib.ListN.{length}
 
 abbrev Inv-loop : tie.InvT-loop
-Inv-loop script types₀ p₀ types p = (length types ≡ length types₀) × ((nodes lists : List ℕ) → LoopInvariant script docStep kept 0 (λ n. n ≡ 0) (code nodes types₀ lists (parserOf p₀)) (code nodes types lists (parserOf p)))
+Inv-loop script types₀ p₀ types p = (length types ≡ length types₀) × ((nodes lists : List ℕ) → LoopInvariant script docStep stackUnchanged 0 (λ n. n ≡ 0) (code nodes types₀ lists (parserOf p₀)) (code nodes types lists (parserOf p)))
 
 abbrev μ-loop : tie.MeasureT-loop
 μ-loop script types₀ p₀ types p = weight script (code [] types [] (parserOf p))

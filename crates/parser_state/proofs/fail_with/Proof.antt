@@ -18,9 +18,9 @@ returns-2 c =
     let going = c .before .before .before .before .before .going in
     let if1 = c .before .before .before .before .if1 in
     let span-start = c .before .before .before .span-start in
-    let low = c .before .before .low in
+    let low-24-bits = c .before .before .low-24-bits in
     let set-status = c .set-status in
-    ((λ _. set-status .ensures ∙ failed-same (parserOf (c .before .before .before .before .before .before .before .args .p .now)) (span-start .ensures) (low .ensures)), λ e. absurd (true≢false (sym (going .ensures) ∙ not-false _ (if1 .left)) e))
+    ((λ _. set-status .ensures ∙ failed-same (parserOf (c .before .before .before .before .before .before .before .args .p .now)) (span-start .ensures) (low-24-bits .ensures)), λ e. absurd (true≢false (sym (going .ensures) ∙ not-false _ (if1 .left)) e))
 
 pub fail-with-spec : {M : Type 1} → statement M
 fail-with-spec =

@@ -30,14 +30,14 @@ returns-3 c =
 
 returns-4 : tie.Need-returns-4
 returns-4 c =
-    let low = c .before .before .before .before .before .before .low in
-    let low2 = c .before .before .before .before .before .low2 in
+    let low-24-bits = c .before .before .before .before .before .before .low-24-bits in
+    let low-24-bits2 = c .before .before .before .before .before .low-24-bits2 in
     let going = c .before .before .before .before .before .before .before .before .before .before .before .before .before .before .going in
     let if1 = c .before .before .before .before .before .before .before .before .before .before .before .before .before .if1 in
     let get-used = c .before .before .before .before .before .before .before .before .before .before .before .get-used in
     let set-used = c .before .before .before .before .before .before .before .set-used in
     let put = c .before .before .put in
-    λ script nodes lists n. keeping script nodes _ _ lists _ n _ (sym (going .ensures) ∙ not-false _ (if1 .left)) (two-cells [] _ (low .ensures) (low2 .ensures)) (get-used .ensures) (set-used .ensures) (put .ensures)
+    λ script nodes lists n. keeping script nodes _ _ lists _ n _ (sym (going .ensures) ∙ not-false _ (if1 .left)) (two-cells [] _ (low-24-bits .ensures) (low-24-bits2 .ensures)) (get-used .ensures) (set-used .ensures) (put .ensures)
 
 pub push-doc-spec : {M : Type 1} → statement M
 push-doc-spec =

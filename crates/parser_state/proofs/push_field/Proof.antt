@@ -11,10 +11,10 @@ use Rattle.parser_state.proofs.push_field.Tie as tie
 returns : tie.Need-returns
 unfolding nodeCells tokenCells
 returns c =
-    let low = c .before .before .before .before .low in
-    let low2 = c .before .before .before .low2 in
+    let low-24-bits = c .before .before .before .before .low-24-bits in
+    let low-24-bits2 = c .before .before .before .low-24-bits2 in
     let push-record = c .before .before .push-record in
-    λ script types lists. push-record .ensures script types lists _ (sym (two-cells (_ ∷ _ ∷ _ ∷ _ ∷ []) _ (low .ensures) (low2 .ensures)))
+    λ script types lists. push-record .ensures script types lists _ (sym (two-cells (_ ∷ _ ∷ _ ∷ _ ∷ []) _ (low-24-bits .ensures) (low-24-bits2 .ensures)))
 
 pub push-field-spec : {M : Type 1} → statement M
 push-field-spec =

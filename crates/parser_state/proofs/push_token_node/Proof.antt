@@ -10,10 +10,10 @@ use Rattle.parser_state.proofs.push_token_node.Tie as tie
 returns : tie.Need-returns
 unfolding tokenCells
 returns c =
-    let low = c .before .before .before .before .low in
-    let low2 = c .before .before .before .low2 in
+    let low-24-bits = c .before .before .before .before .low-24-bits in
+    let low-24-bits2 = c .before .before .before .low-24-bits2 in
     let push-record = c .before .before .push-record in
-    λ script types lists f e. push-record .ensures script types lists f (e ∙ sym (two-cells (_ ∷ _ ∷ _ ∷ []) _ (low .ensures) (low2 .ensures)))
+    λ script types lists f e. push-record .ensures script types lists f (e ∙ sym (two-cells (_ ∷ _ ∷ _ ∷ []) _ (low-24-bits .ensures) (low-24-bits2 .ensures)))
 
 pub push-token-node-spec : {M : Type 1} → statement M
 push-token-node-spec =

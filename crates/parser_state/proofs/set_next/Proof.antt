@@ -11,11 +11,11 @@ returns : tie.Need-returns
 unfolding parserOf
 returns c =
     let args = c .before .before .before .before .before .before .before .before .before .before .before .before .before .before .before .before .before .args in
-    let low = c .before .before .before .before .before .before .before .before .before .before .before .before .before .before .before .before .low in
-    let low2 = c .before .before .before .before .before .before .before .before .before .before .before .before .before .before .before .low2 in
+    let low-24-bits = c .before .before .before .before .before .before .before .before .before .before .before .before .before .before .before .before .low-24-bits in
+    let low-24-bits2 = c .before .before .before .before .before .before .before .before .before .before .before .before .before .before .before .low-24-bits2 in
     let whole : args .n .next % 4294967296 + 4294967296 * (args .n .next / 4294967296) ≡ args .n .next = omega arith in
     λ i. record {
-      cur = record { kind = args .n .token .kind; start = low .ensures i; len = low2 .ensures i };
+      cur = record { kind = args .n .token .kind; start = low-24-bits .ensures i; len = low-24-bits2 .ensures i };
       pos = whole i;
       used = parserOf (args .p .now) .used;
       status = parserOf (args .p .now) .status;

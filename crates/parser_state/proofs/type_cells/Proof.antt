@@ -12,11 +12,11 @@ use Rattle.parser_state.proofs.type_cells.Tie as tie
 
 returns : tie.Need-returns
 unfolding typeCells tokenCells
-returns c = two-cells (_ ∷ _ ∷ []) _ (c .before .low .ensures) (c .low2 .ensures) ∙ sym (ap (λ (t : TypeExpr). typeCells (lowType t)) (c .before .before .before .t .given .1))
+returns c = two-cells (_ ∷ _ ∷ []) _ (c .before .low-24-bits .ensures) (c .low-24-bits2 .ensures) ∙ sym (ap (λ (t : TypeExpr). typeCells (lowType t)) (c .before .before .before .t .given .1))
 
 returns-2 : tie.Need-returns-2
 unfolding typeCells tokenCells
-returns-2 c = two-cells (_ ∷ _ ∷ []) _ (c .before .low3 .ensures) (c .low4 .ensures) ∙ sym (ap (λ (t : TypeExpr). typeCells (lowType t)) (c .before .before .before .t2 .given .1))
+returns-2 c = two-cells (_ ∷ _ ∷ []) _ (c .before .low-24-bits3 .ensures) (c .low-24-bits4 .ensures) ∙ sym (ap (λ (t : TypeExpr). typeCells (lowType t)) (c .before .before .before .t2 .given .1))
 
 returns-3 : tie.Need-returns-3
 unfolding typeCells
@@ -28,7 +28,7 @@ returns-4 c = sym (ap (λ (t : TypeExpr). typeCells (lowType t)) (c .before .t4 
 
 returns-5 : tie.Need-returns-5
 unfolding typeCells tokenCells runCells
-returns-5 c = two-cells (_ ∷ _ ∷ []) _ (c .before .low5 .ensures) (c .low6 .ensures) ∙ sym (ap (λ (t : TypeExpr). typeCells (lowType t)) (c .before .before .before .t5 .given .1))
+returns-5 c = two-cells (_ ∷ _ ∷ []) _ (c .before .low-24-bits5 .ensures) (c .low-24-bits6 .ensures) ∙ sym (ap (λ (t : TypeExpr). typeCells (lowType t)) (c .before .before .before .t5 .given .1))
 
 pub type-cells-spec : {M : Type 1} → statement M
 type-cells-spec =

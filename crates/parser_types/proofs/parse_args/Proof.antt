@@ -9,8 +9,8 @@ returns : tie.Need-returns
 unfolding parseArgs
 returns c =
     let expect = c .before .before .before .before .before .before .before .before .expect in
-    let fields = c .before .before .before .before .fields in
-    ((λ nodes. enough (then (expect .ensures nodes _ _) (fields .ensures .0 nodes)) tt), fields .ensures .1)
+    let typed-names = c .before .before .before .before .typed-names in
+    ((λ nodes. enough (then (expect .ensures nodes _ _) (typed-names .ensures .0 nodes)) tt), typed-names .ensures .1)
 
 pub parse-args-spec : {M : Type 1} → statement M
 parse-args-spec =

@@ -9,7 +9,7 @@ use lib.ListN.{length, length-append}
 use native.Mathlib.Omega.{arith}
 use Rattle.rules.specs.Tree.{Arena}
 use Rattle.rules.specs.Shape as S
-use Rattle.rules.specs.Shape.{TypeShape, Shape, map₁, map₂, map₃, map₄, map₅, andThen, Decoder, number, token, run, resolve, both, items, from, listAt, lookup, tabulate, typeIn, nodeIn, typeAt, nodeAt, typeShape, nodeShape}
+use Rattle.rules.specs.Shape.{TypeShape, Shape, map₁, map₂, map₃, map₄, map₅, andThen, Decoder, number, token, run, resolve, both, items, from, listAt, lookup, tabulate, typeIn, nodeIn, typeShapeAt, nodeShapeAt, typeShape, nodeShape}
 use Rattle.rules.specs.Law.{nth}
 use Rattle.rules.specs.declared.Run.{Run}
 use Rattle.rules.specs.declared.Node.{Node}
@@ -218,21 +218,21 @@ module _ (script : List ℕ) (m : Arena) where
     pub nodes : (k : ℕ) (x : Node) → nth (m .nodes) k ≡ some x → Is (nodeShape (env script (m .cells) (known (S.atomT blank) (length (m .types))) (known (S.atom blank) k)) x)
 
   pub locally-shaped : Locally → AllShaped script m
-  unfolding typeAt nodeAt typeIn nodeIn
+  unfolding typeShapeAt nodeShapeAt typeIn nodeIn
   locally-shaped q =
       let tys : Full (tabulate (typeIn script m) [] (m .types)) = table-full (typeIn script m) (m .types) [] (λ i l. absurd (omega arith)) (λ k x e p h. typeShape-defined script (m .cells) _ p _ _ (λ j z. h j (omega (arith, known-below _ k j z))) (λ i z. z) x (q .types k x e)) in
-      let nds : Full (tabulate (nodeIn script m) [] (m .nodes)) = table-full (nodeIn script m) (m .nodes) [] (λ i l. absurd (omega arith)) (λ k x e p h. nodeShape-defined script (m .cells) _ (typeAt script m) _ p (λ j z. tys j (omega (arith, known-below _ (length (m .types)) j z, table-length (typeIn script m) (m .types) []))) (λ i z. h i (omega (arith, known-below _ k i z))) x (q .nodes k x e)) in
+      let nds : Full (tabulate (nodeIn script m) [] (m .nodes)) = table-full (nodeIn script m) (m .nodes) [] (λ i l. absurd (omega arith)) (λ k x e p h. nodeShape-defined script (m .cells) _ (typeShapeAt script m) _ p (λ j z. tys j (omega (arith, known-below _ (length (m .types)) j z, table-length (typeIn script m) (m .types) []))) (λ i z. h i (omega (arith, known-below _ k i z))) x (q .nodes k x e)) in
       record { nodes = λ i l. nds i (omega (arith, table-length (nodeIn script m) (m .nodes) [], l)); types = λ j l. tys j (omega (arith, table-length (typeIn script m) (m .types) [], l)) }
 
   pub shaped-locally : AllShaped script m → Locally
-  unfolding typeAt nodeAt typeIn nodeIn
+  unfolding typeShapeAt nodeShapeAt typeIn nodeIn
   shaped-locally a = record {
     types = λ k x e.
         let z = table-entry (typeIn script m) (m .types) [] k x e (subst (λ (i : ℕ). Is (lookup (tabulate (typeIn script m) [] (m .types)) i)) (zero-plus k) (a .types k (nth-below (m .types) k x e))) in
         typeShape-defined script (m .cells) (lookup (z .before)) _ _ _ (λ j w. below-known _ k j (omega (arith, look-inside (z .before) j w, z .many))) (λ i w. w) x (z .made);
     nodes = λ k x e.
         let z = table-entry (nodeIn script m) (m .nodes) [] k x e (subst (λ (i : ℕ). Is (lookup (tabulate (nodeIn script m) [] (m .nodes)) i)) (zero-plus k) (a .nodes k (nth-below (m .nodes) k x e))) in
-        nodeShape-defined script (m .cells) (typeAt script m) _ (lookup (z .before)) _ (λ j w. below-known _ (length (m .types)) j (omega (arith, look-inside (tabulate (typeIn script m) [] (m .types)) j w, table-length (typeIn script m) (m .types) []))) (λ i w. below-known _ k i (omega (arith, look-inside (z .before) i w, z .many))) x (z .made);
+        nodeShape-defined script (m .cells) (typeShapeAt script m) _ (lookup (z .before)) _ (λ j w. below-known _ (length (m .types)) j (omega (arith, look-inside (tabulate (typeIn script m) [] (m .types)) j w, table-length (typeIn script m) (m .types) []))) (λ i w. below-known _ k i (omega (arith, look-inside (z .before) i w, z .many))) x (z .made);
   }
     where
       zero-plus : (n : ℕ) → n ≡ 0 + n

@@ -12,7 +12,7 @@ use Rattle.lex.specs.declared.diagnostic.Diagnostic.{Diagnostic}
 use Rattle.rules.specs.Tree.{Arena, Tree}
 use Rattle.rules.specs.Parse.{read, parse, parseCollect}
 use Rattle.rules.specs.Layout.{nodeWidth}
-use Rattle.rules.specs.Shape.{TypeShape, Shape, map₁, map₂, andThen, lookup, tabulate, typeIn, nodeIn, typeAt, nodeAt, shapeOf}
+use Rattle.rules.specs.Shape.{TypeShape, Shape, map₁, map₂, andThen, lookup, tabulate, typeIn, nodeIn, typeShapeAt, nodeShapeAt, shapeOf}
 use Rattle.rules.specs.Law.{Child, aNode, aType, childrenOf, innerOf, same, times, allOf, occurrences, nth, childrenAt, Once}
 use Rattle.rules.specs.Parents.{parentOf, wideWidth, widened, narrowed, allBelow, isSome, sound, onceEach, parentsRight, turnedAway, turnedBack}
 use Rattle.rules.specs.declared.Node.{Node}
@@ -70,17 +70,17 @@ module _ {R A : Type 0} (f : (ℕ → Option A) → R → Option A) where
 -- ---- what 4 leaves
 
 module _ (script : List ℕ) (m : Arena) where
-  node-children : (k : ℕ) (x : Node) → nth (m .nodes) k ≡ some x → Is (nodeAt script m k) → (before : List (Option Shape)) × (length before ≡ k) × Children (env script (m .cells) (typeAt script m) (lookup before)) (childrenOf (m .cells) x)
-  unfolding nodeAt nodeIn
+  node-children : (k : ℕ) (x : Node) → nth (m .nodes) k ≡ some x → Is (nodeShapeAt script m k) → (before : List (Option Shape)) × (length before ≡ k) × Children (env script (m .cells) (typeShapeAt script m) (lookup before)) (childrenOf (m .cells) x)
+  unfolding nodeShapeAt nodeIn
   node-children k x e h =
       let z = table-entry (nodeIn script m) (m .nodes) [] k x e (subst (λ (i : ℕ). Is (lookup (tabulate (nodeIn script m) [] (m .nodes)) i)) (zero-plus k) h) in
-      (z .before, z .many ∙ omega arith, shaped-children (env script (m .cells) (typeAt script m) (lookup (z .before))) x (z .made))
+      (z .before, z .many ∙ omega arith, shaped-children (env script (m .cells) (typeShapeAt script m) (lookup (z .before))) x (z .made))
     where
       zero-plus : (n : ℕ) → n ≡ 0 + n
       zero-plus n = omega arith
 
-  type-children : (k : ℕ) (x : TypeExpr) → nth (m .types) k ≡ some x → Is (typeAt script m k) → (before : List (Option TypeShape)) × (length before ≡ k) × Children (env script (m .cells) (lookup before) (λ i. none)) (innerOf (m .cells) x)
-  unfolding typeAt typeIn
+  type-children : (k : ℕ) (x : TypeExpr) → nth (m .types) k ≡ some x → Is (typeShapeAt script m k) → (before : List (Option TypeShape)) × (length before ≡ k) × Children (env script (m .cells) (lookup before) (λ i. none)) (innerOf (m .cells) x)
+  unfolding typeShapeAt typeIn
   type-children k x e h =
       let z = table-entry (typeIn script m) (m .types) [] k x e (subst (λ (i : ℕ). Is (lookup (tabulate (typeIn script m) [] (m .types)) i)) (zero-plus k) h) in
       (z .before, z .many ∙ omega arith, shaped-inner (env script (m .cells) (lookup (z .before)) (λ i. none)) x (z .made))
@@ -135,8 +135,8 @@ module _ (script : List ℕ) (t : Tree) (a : AllShaped script (t .arena)) where
       go none p q = none≢some cs q
       go (some x) p q =
           let z = node-children script arena k x p (a .nodes k (nth-below (arena .nodes) k x p)) in
-          let s : Shaped (env script (arena .cells) (typeAt script arena) (lookup (z .0))) cs = subst (Shaped (env script (arena .cells) (typeAt script arena) (lookup (z .0)))) (some-inj (z .2 .names) cs (sym (z .2 .are) ∙ q)) (z .2 .shaped) in
-          let b = look-inside (z .0) i (among script (arena .cells) (typeAt script arena) (lookup (z .0)) i cs s l) in
+          let s : Shaped (env script (arena .cells) (typeShapeAt script arena) (lookup (z .0))) cs = subst (Shaped (env script (arena .cells) (typeShapeAt script arena) (lookup (z .0)))) (some-inj (z .2 .names) cs (sym (z .2 .are) ∙ q)) (z .2 .shaped) in
+          let b = look-inside (z .0) i (among script (arena .cells) (typeShapeAt script arena) (lookup (z .0)) i cs s l) in
           omega (arith, z .1, b)
 
 -- ---- the tests
@@ -158,24 +158,24 @@ if-true false x y e = absurd (subst T (sym e) tt)
 module _ (script : List ℕ) (t : Tree) where
   pub sound-shaped : sound script t ≡ true → AllShaped script (t .arena)
   unfolding sound
-  sound-shaped e = by-types (allBelow (length (t .arena .types)) (λ j. isSome (typeAt script (t .arena) j))) refl e
+  sound-shaped e = by-types (allBelow (length (t .arena .types)) (λ j. isSome (typeShapeAt script (t .arena) j))) refl e
     where
-      by-nodes : (b : Bool) → allBelow (length (t .arena .nodes)) (λ i. isSome (nodeAt script (t .arena) i)) ≡ b → allBelow (length (t .arena .types)) (λ j. isSome (typeAt script (t .arena) j)) ≡ true → elim b as (λ b′. Bool) [ true ↦ isSome (shapeOf script t) | false ↦ false ] ≡ true → AllShaped script (t .arena)
+      by-nodes : (b : Bool) → allBelow (length (t .arena .nodes)) (λ i. isSome (nodeShapeAt script (t .arena) i)) ≡ b → allBelow (length (t .arena .types)) (λ j. isSome (typeShapeAt script (t .arena) j)) ≡ true → elim b as (λ b′. Bool) [ true ↦ isSome (shapeOf script t) | false ↦ false ] ≡ true → AllShaped script (t .arena)
       by-nodes true p q r = record {
-        nodes = λ i h. some-is (nodeAt script (t .arena) i) (all-below (length (t .arena .nodes)) (λ i. isSome (nodeAt script (t .arena) i)) p i h);
-        types = λ j h. some-is (typeAt script (t .arena) j) (all-below (length (t .arena .types)) (λ j. isSome (typeAt script (t .arena) j)) q j h);
+        nodes = λ i h. some-is (nodeShapeAt script (t .arena) i) (all-below (length (t .arena .nodes)) (λ i. isSome (nodeShapeAt script (t .arena) i)) p i h);
+        types = λ j h. some-is (typeShapeAt script (t .arena) j) (all-below (length (t .arena .types)) (λ j. isSome (typeShapeAt script (t .arena) j)) q j h);
       }
       by-nodes false p q r = absurd (subst T (sym r) tt)
 
-      by-types : (b : Bool) → allBelow (length (t .arena .types)) (λ j. isSome (typeAt script (t .arena) j)) ≡ b → elim b as (λ b′. Bool) [ true ↦ elim (allBelow (length (t .arena .nodes)) (λ i. isSome (nodeAt script (t .arena) i))) as (λ b′. Bool) [ true ↦ isSome (shapeOf script t) | false ↦ false ] | false ↦ false ] ≡ true → AllShaped script (t .arena)
-      by-types true p r = by-nodes (allBelow (length (t .arena .nodes)) (λ i. isSome (nodeAt script (t .arena) i))) refl p r
+      by-types : (b : Bool) → allBelow (length (t .arena .types)) (λ j. isSome (typeShapeAt script (t .arena) j)) ≡ b → elim b as (λ b′. Bool) [ true ↦ elim (allBelow (length (t .arena .nodes)) (λ i. isSome (nodeShapeAt script (t .arena) i))) as (λ b′. Bool) [ true ↦ isSome (shapeOf script t) | false ↦ false ] | false ↦ false ] ≡ true → AllShaped script (t .arena)
+      by-types true p r = by-nodes (allBelow (length (t .arena .nodes)) (λ i. isSome (nodeShapeAt script (t .arena) i))) refl p r
       by-types false p r = absurd (subst T (sym r) tt)
 
   pub shaped-sound : AllShaped script (t .arena) → Is (shapeOf script t) → sound script t ≡ true
   unfolding sound
   shaped-sound a h =
-      if-true _ _ false (below-all (length (t .arena .types)) (λ j. isSome (typeAt script (t .arena) j)) (λ j l. is-some _ (a .types j l)))
-      ∙ if-true _ _ false (below-all (length (t .arena .nodes)) (λ i. isSome (nodeAt script (t .arena) i)) (λ i l. is-some _ (a .nodes i l)))
+      if-true _ _ false (below-all (length (t .arena .types)) (λ j. isSome (typeShapeAt script (t .arena) j)) (λ j l. is-some _ (a .types j l)))
+      ∙ if-true _ _ false (below-all (length (t .arena .nodes)) (λ i. isSome (nodeShapeAt script (t .arena) i)) (λ i l. is-some _ (a .nodes i l)))
       ∙ is-some (shapeOf script t) h
 
   -- what passes both tests

@@ -77,26 +77,26 @@ module _ (r : Child) where
         passes : (t : ControlFlow ℕ) (s₁ : State) → Held r b hs s₁ → Ends (λ x s₂. Held r b hs s₂) (λ s′. Unit {0}) (R._>>_ R.advance (R.pure t) s₁)
         passes t s₁ q₁ = then-ok _ _ s₁ (advance-holds s₁ q₁) (λ x s₂ z. pure-ok _ s₂ z)
 
-    abbrev Gathers : Gathered → State → Type 0
-    Gathers g s = RootsHeld r (g .roots) (s .arena)
+    abbrev GatheredHeld : Gathered → State → Type 0
+    GatheredHeld g s = RootsHeld r (g .roots) (s .arena)
 
-    recover-holds : (g : Gathered) (e : Diagnostic) (s : State) → Gathers g s → Ends (λ t s′. Gathers (flowValue t) s′) (λ s′. Unit {0}) (recover power script g e s)
+    recover-holds : (g : Gathered) (e : Diagnostic) (s : State) → GatheredHeld g s → Ends (λ t s′. GatheredHeld (flowValue t) s′) (λ s′. Unit {0}) (recover power script g e s)
     unfolding recover
     recover-holds g e s q = go _ (eqb (e .number) 10)
       where
-        go : (x : Occurrence) (b : Bool) → Ends (λ t s′. Gathers (flowValue t) s′) (λ s′. Unit {0}) (elim b as (λ b′. Result (ControlFlow Gathered)) [ true ↦ err e s | false ↦ (R._>>_ synchronizeRoot (R.pure (continue (record { roots = g .roots; errors = g .errors ++ (x ∷ []) })))) s ])
+        go : (x : Occurrence) (b : Bool) → Ends (λ t s′. GatheredHeld (flowValue t) s′) (λ s′. Unit {0}) (elim b as (λ b′. Result (ControlFlow Gathered)) [ true ↦ err e s | false ↦ (R._>>_ synchronizeRoot (R.pure (continue (record { roots = g .roots; errors = g .errors ++ (x ∷ []) })))) s ])
         go x true = fails tt
         go x false = then-ok _ _ s (synchronizeRoot-holds s q) (λ n s₁ z. pure-ok _ s₁ z)
 
     -- a root that fails leaves orphans, and drops nothing of the roots before it
-    parseRootsCollect-holds : Ends Gathers (λ s. Unit {0}) (parseRootsCollect power script (begin script))
+    parseRootsCollect-holds : Ends GatheredHeld (λ s. Unit {0}) (parseRootsCollect power script (begin script))
     unfolding parseRootsCollect
-    parseRootsCollect-holds = loop-ok Gathers _
+    parseRootsCollect-holds = loop-ok GatheredHeld _
         (λ g s q. ifKind-ok kEof _ _ s (λ e. pure-ok _ s q) (go g (readers power script maxLevels .prefix s) (readers-hold r power script maxLevels .prefix s (freeze q))))
         (record { roots = []; errors = [] }) (begin script) (begin-held script)
       where
         go : (g : Gathered) (z : Result NodeId) → Ends (λ n s′. Held r (record { held = 0 + times r (map aNode (g .roots)); cells = [] }) (nodeChild n ∷ []) s′) (Held r (record { held = 0 + times r (map aNode (g .roots)); cells = [] }) []) z
-            → Ends (λ t s′. Gathers (flowValue t) s′) (λ s′. Unit {0}) (elim z as (λ z′. Result (ControlFlow Gathered)) [ ok m s₁ ↦ ok (continue (record { roots = g .roots ++ (m .0 ∷ []); errors = g .errors })) s₁ | err e s₁ ↦ recover power script g e s₁ ])
+            → Ends (λ t s′. GatheredHeld (flowValue t) s′) (λ s′. Unit {0}) (elim z as (λ z′. Result (ControlFlow Gathered)) [ ok m s₁ ↦ ok (continue (record { roots = g .roots ++ (m .0 ∷ []); errors = g .errors })) s₁ | err e s₁ ↦ recover power script g e s₁ ])
         go g z (holds {a = n} {s = s₁} q) = ended-ok _ s₁ (less (thaw nothing (map aNode (g .roots)) q) (omega (arith, ap (times r) (map-append aNode (g .roots) (n .0 ∷ [])))))
         go g z (fails {e} {s = s₁} q) = recover-holds g e s₁ (less (thaw nothing (map aNode (g .roots)) q) (omega (arith, ap (times r) (append-nil (map aNode (g .roots))))))
 

@@ -15,7 +15,7 @@ use Rattle.rules.specs.Combinators as R
 use Rattle.rules.specs.Combinators.{rest, withDocs, ControlFlow, continue}
 use Rattle.rules.specs.Rules.{readers, maxLevels}
 use Rattle.rules.specs.Parse.{Reading, read, ended, begin, synchronizeRoot, Gathered, merged, recover, parseCollect, parseRootsCollect}
-use Rattle.rules.specs.Shape.{Shape, Shapes, noShape, shape, nodeAt, shapeOf}
+use Rattle.rules.specs.Shape.{Shape, Shapes, noShape, shape, nodeShapeAt, shapeOf}
 use Rattle.rules.specs.declared.NodeId.{NodeId}
 use Rattle.rules.proofs.Results.{Ends, holds, fails, both, ifKind-ok, table-ok, entry-ok, other-ok, then-ok, pure-ok, flowValue, loop-ok}
 use Rattle.rules.proofs.Preserves.{StepsPreserve, readers-preserve}
@@ -79,7 +79,7 @@ module _ (script : List ℕ) where
 
   record RootsShaped (roots : List ℕ) (s : State) : Type 0 where
     pub values : List Shape
-    pub are : Are (nodeAt script (s .arena)) roots values
+    pub are : Are (nodeShapeAt script (s .arena)) roots values
     pub invariant : Invariant script s
 
   module _ (power : ℕ → Option ℕ) (eof : power kEof ≡ none) where

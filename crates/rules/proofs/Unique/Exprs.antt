@@ -11,7 +11,7 @@ use Rattle.rules.specs.Combinators as R
 use Rattle.rules.specs.Combinators.{Rule, current, Readers, tokenCells, ControlFlow, break}
 use Rattle.rules.specs.Rules as Q
 use Rattle.rules.specs.Shape as S
-use Rattle.rules.specs.Shape.{Word, wordOf, Shape, noShape, shape, noField, fieldS, map₁, map₂, map₃, andThen, Decoder, decoded, chain, number, token, resolve, both, nodeAt, nodeShape}
+use Rattle.rules.specs.Shape.{Word, wordOf, Shape, noShape, shape, noField, fieldS, map₁, map₂, map₃, andThen, Decoder, decoded, chain, number, token, resolve, both, nodeShapeAt, nodeShape}
 use Rattle.rules.proofs.Unique.Print.{fixed, print, prints, printFields, inRound}
 use Rattle.rules.proofs.Unique.Grow.{none≢some, envOf, Grows, Le, node-grows, fieldIn-grows}
 use Rattle.rules.proofs.Results.{holds, ifKind-ok, table-ok, entry-ok, other-ok, bind-ok, then-ok, pure-ok, cur-ok, fail-ok, flowValue, loop-ok}
@@ -33,7 +33,7 @@ fields-fold vs = fold-print noField (λ p. fieldS (p .0) (p .1)) printField prin
 
 module _ (script : List ℕ) where
   abbrev pub nodeRd : Arena → Decoder Shape
-  nodeRd m = resolve number (nodeAt script m)
+  nodeRd m = resolve number (nodeShapeAt script m)
 
   pub nodeRd-mono : (m m′ : Arena) → Grows script m m′ → Le (nodeRd m) (nodeRd m′)
   nodeRd-mono m m′ g = node-grows script g

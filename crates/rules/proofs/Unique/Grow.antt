@@ -8,7 +8,7 @@ use native.Mathlib.Nat.{zero-add}
 use native.Mathlib.Omega.{arith}
 use Rattle.rules.specs.Tree.{Arena}
 use Rattle.rules.specs.Shape as S
-use Rattle.rules.specs.Shape.{TypeShape, Shape, map₁, map₂, map₃, map₄, map₅, andThen, Decoder, decoded, chain, number, token, run, resolve, both, items, from, listAt, Env, lookup, tabulate, typeAt, nodeAt, typeIn, nodeIn, typeShape, nodeShape}
+use Rattle.rules.specs.Shape.{TypeShape, Shape, map₁, map₂, map₃, map₄, map₅, andThen, Decoder, decoded, chain, number, token, run, resolve, both, items, from, listAt, Env, lookup, tabulate, typeShapeAt, nodeShapeAt, typeIn, nodeIn, typeShape, nodeShape}
 use Rattle.rules.specs.declared.Run.{Run}
 use Rattle.rules.specs.declared.Node.{Node}
 use Rattle.rules.specs.declared.Node.the-variants as N
@@ -268,7 +268,7 @@ module _ {R A : Type 0} where
 
 module _ (script : List ℕ) where
   abbrev pub envOf : Arena → Env
-  envOf m = env script (m .cells) (typeAt script m) (nodeAt script m)
+  envOf m = env script (m .cells) (typeShapeAt script m) (nodeShapeAt script m)
 
   abbrev typeTab : List ℕ → (ℕ → Option TypeShape) → TypeExpr → Option TypeShape
   typeTab cells ty x = typeShape (env script cells ty (λ i. none)) x
@@ -280,8 +280,8 @@ module _ (script : List ℕ) where
   pub record Grows (m m′ : Arena) : Type 0 where
     pub more : List ℕ
     pub cells : m′ .cells ≡ m .cells ++ more
-    pub types : (i : ℕ) → typeAt script m i ⊑ typeAt script m′ i
-    pub nodes : (i : ℕ) → nodeAt script m i ⊑ nodeAt script m′ i
+    pub types : (i : ℕ) → typeShapeAt script m i ⊑ typeShapeAt script m′ i
+    pub nodes : (i : ℕ) → nodeShapeAt script m i ⊑ nodeShapeAt script m′ i
 
   types-grow : (cs more : List ℕ) (ts us : List TypeExpr) (i : ℕ) → lookup (tabulate (typeTab cs) [] ts) i ⊑ lookup (tabulate (typeTab (cs ++ more)) [] (ts ++ us)) i
   types-grow cs more ts us i a e = rw table-append (table-grows (typeTab (cs ++ more)) us _ i a
@@ -292,14 +292,14 @@ module _ (script : List ℕ) where
       (pw-look (table-mono (nodeTab cs p) (nodeTab (cs ++ more) q) (λ n n′ k x. nodeShape-mono script cs more p q n n′ h k x) ns [] [] pw[]) i a e))
 
   pub extend : (m m′ : Arena) (more : List ℕ) (ts : List TypeExpr) (ns : List Node) → m′ .cells ≡ m .cells ++ more → m′ .types ≡ m .types ++ ts → m′ .nodes ≡ m .nodes ++ ns → Grows m m′
-  unfolding typeAt nodeAt typeIn nodeIn
+  unfolding typeShapeAt nodeShapeAt typeIn nodeIn
   extend m m′ more ts ns ec et en =
-      let tys : (i : ℕ) → typeAt script m i ⊑ typeAt script m′ i = λ i a e. subst₂ (λ c t. lookup (tabulate (typeTab c) [] t) i ≡ some a) (sym ec) (sym et) (types-grow (m .cells) more (m .types) ts i a e) in
+      let tys : (i : ℕ) → typeShapeAt script m i ⊑ typeShapeAt script m′ i = λ i a e. subst₂ (λ c t. lookup (tabulate (typeTab c) [] t) i ≡ some a) (sym ec) (sym et) (types-grow (m .cells) more (m .types) ts i a e) in
       record {
         more = more;
         cells = ec;
         types = tys;
-        nodes = λ i a e. subst₂ (λ c n. lookup (tabulate (nodeTab c (typeAt script m′)) [] n) i ≡ some a) (sym ec) (sym en) (nodes-grow (m .cells) more (typeAt script m) (typeAt script m′) tys (m .nodes) ns i a e);
+        nodes = λ i a e. subst₂ (λ c n. lookup (tabulate (nodeTab c (typeShapeAt script m′)) [] n) i ≡ some a) (sym ec) (sym en) (nodes-grow (m .cells) more (typeShapeAt script m) (typeShapeAt script m′) tys (m .nodes) ns i a e);
       }
 
   pub grows-refl : (m : Arena) → Grows m m
@@ -314,42 +314,42 @@ module _ (script : List ℕ) where
   }
 
   -- the record just made
-  pub arena-type : (m m′ : Arena) (x : TypeExpr) → m′ .cells ≡ m .cells → m′ .types ≡ m .types ++ (x ∷ []) → typeAt script m′ (length (m .types)) ≡ typeShape (env script (m .cells) (typeAt script m) (λ i. none)) x
-  unfolding typeAt typeIn tabulate
+  pub arena-type : (m m′ : Arena) (x : TypeExpr) → m′ .cells ≡ m .cells → m′ .types ≡ m .types ++ (x ∷ []) → typeShapeAt script m′ (length (m .types)) ≡ typeShape (env script (m .cells) (typeShapeAt script m) (λ i. none)) x
+  unfolding typeShapeAt typeIn tabulate
   arena-type m m′ x ec et =
-      subst₂ (λ c t. lookup (tabulate (typeTab c) [] t) (length (m .types)) ≡ typeShape (env script (m .cells) (typeAt script m) (λ i. none)) x) (sym ec) (sym et)
+      subst₂ (λ c t. lookup (tabulate (typeTab c) [] t) (length (m .types)) ≡ typeShape (env script (m .cells) (typeShapeAt script m) (λ i. none)) x) (sym ec) (sym et)
       (rw (table-append, ← (table-length (typeTab (m .cells)) (m .types) [] ∙ zero-add _)) (look-end (tabulate (typeTab (m .cells)) [] (m .types)) _))
 
-  pub arena-node : (m m′ : Arena) (x : Node) → m′ .cells ≡ m .cells → m′ .types ≡ m .types → m′ .nodes ≡ m .nodes ++ (x ∷ []) → nodeAt script m′ (length (m .nodes)) ≡ nodeShape (envOf m) x
-  unfolding typeAt typeIn nodeAt nodeIn tabulate
+  pub arena-node : (m m′ : Arena) (x : Node) → m′ .cells ≡ m .cells → m′ .types ≡ m .types → m′ .nodes ≡ m .nodes ++ (x ∷ []) → nodeShapeAt script m′ (length (m .nodes)) ≡ nodeShape (envOf m) x
+  unfolding typeShapeAt typeIn nodeShapeAt nodeIn tabulate
   arena-node m m′ x ec et en =
       subst₃ (λ c t n. lookup (tabulate (nodeTab c (lookup (tabulate (typeTab c) [] t))) [] n) (length (m .nodes)) ≡ nodeShape (envOf m) x) (sym ec) (sym et) (sym en)
-      (rw (table-append, ← (table-length (nodeTab (m .cells) (typeAt script m)) (m .nodes) [] ∙ zero-add _)) (look-end (tabulate (nodeTab (m .cells) (typeAt script m)) [] (m .nodes)) _))
+      (rw (table-append, ← (table-length (nodeTab (m .cells) (typeShapeAt script m)) (m .nodes) [] ∙ zero-add _)) (look-end (tabulate (nodeTab (m .cells) (typeShapeAt script m)) [] (m .nodes)) _))
 
   module _ {m m′ : Arena} (g : Grows m m′) where
-    pub node-grows : Le (resolve number (nodeAt script m)) (resolve number (nodeAt script m′))
+    pub node-grows : Le (resolve number (nodeShapeAt script m)) (resolve number (nodeShapeAt script m′))
     node-grows = to-mono _ _ _ _ number-mono (g .nodes)
 
     pub wordIn-grows : Le (S.wordIn (envOf m)) (S.wordIn (envOf m′))
-    wordIn-grows = subst (λ (c : List ℕ). Le (S.wordIn (envOf m)) (S.wordIn (env script c (typeAt script m′) (nodeAt script m′)))) (sym (g .cells)) (wordIn-mono script (m .cells) (g .more) _ _ _ _ (g .types) (g .nodes))
+    wordIn-grows = subst (λ (c : List ℕ). Le (S.wordIn (envOf m)) (S.wordIn (env script c (typeShapeAt script m′) (nodeShapeAt script m′)))) (sym (g .cells)) (wordIn-mono script (m .cells) (g .more) _ _ _ _ (g .types) (g .nodes))
 
     pub paramIn-grows : Le (S.paramIn (envOf m)) (S.paramIn (envOf m′))
-    paramIn-grows = subst (λ (c : List ℕ). Le (S.paramIn (envOf m)) (S.paramIn (env script c (typeAt script m′) (nodeAt script m′)))) (sym (g .cells)) (paramIn-mono script (m .cells) (g .more) _ _ _ _ (g .types) (g .nodes))
+    paramIn-grows = subst (λ (c : List ℕ). Le (S.paramIn (envOf m)) (S.paramIn (env script c (typeShapeAt script m′) (nodeShapeAt script m′)))) (sym (g .cells)) (paramIn-mono script (m .cells) (g .more) _ _ _ _ (g .types) (g .nodes))
 
     pub fieldIn-grows : Le (S.fieldIn (envOf m)) (S.fieldIn (envOf m′))
-    fieldIn-grows = subst (λ (c : List ℕ). Le (S.fieldIn (envOf m)) (S.fieldIn (env script c (typeAt script m′) (nodeAt script m′)))) (sym (g .cells)) (fieldIn-mono script (m .cells) (g .more) _ _ _ _ (g .types) (g .nodes))
+    fieldIn-grows = subst (λ (c : List ℕ). Le (S.fieldIn (envOf m)) (S.fieldIn (env script c (typeShapeAt script m′) (nodeShapeAt script m′)))) (sym (g .cells)) (fieldIn-mono script (m .cells) (g .more) _ _ _ _ (g .types) (g .nodes))
 
     pub caseIn-grows : Le (S.caseIn (envOf m)) (S.caseIn (envOf m′))
-    caseIn-grows = subst (λ (c : List ℕ). Le (S.caseIn (envOf m)) (S.caseIn (env script c (typeAt script m′) (nodeAt script m′)))) (sym (g .cells)) (caseIn-mono script (m .cells) (g .more) _ _ _ _ (g .types) (g .nodes))
+    caseIn-grows = subst (λ (c : List ℕ). Le (S.caseIn (envOf m)) (S.caseIn (env script c (typeShapeAt script m′) (nodeShapeAt script m′)))) (sym (g .cells)) (caseIn-mono script (m .cells) (g .more) _ _ _ _ (g .types) (g .nodes))
 
     pub fnIn-grows : Le (S.fnIn (envOf m)) (S.fnIn (envOf m′))
-    fnIn-grows = subst (λ (c : List ℕ). Le (S.fnIn (envOf m)) (S.fnIn (env script c (typeAt script m′) (nodeAt script m′)))) (sym (g .cells)) (fnIn-mono script (m .cells) (g .more) _ _ _ _ (g .types) (g .nodes))
+    fnIn-grows = subst (λ (c : List ℕ). Le (S.fnIn (envOf m)) (S.fnIn (env script c (typeShapeAt script m′) (nodeShapeAt script m′)))) (sym (g .cells)) (fnIn-mono script (m .cells) (g .more) _ _ _ _ (g .types) (g .nodes))
 
     pub words-grows : (r : Run) → S.words (envOf m) r ⊑ S.words (envOf m′) r
-    words-grows r = subst (λ (c : List ℕ). S.words (envOf m) r ⊑ S.words (env script c (typeAt script m′) (nodeAt script m′)) r) (sym (g .cells)) (words-mono script (m .cells) (g .more) _ _ _ _ (g .types) (g .nodes) r)
+    words-grows r = subst (λ (c : List ℕ). S.words (envOf m) r ⊑ S.words (env script c (typeShapeAt script m′) (nodeShapeAt script m′)) r) (sym (g .cells)) (words-mono script (m .cells) (g .more) _ _ _ _ (g .types) (g .nodes) r)
 
     pub params-grows : (r : Run) → S.params (envOf m) r ⊑ S.params (envOf m′) r
-    params-grows r = subst (λ (c : List ℕ). S.params (envOf m) r ⊑ S.params (env script c (typeAt script m′) (nodeAt script m′)) r) (sym (g .cells)) (params-mono script (m .cells) (g .more) _ _ _ _ (g .types) (g .nodes) r)
+    params-grows r = subst (λ (c : List ℕ). S.params (envOf m) r ⊑ S.params (env script c (typeShapeAt script m′) (nodeShapeAt script m′)) r) (sym (g .cells)) (params-mono script (m .cells) (g .more) _ _ _ _ (g .types) (g .nodes) r)
 
     pub shapes-grows : (r : Run) → S.shapes (envOf m) r ⊑ S.shapes (envOf m′) r
-    shapes-grows r = subst (λ (c : List ℕ). S.shapes (envOf m) r ⊑ S.shapes (env script c (typeAt script m′) (nodeAt script m′)) r) (sym (g .cells)) (shapes-mono script (m .cells) (g .more) _ _ _ _ (g .types) (g .nodes) r)
+    shapes-grows r = subst (λ (c : List ℕ). S.shapes (envOf m) r ⊑ S.shapes (env script c (typeShapeAt script m′) (nodeShapeAt script m′)) r) (sym (g .cells)) (shapes-mono script (m .cells) (g .more) _ _ _ _ (g .types) (g .nodes) r)

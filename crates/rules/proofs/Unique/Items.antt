@@ -16,7 +16,7 @@ use Rattle.rules.specs.Rules.{Cases}
 use Rattle.rules.specs.Strike.{keep}
 use Rattle.rules.specs.Shape as S
 use Rattle.lex.specs.Spelling.{wellFormed}
-use Rattle.rules.specs.Shape.{Word, wordOf, word, TypeShape, Params, noParam, param, FnShape, Shape, Shapes, noShape, shape, CaseShapes, noCase, caseS, map₁, map₂, map₃, map₄, map₅, andThen, Decoder, decoded, chain, number, token, run, resolve, both, typeAt, typeShape, nodeShape}
+use Rattle.rules.specs.Shape.{Word, wordOf, word, TypeShape, Params, noParam, param, FnShape, Shape, Shapes, noShape, shape, CaseShapes, noCase, caseS, map₁, map₂, map₃, map₄, map₅, andThen, Decoder, decoded, chain, number, token, run, resolve, both, typeShapeAt, typeShape, nodeShape}
 use Rattle.rules.proofs.Unique.Print.{fixed, print, prints, printCases, printT, printParams, printReturn, printFn, printFns, printPaths, inRound, inCurly}
 use Rattle.rules.proofs.Unique.Grow.{envOf, Grows, grows-refl, grows-trans, Le, wordIn-grows, caseIn-grows, fnIn-grows, words-grows, params-grows, shapes-grows}
 use Rattle.rules.proofs.Results.{holds, fails, weaken, ifKind-ok, ifKind-else, table-ok, entry-ok, other-ok, rejectKind-ok, requireNoDocs-ok, bind-ok, then-ok, pure-ok, cur-ok, fail-ok, flowValue, loop-ok}
@@ -51,7 +51,7 @@ module _ (script : List ℕ) where
 
   pub record ReturnDone (s : State) (t : TypeExprId) (s′ : State) : Type 0 where
     pub shape : TypeShape
-    pub is : typeAt script (s′ .arena) (t .0) ≡ some shape
+    pub is : typeShapeAt script (s′ .arena) (t .0) ≡ some shape
     pub consumed : Consumed script s s′ (printReturn shape)
 
   -- ---- docs

@@ -12,7 +12,7 @@ use Rattle.lex.specs.Lex.{cut, tokensOf}
 use Rattle.lex.specs.Spelling.{hasSpelling, spellingStart}
 use Rattle.rules.specs.Tree.{Arena, Notes, State, Result, ok, err}
 use Rattle.rules.specs.Combinators.{Rule, current, rest, advance, struck, expect, expectIdent, withArena, pushNodeAnd, pushType, allocSlice, members, listUntil}
-use Rattle.rules.specs.Shape.{Word, wordOf, word, TypeShape, Shape, map₁, andThen, Decoder, decoded, chain, items, listAt, typeAt, nodeAt, typeShape, nodeShape}
+use Rattle.rules.specs.Shape.{Word, wordOf, word, TypeShape, Shape, map₁, andThen, Decoder, decoded, chain, items, listAt, typeShapeAt, nodeShapeAt, typeShape, nodeShape}
 use Rattle.rules.specs.Strike.{keep, noDocBeforeImport}
 use Rattle.rules.proofs.Results.{not-kind, Ends, holds, fails, weaken, ifKind-ok, bind-ok, then-ok, pure-ok, fail-ok, loop-ok}
 use Rattle.rules.proofs.Unique.Print.{fixed, printT, printReturn, print}
@@ -28,8 +28,8 @@ use Rattle.rules.specs.declared.TypeExpr.{TypeExpr}
 
 -- every record has a shape
 pub record AllShaped (script : List ℕ) (m : Arena) : Type 0 where
-  pub nodes : (i : ℕ) → i < length (m .nodes) → (σ : Shape) × (nodeAt script m i ≡ some σ)
-  pub types : (j : ℕ) → j < length (m .types) → (τ : TypeShape) × (typeAt script m j ≡ some τ)
+  pub nodes : (i : ℕ) → i < length (m .nodes) → (σ : Shape) × (nodeShapeAt script m i ≡ some σ)
+  pub types : (j : ℕ) → j < length (m .types) → (τ : TypeShape) × (typeShapeAt script m j ≡ some τ)
 
 -- what unique reading asks of a result: where a rule fails, only that every record made so far has a shape
 abbrev pub Holds : {A : Type 0} → List ℕ → (A → State → Type 0) → Result A → Type 0
@@ -282,7 +282,7 @@ module _ (script : List ℕ) where
   }
 
   -- or one record, which has a shape
-  one-type : (m m′ : Arena) (x : TypeExpr) → AllShaped script m → m′ .cells ≡ m .cells → m′ .types ≡ m .types ++ (x ∷ []) → m′ .nodes ≡ m .nodes → (τ : TypeShape) × (typeAt script m′ (length (m .types)) ≡ some τ) → AllShaped script m′
+  one-type : (m m′ : Arena) (x : TypeExpr) → AllShaped script m → m′ .cells ≡ m .cells → m′ .types ≡ m .types ++ (x ∷ []) → m′ .nodes ≡ m .nodes → (τ : TypeShape) × (typeShapeAt script m′ (length (m .types)) ≡ some τ) → AllShaped script m′
   one-type m m′ x a ec et en k =
       let g : Grows script m m′ = extend script m m′ [] (x ∷ []) [] (ec ∙ sym (append-nil _)) et (en ∙ sym (append-nil _)) in
       record {
@@ -290,11 +290,11 @@ module _ (script : List ℕ) where
         types = λ j h. by-place g j (omega (arith, ap length et, length-append (m .types) (x ∷ []), h)) (eqb j (length (m .types))) refl;
       }
     where
-      by-place : Grows script m m′ → (j : ℕ) → j ≤ length (m .types) → (b : Bool) → eqb j (length (m .types)) ≡ b → (τ : TypeShape) × (typeAt script m′ j ≡ some τ)
-      by-place g j h true e = subst (λ (i : ℕ). (τ : TypeShape) × (typeAt script m′ i ≡ some τ)) (sym (eqb→eq j (length (m .types)) (rw e tt))) k
+      by-place : Grows script m m′ → (j : ℕ) → j ≤ length (m .types) → (b : Bool) → eqb j (length (m .types)) ≡ b → (τ : TypeShape) × (typeShapeAt script m′ j ≡ some τ)
+      by-place g j h true e = subst (λ (i : ℕ). (τ : TypeShape) × (typeShapeAt script m′ i ≡ some τ)) (sym (eqb→eq j (length (m .types)) (rw e tt))) k
       by-place g j h false e = let z = a .types j (omega (arith, not-kind j (length (m .types)) e, h)) in (z .0, g .types j (z .0) (z .1))
 
-  one-node : (m m′ : Arena) (x : Node) → AllShaped script m → m′ .cells ≡ m .cells → m′ .types ≡ m .types → m′ .nodes ≡ m .nodes ++ (x ∷ []) → (σ : Shape) × (nodeAt script m′ (length (m .nodes)) ≡ some σ) → AllShaped script m′
+  one-node : (m m′ : Arena) (x : Node) → AllShaped script m → m′ .cells ≡ m .cells → m′ .types ≡ m .types → m′ .nodes ≡ m .nodes ++ (x ∷ []) → (σ : Shape) × (nodeShapeAt script m′ (length (m .nodes)) ≡ some σ) → AllShaped script m′
   one-node m m′ x a ec et en k =
       let g : Grows script m m′ = extend script m m′ [] [] (x ∷ []) (ec ∙ sym (append-nil _)) (et ∙ sym (append-nil _)) en in
       record {
@@ -302,30 +302,30 @@ module _ (script : List ℕ) where
         types = λ j h. let z = a .types j (omega (arith, ap length et, h)) in (z .0, g .types j (z .0) (z .1));
       }
     where
-      by-place : Grows script m m′ → (i : ℕ) → i ≤ length (m .nodes) → (b : Bool) → eqb i (length (m .nodes)) ≡ b → (σ : Shape) × (nodeAt script m′ i ≡ some σ)
-      by-place g i h true e = subst (λ (j : ℕ). (σ : Shape) × (nodeAt script m′ j ≡ some σ)) (sym (eqb→eq i (length (m .nodes)) (rw e tt))) k
+      by-place : Grows script m m′ → (i : ℕ) → i ≤ length (m .nodes) → (b : Bool) → eqb i (length (m .nodes)) ≡ b → (σ : Shape) × (nodeShapeAt script m′ i ≡ some σ)
+      by-place g i h true e = subst (λ (j : ℕ). (σ : Shape) × (nodeShapeAt script m′ j ≡ some σ)) (sym (eqb→eq i (length (m .nodes)) (rw e tt))) k
       by-place g i h false e = let z = a .nodes i (omega (arith, not-kind i (length (m .nodes)) e, h)) in (z .0, g .nodes i (z .0) (z .1))
 
   pub record NodeDone (s : State) (n : NodeId) (s′ : State) : Type 0 where
     pub shape : Shape
-    pub is : nodeAt script (s′ .arena) (n .0) ≡ some shape
+    pub is : nodeShapeAt script (s′ .arena) (n .0) ≡ some shape
     pub consumed : Consumed script s s′ (print shape)
 
   pub record TypeDone (s : State) (t : TypeExprId) (s′ : State) : Type 0 where
     pub shape : TypeShape
-    pub is : typeAt script (s′ .arena) (t .0) ≡ some shape
+    pub is : typeShapeAt script (s′ .arena) (t .0) ≡ some shape
     pub consumed : Consumed script s s′ (printT shape)
     pub ret : printReturn shape ≡ elim (eqb (current (s .left) .kind) kVoid) as (λ b. List Word) [ true ↦ [] | false ↦ printT shape ]
 
   -- a record made, after what was done before
-  pub type-ok : {s₀ : State} {ws : List Word} (s : State) (x : TypeExpr) (σ : TypeShape) → Consumed script s₀ s ws → typeShape (env script (s .arena .cells) (typeAt script (s .arena)) (λ i. none)) x ≡ some σ → Holds script (λ t s′. (typeAt script (s′ .arena) (t .0) ≡ some σ) × Consumed script s₀ s′ ws) (pushType x s)
+  pub type-ok : {s₀ : State} {ws : List Word} (s : State) (x : TypeExpr) (σ : TypeShape) → Consumed script s₀ s ws → typeShape (env script (s .arena .cells) (typeShapeAt script (s .arena)) (λ i. none)) x ≡ some σ → Holds script (λ t s′. (typeShapeAt script (s′ .arena) (t .0) ≡ some σ) × Consumed script s₀ s′ ws) (pushType x s)
   unfolding pushType withArena
   type-ok s x σ d e =
       let m : Arena = s .arena in
       let m′ : Arena = record { nodes = m .nodes; types = m .types ++ (x ∷ []); cells = m .cells; values = m .values } in
       holds (arena-type script m m′ x refl refl ∙ e, consumed-end d (consumed-none s (withArena m′ s) refl refl (extend script m m′ [] (x ∷ []) [] (sym (append-nil _)) refl (sym (append-nil _))) (record { docs = d .invariant .docs; tokensOk = d .invariant .tokensOk; docsWellFormed = d .invariant .docsWellFormed; allShaped = one-type m m′ x (d .invariant .allShaped) refl refl refl (_, arena-type script m m′ x refl refl ∙ e) })))
 
-  pub node-ok : {s₀ : State} {ws : List Word} (s : State) (more : ℕ) (f : ℕ → Node) (σ : Shape) → Consumed script s₀ s ws → ((id : ℕ) → nodeShape (envOf script (s .arena)) (f id) ≡ some σ) → Holds script (λ n s′. (nodeAt script (s′ .arena) (n .0) ≡ some σ) × Consumed script s₀ s′ ws) (pushNodeAnd more f s)
+  pub node-ok : {s₀ : State} {ws : List Word} (s : State) (more : ℕ) (f : ℕ → Node) (σ : Shape) → Consumed script s₀ s ws → ((id : ℕ) → nodeShape (envOf script (s .arena)) (f id) ≡ some σ) → Holds script (λ n s′. (nodeShapeAt script (s′ .arena) (n .0) ≡ some σ) × Consumed script s₀ s′ ws) (pushNodeAnd more f s)
   unfolding pushNodeAnd withArena
   node-ok s more f σ d e =
       let m : Arena = s .arena in
@@ -335,7 +335,7 @@ module _ (script : List ℕ) where
   pub node-end : {s₀ : State} {ws : List Word} (s : State) (more : ℕ) (f : ℕ → Node) (σ : Shape) → Consumed script s₀ s ws → ((id : ℕ) → nodeShape (envOf script (s .arena)) (f id) ≡ some σ) → ws ≡ print σ → Holds script (NodeDone s₀) (pushNodeAnd more f s)
   node-end s more f σ d e p = weaken (node-ok s more f σ d e) (λ n s′ q. record { shape = σ; is = q .0; consumed = consumed-as p (q .1) })
 
-  pub type-end : {s₀ : State} {ws : List Word} (s : State) (x : TypeExpr) (σ : TypeShape) → Consumed script s₀ s ws → typeShape (env script (s .arena .cells) (typeAt script (s .arena)) (λ i. none)) x ≡ some σ → ws ≡ printT σ → printReturn σ ≡ elim (eqb (current (s₀ .left) .kind) kVoid) as (λ b. List Word) [ true ↦ [] | false ↦ printT σ ] → Holds script (TypeDone s₀) (pushType x s)
+  pub type-end : {s₀ : State} {ws : List Word} (s : State) (x : TypeExpr) (σ : TypeShape) → Consumed script s₀ s ws → typeShape (env script (s .arena .cells) (typeShapeAt script (s .arena)) (λ i. none)) x ≡ some σ → ws ≡ printT σ → printReturn σ ≡ elim (eqb (current (s₀ .left) .kind) kVoid) as (λ b. List Word) [ true ↦ [] | false ↦ printT σ ] → Holds script (TypeDone s₀) (pushType x s)
   type-end s x σ d e p r = weaken (type-ok s x σ d e) (λ n s′ q. record { shape = σ; is = q .0; consumed = consumed-as p (q .1); ret = r })
 
   -- ---- lists

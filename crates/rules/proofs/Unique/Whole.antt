@@ -15,7 +15,7 @@ use Rattle.rules.specs.Combinators.{current}
 use Rattle.rules.specs.Rules as Q
 use Rattle.rules.specs.Rules.{readers, stageOne}
 use Rattle.rules.specs.Parse.{Reading, read, ended, begin, parse, parseRoots}
-use Rattle.rules.specs.Shape.{Word, wordOf, Shape, Shapes, noShape, shape, map₁, map₂, nodeAt, shapesOf, shapeOf}
+use Rattle.rules.specs.Shape.{Word, wordOf, Shape, Shapes, noShape, shape, map₁, map₂, nodeShapeAt, shapesOf, shapeOf}
 use Rattle.rules.specs.Strike.{keep, notesOf, strike, Plain, UniqueReading}
 use Rattle.rules.proofs.Unique.Print.{fixed, print, prints}
 use Rattle.rules.proofs.Unique.Grow.{_⊑_}
@@ -61,7 +61,7 @@ are-each (are∷ p l) = rw (p, are-each l)
 module _ (script : List ℕ) (s₀ : State) where
   record RootsDone (roots : List ℕ) (s : State) : Type 0 where
     pub values : List Shape
-    pub are : Are (nodeAt script (s .arena)) roots values
+    pub are : Are (nodeShapeAt script (s .arena)) roots values
     pub consumed : Consumed script s₀ s (prints (fold noShape shape values))
 
   roots-snoc : {roots : List ℕ} {s s′ : State} {n : NodeId} → RootsDone roots s → NodeDone script s n s′ → RootsDone (roots ++ (n .0 ∷ [])) s′

@@ -1,7 +1,7 @@
 -- `listing::lines::write_answer` meets its contract.
 use borrow.Author.Needs.{needs}
 use mathlib.Core.Path.{sym}
-use Rattle.listing.specs.Listing.{arraysOf}
+use Rattle.rules.specs.Promise.{arraysOf}
 use Rattle.text.proofs.EmitLaws.{by, same-size}
 use Rattle.listing.proofs.EmitLaws.{tree-in, tree-out, cells-inside, error-is, refusal-is}
 use lib.Seq.{length-take-le}

@@ -27,8 +27,8 @@ returns-2 c =
     let drop-docs = c .before .before .drop-docs in
     λ script nodes. record {
       same =
-          let kept = set-status .ensures ∙ ap (λ (p : Parser). withStatus p Going) (set-used .ensures) in
-          λ i. from script ((drop-docs .ensures .1 ∙ ap (λ (p : Parser). p .cur) kept) i) ((drop-docs .ensures .2 ∙ ap (λ (p : Parser). p .pos) kept) i);
+          let stackUnchanged = set-status .ensures ∙ ap (λ (p : Parser). withStatus p Going) (set-used .ensures) in
+          λ i. from script ((drop-docs .ensures .1 ∙ ap (λ (p : Parser). p .cur) stackUnchanged) i) ((drop-docs .ensures .2 ∙ ap (λ (p : Parser). p .pos) stackUnchanged) i);
       resumes = λ e R L stack m h. represents-less _ _ (omega arith) (omega arith) (drop-docs .ensures .0 script nodes _ .simulates R L _ m (represents-less _ _ (omega arith) (omega arith) (resuming (get-used .ensures) (set-used .ensures) (set-status .ensures) (clear-from .ensures) h)) .1);
     }
 

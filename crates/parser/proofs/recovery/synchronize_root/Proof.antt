@@ -7,7 +7,7 @@ use mathlib.Core.List.{List, []}
 use Prim.Native.Nat.{ℕ}
 use Rattle.rules.specs.Parse.{synchronizeStep}
 use Rattle.parser_state.specs.Represents.{code}
-use Rattle.parser_state.specs.Refines.{kept}
+use Rattle.parser_state.specs.Refines.{stackUnchanged}
 use Rattle.parser_state.proofs.Rounds.{LoopInvariant, round-start, round-again, round-last, again-of, last-of, weight, lighter}
 use Rattle.parser.specs.Whole.{synchronizing}
 use Rattle.parser.proofs.Synchronize.{skips-both, skips-some, continues, breaks-past, breaks-before}
@@ -15,7 +15,7 @@ use Rattle.parser.proofs.recovery.synchronize_root.Statement.{statement
 use Rattle.parser.proofs.recovery.synchronize_root.Tie as tie
 
 abbrev Inv-loop : tie.InvT-loop
-Inv-loop script p₀ p = (nodes types lists : List ℕ) → LoopInvariant script synchronizeStep kept 0 (λ n. n ≡ 0) (code nodes types lists (parserOf p₀)) (code nodes types lists (parserOf p))
+Inv-loop script p₀ p = (nodes types lists : List ℕ) → LoopInvariant script synchronizeStep stackUnchanged 0 (λ n. n ≡ 0) (code nodes types lists (parserOf p₀)) (code nodes types lists (parserOf p))
 
 abbrev μ-loop : tie.MeasureT-loop
 μ-loop script p₀ p = weight script (code [] [] [] (parserOf p))

@@ -10,7 +10,7 @@ use Rattle.parser_items.proofs.+array_lit+binary+call+case+cases+climb+
 use Rattle.rules.specs.Rules.{infixes, infixStep, stageOne}
 use Rattle.parser_state.proofs.Rounds.{LoopInvariant, round-start, round-again, round-out, again-of, weight, lighter}
 use Rattle.parser_state.specs.Represents.{parserOf, code}
-use Rattle.parser_state.specs.Refines.{kept, deeper}
+use Rattle.parser_state.specs.Refines.{stackUnchanged, deeper}
 use Rattle.parser_operators.proofs.Exprs.{infix-on, infix-out}
 use Rattle.parser_items.proofs.Levels.{out-at}
 use mathlib.Core.Path.{_≡_, refl, sym, _∙_}
@@ -20,7 +20,7 @@ abbrev claims : ℕ → lts.Claims
 claims t = (infix-follows-reads.Asked, infix-follows-reads.Learnt, climb-below t, climb.Post)
 
 abbrev Inv-loop : lts.InvT-loop
-Inv-loop script nodes₀ types₀ lists₀ p₀ least levels x₀ nodes types lists p x = (length nodes ≡ length nodes₀) × (length types ≡ length types₀) × (length lists ≡ length lists₀) × LoopInvariant script (infixStep (deeper script levels) stageOne script least) kept x₀ (λ a. a ≡ x) (code nodes₀ types₀ lists₀ (parserOf p₀)) (code nodes types lists (parserOf p))
+Inv-loop script nodes₀ types₀ lists₀ p₀ least levels x₀ nodes types lists p x = (length nodes ≡ length nodes₀) × (length types ≡ length types₀) × (length lists ≡ length lists₀) × LoopInvariant script (infixStep (deeper script levels) stageOne script least) stackUnchanged x₀ (λ a. a ≡ x) (code nodes₀ types₀ lists₀ (parserOf p₀)) (code nodes types lists (parserOf p))
 
 abbrev μ-loop : lts.MeasureT-loop
 μ-loop script nodes₀ types₀ lists₀ p₀ least levels x₀ nodes types lists p x = weight script (code nodes types lists (parserOf p))

@@ -10,7 +10,7 @@ use Rattle.parser_items.proofs.+array_lit+binary+call+case+cases+climb+
 use Rattle.rules.specs.Rules.{postfix, postfixStep}
 use Rattle.parser_state.proofs.Rounds.{LoopInvariant, round-start, round-again, round-out, again-of, weight, lighter}
 use Rattle.parser_state.specs.Represents.{parserOf, code}
-use Rattle.parser_state.specs.Refines.{kept, deeper}
+use Rattle.parser_state.specs.Refines.{stackUnchanged, deeper}
 use Rattle.parser_operators.proofs.Exprs.{postfix-goes, post-out}
 use Rattle.parser_items.proofs.Levels.{out-at}
 use mathlib.Core.Path.{_≡_, refl, sym, _∙_}
@@ -20,7 +20,7 @@ abbrev claims : ℕ → lts.Claims
 claims t = (postfix-follows-reads.Asked, postfix-follows-reads.Learnt, post-step-below t, post-step.Post)
 
 abbrev Inv-loop : lts.InvT-loop
-Inv-loop script nodes₀ types₀ lists₀ p₀ levels x₀ nodes types lists p x = (length nodes ≡ length nodes₀) × (length types ≡ length types₀) × (length lists ≡ length lists₀) × LoopInvariant script (postfixStep (deeper script levels)) kept x₀ (λ a. a ≡ x) (code nodes₀ types₀ lists₀ (parserOf p₀)) (code nodes types lists (parserOf p))
+Inv-loop script nodes₀ types₀ lists₀ p₀ levels x₀ nodes types lists p x = (length nodes ≡ length nodes₀) × (length types ≡ length types₀) × (length lists ≡ length lists₀) × LoopInvariant script (postfixStep (deeper script levels)) stackUnchanged x₀ (λ a. a ≡ x) (code nodes₀ types₀ lists₀ (parserOf p₀)) (code nodes types lists (parserOf p))
 
 abbrev μ-loop : lts.MeasureT-loop
 μ-loop script nodes₀ types₀ lists₀ p₀ levels x₀ nodes types lists p x = weight script (code nodes types lists (parserOf p))

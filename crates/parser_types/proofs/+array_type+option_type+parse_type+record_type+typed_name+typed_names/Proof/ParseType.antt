@@ -11,8 +11,8 @@ use Rattle.parser_types.proofs.option_type.Reads as option-type
 use Rattle.parser_types.proofs.array_type.Reads as array-type
 use Rattle.parser_types.proofs.record_type.Reads as record-type
 use Rattle.parser_types.proofs.atom_type.Reads as atom-type-reads
-use Rattle.parser_types.proofs.+array_type+field+fields+option_type+parse_type+record_type.Lts-parse_type as lts
-use Rattle.parser_types.proofs.+array_type+field+fields+option_type+parse_type+record_type.Proof.Measures.{parse-type-at, array-type-below, option-type-below, record-type-below}
+use Rattle.parser_types.proofs.+array_type+option_type+parse_type+record_type+typed_name+typed_names.Lts-parse_type as lts
+use Rattle.parser_types.proofs.+array_type+option_type+parse_type+record_type+typed_name+typed_names.Proof.Measures.{parse-type-at, array-type-below, option-type-below, record-type-below}
 use Rattle.parser_types.proofs.TypeKinds.{too-deep, type-at, type-atom, type-none}
 use Rattle.lex.specs.Kind.{kOption, kArray, kForeign, kRecord}
 use Rattle.rules.specs.Combinators.{choose}

@@ -7,8 +7,8 @@ use Rattle.parser_types.proofs.open_angle.Reads as open-angle-reads
 use Rattle.parser_types.proofs.parse_type.Reads as parse-type
 use Rattle.parser_state.proofs.expect.Reads as expect-reads
 use Rattle.parser_state.proofs.push_type.Reads as push-type-reads
-use Rattle.parser_types.proofs.+array_type+field+fields+option_type+parse_type+record_type.Lts-array_type as lts
-use Rattle.parser_types.proofs.+array_type+field+fields+option_type+parse_type+record_type.Proof.Measures.{array-type-at, parse-type-below}
+use Rattle.parser_types.proofs.+array_type+option_type+parse_type+record_type+typed_name+typed_names.Lts-array_type as lts
+use Rattle.parser_types.proofs.+array_type+option_type+parse_type+record_type+typed_name+typed_names.Proof.Measures.{array-type-at, parse-type-below}
 use Rattle.parser_state.proofs.Steps.{seq, then, enough}
 use Rattle.rules.specs.Rules.{arrayType}
 

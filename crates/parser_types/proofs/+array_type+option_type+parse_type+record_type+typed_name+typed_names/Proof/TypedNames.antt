@@ -1,16 +1,16 @@
--- `fields` meets its contract.
+-- `typed_names` meets its contract.
 use borrow.Author.Needs.{needs}
 use Rattle.parser_state.specs.declared.Used.{Used}
 use native.Mathlib.Omega.{arith}
 use Prim.Native.Nat.{ℕ}
-use Rattle.parser_types.proofs.fields.Reads as fields
+use Rattle.parser_types.proofs.typed_names.Reads as typed-names
 use Rattle.parser_state.proofs.get_used.Reads as get-used-reads
 use Rattle.parser_state.proofs.member_follows.Reads as member-follows-reads
-use Rattle.parser_types.proofs.field.Reads as field
+use Rattle.parser_types.proofs.typed_name.Reads as typed-name
 use Rattle.std.proofs.num.wrapping_add_u32.Reads as wrapping-add-u32-reads
 use Rattle.parser_state.proofs.close.Reads as close-reads
-use Rattle.parser_types.proofs.+array_type+field+fields+option_type+parse_type+record_type.Lts-fields as lts
-use Rattle.parser_types.proofs.+array_type+field+fields+option_type+parse_type+record_type.Proof.Measures.{fields-at, field-below}
+use Rattle.parser_types.proofs.+array_type+option_type+parse_type+record_type+typed_name+typed_names.Lts-typed_names as lts
+use Rattle.parser_types.proofs.+array_type+option_type+parse_type+record_type+typed_name+typed_names.Proof.Measures.{typed-names-at, typed-name-below}
 use Rattle.parser_state.proofs.Loops.{MembersInvariant, midway-start, midway-turn, midway-end, falls}
 use Rattle.parser_state.proofs.Rounds.{weight}
 use mathlib.Core.Path.{_≡_, refl, sym, _∙_, ap}
@@ -21,7 +21,7 @@ use Rattle.parser_state.specs.Represents.{parserOf, code}
 use Rattle.parser_state.specs.Refines.{deeper}
 
 abbrev claims : ℕ → lts.Claims
-claims t = (get-used-reads.Asked, get-used-reads.Learnt, member-follows-reads.Asked, member-follows-reads.Learnt, field-below t, field.Post, wrapping-add-u32-reads.Asked, wrapping-add-u32-reads.Learnt, close-reads.Asked, close-reads.Learnt)
+claims t = (get-used-reads.Asked, get-used-reads.Learnt, member-follows-reads.Asked, member-follows-reads.Learnt, typed-name-below t, typed-name.Post, wrapping-add-u32-reads.Asked, wrapping-add-u32-reads.Learnt, close-reads.Asked, close-reads.Learnt)
 
 abbrev Inv-loop : lts.InvT-loop
 Inv-loop script types₀ lists₀ p₀ stop levels mark members₀ types lists p members = (length types ≡ length types₀) × (length lists ≡ length lists₀) × ((nodes : List ℕ) → MembersInvariant script stop (typedName (deeper script levels)) (code nodes types₀ lists₀ (parserOf p₀)) (code nodes types lists (parserOf p)) members)
@@ -29,26 +29,26 @@ Inv-loop script types₀ lists₀ p₀ stop levels mark members₀ types lists p
 abbrev μ-loop : lts.MeasureT-loop
 μ-loop script types₀ lists₀ p₀ stop levels mark members₀ types lists p members = weight script (code [] types lists (parserOf p))
 
-loop-holds : (t : ℕ) → lts.Need-loop-holds (claims t) (fields-at t) fields.Post Inv-loop μ-loop
+loop-holds : (t : ℕ) → lts.Need-loop-holds (claims t) (typed-names-at t) typed-names.Post Inv-loop μ-loop
 loop-holds t c = (refl, refl, λ nodes. midway-start)
 
-loop-less : (t : ℕ) → lts.Need-loop-less (claims t) (fields-at t) fields.Post Inv-loop μ-loop
+loop-less : (t : ℕ) → lts.Need-loop-less (claims t) (typed-names-at t) typed-names.Post Inv-loop μ-loop
 loop-less t c =
     let member-follows = c .before .before .before .before .before .before .before .before .before .before .member-follows in
     let if1 = c .before .before .before .before .before .before .before .before .before .if1 in
-    let field = c .before .before .before .before .before .field in
-    falls _ (sym (member-follows .ensures) ∙ if1 .taken) (field .ensures [])
+    let typed-name = c .before .before .before .before .before .typed-name in
+    falls _ (sym (member-follows .ensures) ∙ if1 .taken) (typed-name .ensures [])
 
-loop-again : (t : ℕ) → lts.Need-loop-again (claims t) (fields-at t) fields.Post Inv-loop μ-loop
+loop-again : (t : ℕ) → lts.Need-loop-again (claims t) (typed-names-at t) typed-names.Post Inv-loop μ-loop
 loop-again t c =
     let loop = c .before .before .before .before .before .before .before .before .before .before .before .before .loop in
     let member-follows = c .before .before .before .before .before .before .before .before .before .before .member-follows in
     let if1 = c .before .before .before .before .before .before .before .before .before .if1 in
-    let field = c .before .before .before .before .before .field in
+    let typed-name = c .before .before .before .before .before .typed-name in
     let wrapping-add-u32 = c .wrapping-add-u32 in
-    (omega arith, omega arith, λ nodes. midway-turn (loop .inv .2 nodes) (sym (member-follows .ensures) ∙ if1 .taken) (field .ensures nodes) (wrapping-add-u32 .ensures))
+    (omega arith, omega arith, λ nodes. midway-turn (loop .inv .2 nodes) (sym (member-follows .ensures) ∙ if1 .taken) (typed-name .ensures nodes) (wrapping-add-u32 .ensures))
 
-returns : (t : ℕ) → lts.Need-returns (claims t) (fields-at t) fields.Post Inv-loop μ-loop
+returns : (t : ℕ) → lts.Need-returns (claims t) (typed-names-at t) typed-names.Post Inv-loop μ-loop
 returns t c =
     let loop = c .before .before .before .before .before .before .before .before .loop in
     let member-follows = c .before .before .before .before .before .before .member-follows in
@@ -57,12 +57,12 @@ returns t c =
     let close = c .before .before .close in
     ((λ nodes. midway-end (loop .inv .2 nodes) (sym (member-follows .ensures) ∙ if1 .left) (ap (λ (u : Used). u .scratch) (get-used .ensures)) (close .ensures .0 nodes _)), close .ensures .1)
 
-pub fields-meets : {M : Type 1} (t : ℕ) → lts.Closed (claims t) (fields-at t) fields.Post M
-fields-meets t = lts.spec (claims t) (fields-at t) fields.Post Inv-loop μ-loop
+pub typed-names-meets : {M : Type 1} (t : ℕ) → lts.Closed (claims t) (typed-names-at t) typed-names.Post M
+typed-names-meets t = lts.spec (claims t) (typed-names-at t) typed-names.Post Inv-loop μ-loop
     (λ c κs. search needs)  -- get-used-requires
     (loop-holds t)
     (λ c κs. search needs)  -- member-follows-requires
-    (λ c κs. (omega arith, search needs))  -- field-requires
+    (λ c κs. (omega arith, search needs))  -- typed-name-requires
     (λ c κs. search needs)  -- wrapping-add-u32-requires
     (loop-less t)
     (loop-again t)
