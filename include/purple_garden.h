@@ -183,6 +183,17 @@ uint32_t purple_garden_token_span(const uint8_t *script, size_t script_len,
 uint32_t purple_garden_line_column(const uint8_t *script, size_t script_len, uint32_t at,
                                    uint64_t place[2]);
 
+/* The lines and columns of `positions`, byte offsets that never fall: those of position i go into
+ * cells 2i and 2i + 1 of `places`, which keeps what it held behind them. Each pair is what
+ * purple_garden_line_column gives; the script is gone through once. Equal neighbours are allowed,
+ * and no position at all.
+ *   1; 50: `places` has fewer than two cells for each position; 49: a position is below the one
+ *   before it; 3: a position lies past the script's end. They are tested in this order, and with
+ *   each of them nothing changes. */
+uint32_t purple_garden_line_columns(const uint8_t *script, size_t script_len,
+                                    const uint32_t *positions, size_t positions_len,
+                                    uint32_t *places, size_t places_len);
+
 /* Two trees have the same shape: `same` gets 1 for yes, 0 for no. Trees from anywhere that share
  * nodes can take very long (docs/DECISIONS.md, 26). */
 uint32_t purple_garden_same_shape(const uint8_t *script, size_t script_len,

@@ -44,6 +44,10 @@ unsafe extern "C" {
     fn purple_garden_line_column(
         script: *const u8, script_len: usize, at: u32, place: *mut [u64; 2],
     ) -> u32;
+    fn purple_garden_line_columns(
+        script: *const u8, script_len: usize, positions: *const u32, positions_len: usize,
+        places: *mut u32, places_len: usize,
+    ) -> u32;
     fn purple_garden_describe(
         error: *const [u32; 5], line: *mut u8, line_len: usize, length: *mut [u64; 1],
     ) -> u32;
@@ -157,6 +161,16 @@ pub fn token_span(script: &[u8], kind: u32, start: usize, len: usize, span: &mut
 pub fn line_column(script: &[u8], at: u32, place: &mut [u64; 2]) -> u32 {
     // SAFETY: the pointer comes with its slice's length; two cells for the answer.
     unsafe { purple_garden_line_column(script.as_ptr(), script.len(), at, place) }
+}
+
+pub fn line_columns(script: &[u8], positions: &[u32], places: &mut [u32]) -> u32 {
+    let (m, n) = (positions.len(), places.len());
+    // SAFETY: each pointer comes with its length.
+    unsafe {
+        purple_garden_line_columns(
+            script.as_ptr(), script.len(), positions.as_ptr(), m, places.as_mut_ptr(), n,
+        )
+    }
 }
 
 /// The words of an error, in front of `line`; `length` gets how many bytes they have.

@@ -102,9 +102,14 @@ impl Problem {
 
 impl Diagnostic {
     /// From the five numbers of an error.
-    pub(crate) fn new(script: &[u8], [number, start, len, wanted, seen]: [u32; 5]) -> Diagnostic {
+    pub(crate) fn new(script: &[u8], numbers: [u32; 5]) -> Diagnostic {
+        let place = ffi::line_column(script, numbers[1] as usize).expect("an error names a place in the script");
+        Diagnostic::at(place, numbers)
+    }
+
+    /// From its line and column and the five numbers.
+    pub(crate) fn at((line, column): (usize, usize), [number, start, len, wanted, seen]: [u32; 5]) -> Diagnostic {
         let start = start as usize;
-        let (line, column) = ffi::line_column(script, start).expect("an error names a place in the script");
         let problem = Problem::new(number, wanted, seen);
         let seen = if number < 30 { Kind::from_number(seen) } else { None };
         Diagnostic { problem, span: start..start + len as usize, seen, line, column }

@@ -114,6 +114,13 @@ pub fn line_column(script: &[u8], at: usize) -> Result<(usize, usize), u32> {
     answered(number, (place[0] as usize, place[1] as usize))
 }
 
+/// The lines and columns of positions that never fall.
+pub fn line_columns(script: &[u8], positions: &[u32]) -> Result<Vec<(usize, usize)>, u32> {
+    let mut places = vec![0; 2 * positions.len()];
+    let number = c::line_columns(script, positions, &mut places);
+    answered(number, places.chunks_exact(2).map(|p| (p[0] as usize, p[1] as usize)).collect())
+}
+
 /// The words of an error of five numbers.
 pub fn describe(error: &[u32; 5]) -> Result<String, u32> {
     let (mut line, mut length) = ([0; 160], [0]);

@@ -61,7 +61,13 @@ impl Tree {
     /// What a collecting reading gathered, in the order in which it was met; nothing after a strict one.
     pub fn diagnostics(&self) -> impl ExactSizeIterator<Item = Diagnostic> + '_ {
         let cells = &self.arrays.diagnostics[..5 * self.counts.diagnostics()];
-        cells.chunks_exact(5).map(|c| Diagnostic::new(&self.script, [c[0], c[1], c[2], c[3], c[4]]))
+        let mut starts: Vec<u32> = cells.chunks_exact(5).map(|c| c[1]).collect();
+        starts.sort_unstable(); // a gathered error may start before the one that was met before it
+        let places = ffi::line_columns(&self.script, &starts).expect("errors name places in the script");
+        cells.chunks_exact(5).map(move |c| {
+            let place = places[starts.binary_search(&c[1]).expect("a start of these errors")];
+            Diagnostic::at(place, [c[0], c[1], c[2], c[3], c[4]])
+        })
     }
 
     pub fn script(&self) -> &[u8] {
@@ -167,6 +173,20 @@ impl Tree {
     /// ```
     pub fn line_column(&self, at: usize) -> Option<(usize, usize)> {
         ffi::line_column(&self.script, at).ok()
+    }
+
+    /// The lines and columns of byte positions that never fall, as [`Tree::line_column`] gives them, going through the
+    /// script once; nothing where a position is below the one before it or lies past the script's end.
+    ///
+    /// ```
+    /// let tree = purple_garden_reader::Tree::parse("a\nb")?;
+    /// assert_eq!(tree.line_columns(&[0, 2, 2, 3]), Some(vec![(1, 1), (2, 1), (2, 1), (2, 2)]));
+    /// assert_eq!((tree.line_columns(&[2, 1]), tree.line_columns(&[4])), (None, None));
+    /// # Ok::<(), purple_garden_reader::Error>(())
+    /// ```
+    pub fn line_columns(&self, positions: &[usize]) -> Option<Vec<(usize, usize)>> {
+        let positions: Option<Vec<u32>> = positions.iter().map(|&at| at.try_into().ok()).collect();
+        ffi::line_columns(&self.script, &positions?).ok()
     }
 
     /// The two trees have the same shape: the same kinds, spellings, docs and lists downward from their roots, wherever they stand.

@@ -182,6 +182,12 @@ fn columns() {
     let t = Tree::parse_collect("let n = \"José\" $\nlet é = 1").unwrap();
     let places: Vec<_> = t.diagnostics().map(|d| (d.problem.number(), d.span.start, d.line, d.column)).collect();
     assert_eq!(places, [(33, 16, 1, 16), (33, 22, 2, 5), (33, 23, 2, 6), (12, 25, 2, 7)]);
+    let t = Tree::parse_collect("match { $ }\n$ é").unwrap();
+    let single = |d: &purple_garden_reader::Diagnostic| t.line_column(d.span.start) == Some((d.line, d.column));
+    assert!(t.diagnostics().len() > 3 && t.diagnostics().all(|d| single(&d)));
+    assert_eq!(t.line_columns(&[]), Some(vec![]));
+    assert_eq!(t.line_columns(&[0, 0, 12, 15, 16]), Some(vec![(1, 1), (1, 1), (2, 1), (2, 4), (2, 4)]));
+    assert_eq!((t.line_columns(&[1, 0]), t.line_columns(&[17]), t.line_columns(&[usize::MAX])), (None, None, None));
     let t = Tree::parse_collect(b"\x80\xbf\xc0\xff\x7f".as_slice()).unwrap();
     let columns: Vec<_> = (0..=5).map(|at| t.line_column(at).unwrap().1).collect();
     assert_eq!(columns, [1, 1, 1, 2, 3, 4]);

@@ -2,6 +2,7 @@
 // slices.
 mod describe;
 mod lexer;
+mod places;
 mod practice_sheet;
 mod sheets;
 mod texts;

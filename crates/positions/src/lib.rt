@@ -5,11 +5,13 @@ use lex::Type;
 use lex::well_formed;
 ghost use mathlib.Core.Path.{_≡_};
 ghost use mathlib.Core.Bool.{true};
+ghost use mathlib.Core.List.{_++_};
 ghost use Prim.Native.Nat.{_≤_};
-ghost use lib.ListN.{length};
+ghost use lib.ListN.{length, drop};
 ghost use Rattle.lex.specs.Spelling.{wellFormed};
 ghost use Rattle.positions.specs.Span.{spanOf, tokenSpan, spanAnswer};
 ghost use Rattle.positions.specs.Position.{columnsOf, onward, goesOn, advanced, placeAt, positionAnswer};
+ghost use Rattle.positions.specs.LineColumns.{falls as fallsIn, allInside, cellsOf, Fillable, outcome, lineColumns};
 
 pub struct Span {
     pub start: usize,
@@ -166,4 +168,88 @@ pub fn line_column(script: &[u8], at: u32) -> Position
     ensures { λ r. ⌜ positionAnswer r ≡ placeAt (now (script .entry)) at ⌝ }
 {
     advance(script, 0, Place { line: 1, column: 1 }, at)
+}
+
+// How a call ends that looks up many positions.
+pub enum Filled {
+    Done,
+    Refused(u32),
+}
+
+// A position is below the one before it.
+fn falls(positions: &[u32]) -> bool
+    ensures { λ r. ⌜ r ≡ fallsIn (now (positions .entry)) ⌝ }
+{
+    let mut last = 0;
+    let mut i = 0;
+    while i < positions.len() {
+        let p = positions[i];
+        if p < last {
+            return true;
+        }
+        last = p;
+        i += 1;
+    }
+    false
+}
+
+// No position lies past the script's end.
+fn all_inside(script: &[u8], positions: &[u32]) -> bool
+    ensures { λ r. ⌜ r ≡ allInside (length (now (script .entry))) (now (positions .entry)) ⌝ }
+{
+    let mut i = 0;
+    while i < positions.len() {
+        let p = positions[i] as usize;
+        if script.len() < p {
+            return false;
+        }
+        i += 1;
+    }
+    true
+}
+
+// The pairs of all positions. Each place is found from the one before it, so that the script is
+// gone through once.
+fn fill(script: &[u8], positions: &[u32], places: &mut [u32])
+    requires { ⌜ Fillable (now script) (now positions) (now places) ⌝ }
+    ensures { λ r.
+        let cells = cellsOf (now (script .entry)) (now (positions .entry)) in
+        ⌜ now (places .exit) ≡ cells ++ drop (length cells) (now (places .entry)) ⌝ }
+{
+    let mut at = 0;
+    let mut place = Place { line: 1, column: 1 };
+    let mut i = 0;
+    while i < positions.len() {
+        let to = positions[i] as usize;
+        place = place_after(place, &script[at..to]);
+        let j = 2 * i;
+        places[j] = place.line;
+        places[j + 1] = place.column;
+        at = to;
+        i += 1;
+    }
+}
+
+// The lines and columns of positions that never fall: those of position `i` go into cells `2 * i`
+// and `2 * i + 1` of `places`. All is tested before anything is written.
+pub fn line_columns(script: &[u8], positions: &[u32], places: &mut [u32]) -> Filled
+    ensures { λ r.
+        let left = outcome r (now (places .exit)) in
+        ⌜ left ≡ lineColumns (now (script .entry)) (now (positions .entry)) (now (places .entry)) ⌝ }
+{
+    if MAX_BYTES < script.len() {
+        return Filled::Refused(1);
+    }
+    if places.len() / 2 < positions.len() {
+        return Filled::Refused(50);
+    }
+    if falls(positions) {
+        return Filled::Refused(49);
+    }
+    if all_inside(script, positions) {
+        fill(script, positions, places);
+        Filled::Done
+    } else {
+        Filled::Refused(3)
+    }
 }

@@ -107,3 +107,7 @@ pub fn line_column(script: &[u8], at: u32) -> (u32, [u64; 2]) {
     let mut place = [u64::MAX; 2];
     (c::line_column(script, at, &mut place), place)
 }
+
+pub fn line_columns(script: &[u8], positions: &[u32], places: &mut [u32]) -> u32 {
+    c::line_columns(script, positions, places)
+}

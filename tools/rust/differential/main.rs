@@ -10,6 +10,7 @@
 //! refusals   1 to 3: scripts that are too long, arrays that are too short, numbers that lie outside
 //! limits     scripts of 0, 1, 65,536 and 65,537 bytes of many shapes; arrays exactly long enough, longer, and one cell short of each
 //! columns    lines and columns of a million positions, in whole and broken UTF-8, beside a count of its own
+//! marks      lists of positions beside single lookups, with their refusals; how long they take
 //! practice   practice sheets beside a generator of its own; each is read
 //! sheets     correction sheets, read back by a reader of its own; refusals; how long one takes
 //! words      errors of every number, wanted and seen beside the tables of docs/WORDS.md, and their refusals
@@ -469,8 +470,8 @@ fn source(script: &[u8], t: &lex::Token<'_>) -> (usize, usize) {
     (t.start, end)
 }
 
-const FAMILIES: [&str; 11] =
-    ["refusals", "limits", "bytes", "tokens", "programs", "long", "pairs", "columns", "practice", "sheets", "words"];
+const FAMILIES: [&str; 12] =
+    ["refusals", "limits", "bytes", "tokens", "programs", "long", "pairs", "columns", "marks", "practice", "sheets", "words"];
 
 fn run(quick: bool, seed: u64, families: &[String]) -> u64 {
     let mut beside = Beside::new(seed);
@@ -479,6 +480,7 @@ fn run(quick: bool, seed: u64, families: &[String]) -> u64 {
         differ += match *family {
             "sheets" => beside.sheets(if quick { 20_000 } else { 400_000 }),
             "columns" => beside.columns(if quick { 100_000 } else { 1_000_000 }),
+            "marks" => beside.marks(if quick { 50_000 } else { 500_000 }),
             "practice" => beside.practice(if quick { 5_000 } else { 100_000 }),
             "words" => beside.describe(if quick { 100_000 } else { 2_000_000 }),
             "refusals" => beside.refusals(),
