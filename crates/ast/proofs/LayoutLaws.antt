@@ -5,13 +5,12 @@ use mathlib.Core.List.{List, _∷_}
 use Prim.Native.Nat.{ℕ, zero, suc, _+_, _*_, _<_, _≤_}
 use native.Mathlib.Omega.{arith}
 use lib.ListN.{length, getD, take, drop, List·getD-eq-default}
-use Rattle.rules.specs.Combinators.{tokenCells, runCells}
-use Rattle.rules.specs.Layout.{nodeWidth, typeWidth, nodeCells, typeCells}
+use Rattle.ast.specs.Layout.{tokenCells, runCells, nodeWidth, typeWidth, nodeCells, typeCells}
 use borrow.Author.Tests.{le-leb, lt-leb}
-use Rattle.rules.specs.declared.Node.{Node}
-use Rattle.rules.specs.declared.Node.the-variants as N
-use Rattle.rules.specs.declared.TypeExpr.{TypeExpr}
-use Rattle.rules.specs.declared.TypeExpr.the-variants as T
+use Rattle.ast.specs.declared.Node.{Node}
+use Rattle.ast.specs.declared.Node.the-variants as N
+use Rattle.ast.specs.declared.TypeExpr.{TypeExpr}
+use Rattle.ast.specs.declared.TypeExpr.the-variants as T
 use Rattle.ast.specs.Decode.{nodesByKind, typesByKind, nodeOf, typeOf, nodeAt, typeAt}
 
 -- ---- a kind that is unknown

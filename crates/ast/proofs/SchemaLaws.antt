@@ -1,15 +1,51 @@
--- Records are read by the schema, and its numbers.
+-- Records go by the schema: how they are laid out, and where they are read; and its numbers.
 use mathlib.Core.Path.{_≡_, refl}
-use mathlib.Core.Option.{Option, some}
-use mathlib.Core.List.{List, _∷_, map}
+use mathlib.Core.Option.{some}
+use mathlib.Core.List.{List, [], _∷_, map, flatten}
 use Prim.Native.Nat.{ℕ}
-use lib.ListN.{drop}
+use lib.ListN.{getD, drop}
 use borrow.Author.Tests.{ne-eqb}
-use Rattle.rules.specs.Schema as S
-use Rattle.rules.specs.Schema.{Part, nodeSchema, typeSchema, partsOf, typePartsOf}
-use Rattle.rules.specs.Shape.{map₁}
+use Rattle.ast.specs.Layout.{tokenCells, runCells, nodeWidth, typeWidth, padded, nodeCells, typeCells}
+use Rattle.ast.specs.Lists.{map₁}
+use Rattle.ast.specs.Schema as S
+use Rattle.ast.specs.Schema.{Field, Part, nodeSchema, typeSchema, fieldOf, cellsOf, partsOf, typePartsOf, partsAt, sortOf, membersOf}
+use Rattle.ast.specs.declared.Node.{Node}
+use Rattle.ast.specs.declared.Node.the-variants as N
+use Rattle.ast.specs.declared.TypeExpr.{TypeExpr}
+use Rattle.ast.specs.declared.TypeExpr.the-variants as T
 use Rattle.ast.specs.Decode.{nodesByKind, typesByKind}
-use Rattle.ast.specs.Schema.{partsAt, sortOf, membersOf}
+
+-- a record is its kind, what the fields of the kind hold, and zeros
+pub record Laid (width : ℕ) (schema : List (List Field)) (cells : List ℕ) (parts : List Part) : Type 0 where
+  pub fields : map fieldOf parts ≡ getD schema (getD cells 0 0) []
+  pub encoded : cells ≡ padded width (getD cells 0 0 ∷ flatten (map cellsOf parts))
+
+pub node-laid : (x : Node) → Laid nodeWidth nodeSchema (nodeCells x) (partsOf x)
+unfolding nodeCells tokenCells runCells nodeSchema fieldOf cellsOf partsOf flatten
+node-laid (N.Atom id raw) = record { fields = refl; encoded = refl }
+node-laid (N.Ident id name) = record { fields = refl; encoded = refl }
+node-laid (N.Bin id op lhs rhs) = record { fields = refl; encoded = refl }
+node-laid (N.Unary id op rhs) = record { fields = refl; encoded = refl }
+node-laid (N.Let id docs name rhs) = record { fields = refl; encoded = refl }
+node-laid (N.Fn id docs name args ret body) = record { fields = refl; encoded = refl }
+node-laid (N.Match id cases t body) = record { fields = refl; encoded = refl }
+node-laid (N.Call id target args) = record { fields = refl; encoded = refl }
+node-laid (N.Field id target name) = record { fields = refl; encoded = refl }
+node-laid (N.Cast id src lhs rhs) = record { fields = refl; encoded = refl }
+node-laid (N.Import id src pkgs) = record { fields = refl; encoded = refl }
+node-laid (N.Extern id src docs name fns) = record { fields = refl; encoded = refl }
+node-laid (N.Record id src fields) = record { fields = refl; encoded = refl }
+node-laid (N.Array id src members) = record { fields = refl; encoded = refl }
+
+pub type-laid : (x : TypeExpr) → Laid typeWidth typeSchema (typeCells x) (typePartsOf x)
+unfolding typeCells tokenCells runCells typeSchema fieldOf cellsOf typePartsOf flatten
+type-laid (T.Atom t) = record { fields = refl; encoded = refl }
+type-laid (T.Foreign t) = record { fields = refl; encoded = refl }
+type-laid (T.Option t) = record { fields = refl; encoded = refl }
+type-laid (T.Array t) = record { fields = refl; encoded = refl }
+type-laid (T.Record src fields) = record { fields = refl; encoded = refl }
+
+-- ---- reading
 
 -- the record of each kind is read where the schema has its fields
 pub nodes-read : (cs : List ℕ) → map (map₁ partsOf) (nodesByKind cs) ≡ map (λ fs. some (partsAt cs 1 fs)) (drop 1 nodeSchema)

@@ -7,8 +7,7 @@ use native.Mathlib.Omega.{arith}
 use native.Mathlib.Nat.{eq-or-lt-of-le}
 use mathlib.Core.Logic.{⊎-elim}
 use lib.ListN.{length, length-append}
-use Rattle.rules.specs.Shape.{lookup, tabulate}
-use Rattle.ast.specs.Tabulate.{rows, entriesBelow, entryAt}
+use Rattle.ast.specs.Tabulate.{lookup, tabulate, rows, entriesBelow, entryAt}
 
 lookup-past : {A : Type 0} (xs : List (Option A)) (i : ℕ) → length xs ≤ i → lookup xs i ≡ none
 unfolding lookup

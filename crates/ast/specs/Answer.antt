@@ -3,9 +3,9 @@ use mathlib.Core.List.{List}
 use Prim.Native.Nat.{ℕ, zero, suc, _*_}
 use lib.Dec.{ltb}
 use lib.ListN.{length, take}
-use Rattle.rules.specs.Layout.{nodeWidth, typeWidth}
+use Rattle.ast.specs.Layout.{nodeWidth, typeWidth}
 use Rattle.lex.specs.Answer.{maxBytes, Answer, refused}
-use Rattle.rules.specs.declared.Counts.{Counts}
+use Rattle.ast.specs.declared.Counts.{Counts}
 use Rattle.lex.specs.Bytes.{if}
 
 -- a number other than 0 refuses

@@ -1,4 +1,4 @@
--- Reading the records that `rules` lays out: `node-trip` and `type-trip` have that what is read is what was laid out.
+-- Reading the records that `Layout` lays out: `node-trip` and `type-trip` have that what is read is what was laid out.
 use mathlib.Core.Bool.{Bool, true, false}
 use mathlib.Core.Option.{Option, none, some}
 use mathlib.Core.List.{List, [], _∷_}
@@ -6,17 +6,17 @@ use Prim.Native.Nat.{ℕ, _+_, _*_, _%_}
 use lib.Dec.{leb}
 use lib.ListN.{length, getD, take, drop}
 use Rattle.lex.specs.Bytes.{if}
-use Rattle.rules.specs.Layout.{nodeWidth, typeWidth}
+use Rattle.ast.specs.Layout.{nodeWidth, typeWidth}
 use Rattle.lex.specs.declared.tok.Token.{Token}
-use Rattle.rules.specs.declared.Run.{Run}
-use Rattle.rules.specs.declared.Node.{Node}
-use Rattle.rules.specs.declared.Node.the-variants as N
-use Rattle.rules.specs.declared.TypeExpr.{TypeExpr}
-use Rattle.rules.specs.declared.TypeExpr.the-variants as T
-use Rattle.ast.specs.declared.layout.NodeRead.{NodeRead}
-use Rattle.ast.specs.declared.layout.NodeRead.the-variants as NR
-use Rattle.ast.specs.declared.layout.TypeRead.{TypeRead}
-use Rattle.ast.specs.declared.layout.TypeRead.the-variants as TR
+use Rattle.ast.specs.declared.Run.{Run}
+use Rattle.ast.specs.declared.Node.{Node}
+use Rattle.ast.specs.declared.Node.the-variants as N
+use Rattle.ast.specs.declared.TypeExpr.{TypeExpr}
+use Rattle.ast.specs.declared.TypeExpr.the-variants as T
+use Rattle.ast.specs.declared.decode.NodeRead.{NodeRead}
+use Rattle.ast.specs.declared.decode.NodeRead.the-variants as NR
+use Rattle.ast.specs.declared.decode.TypeRead.{TypeRead}
+use Rattle.ast.specs.declared.decode.TypeRead.the-variants as TR
 
 -- ---- what cells say
 

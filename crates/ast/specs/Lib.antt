@@ -1,5 +1,7 @@
--- The tree in lent arrays: reading its records, and what is lent.
+-- The tree in lent arrays: laying out its records and reading them, the schema, and what is lent.
+pub mod Layout
 pub mod Decode
 pub mod Schema
+pub mod Lists
 pub mod Tabulate
 pub mod Answer

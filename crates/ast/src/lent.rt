@@ -1,8 +1,8 @@
 // What is lent: when a call is refused for it, and the list cells in use.
+use crate::Counts;
+use crate::Node;
+use crate::TypeExpr;
 use lex::MAX_BYTES;
-use rules::Counts;
-use rules::Node;
-use rules::TypeExpr;
 ghost use mathlib.Core.Path.{_≡_};
 ghost use lib.ListN.{take};
 ghost use Rattle.ast.specs.Answer.{lent, refusal as refusalOf};

@@ -1,6 +1,6 @@
 // The schema as numbers: the sorts of fields, and the cells of a list's members.
 ghost use mathlib.Core.Path.{_≡_};
-ghost use Rattle.rules.specs.Schema.{memberWidth};
+ghost use Rattle.ast.specs.Schema.{memberWidth};
 ghost use Rattle.ast.specs.Schema.{membersOf};
 
 // What a field of a record, or of a member of a list, is.

@@ -4,7 +4,7 @@ use mathlib.Core.Path.{_≡_, _∙_, sym, ap, subst}
 use mathlib.Core.List.{List}
 use Prim.Native.Nat.{ℕ}
 use Rattle.rules.specs.Promise.{Arrays, Outcome, numbersOf}
-use Rattle.rules.specs.declared.Parsed.{Parsed}
+use Rattle.ast.specs.declared.Parsed.{Parsed}
 use Rattle.lex.specs.Answer.{Answer}
 use Rattle.c_api.specs.Numbers.{written, asNumbers, numberOf, stored, Answers}
 

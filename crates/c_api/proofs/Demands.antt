@@ -16,13 +16,13 @@ use Rattle.lex.specs.declared.diagnostic.Diagnostic.{Diagnostic}
 use Rattle.rules.specs.Tree.{Tree}
 use Rattle.rules.specs.Rules.{stageOne}
 use Rattle.rules.specs.Parse.{Reading, read, ended}
-use Rattle.rules.specs.Layout.{nodeWidth, typeWidth, padded, nodeCells, typeCells, diagnosticCells}
+use Rattle.ast.specs.Layout.{nodeWidth, typeWidth, padded, nodeCells, typeCells, diagnosticCells}
 use Rattle.lex.specs.Answer.{maxBytes, Answer, answer}
 use Rattle.rules.specs.Promise.{Arrays, tooShort, zeroed, holding, Outcome, outcome, promised, numbersOf}
 use Rattle.rules.specs.Shape.{Word}
 use Rattle.rules.specs.Strike.{noDocBeforeImportOrEof, notesOf, strike}
-use Rattle.rules.specs.declared.Counts.{Counts}
-use Rattle.rules.specs.declared.Parsed.the-variants as P
+use Rattle.ast.specs.declared.Counts.{Counts}
+use Rattle.ast.specs.declared.Parsed.the-variants as P
 use Rattle.rules.proofs.Counting.Whole.{InBytes, in-bytes, parse-bounded}
 use Rattle.rules.proofs.Counting.Collect.{parseCollect-bounded, parseCollect-errors}
 use Rattle.rules.proofs.Counting.Cells.{parse-cells, parseCollect-cells}

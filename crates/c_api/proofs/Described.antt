@@ -11,11 +11,11 @@ use lib.ListN.{length, getD, drop}
 use Rattle.lex.specs.declared.diagnostic.Diagnostic.{Diagnostic}
 use Rattle.rules.specs.Rules.{stageOne}
 use Rattle.rules.specs.Parse.{Reading, read, ended, parse, parseCollect}
-use Rattle.rules.specs.Layout.{diagnosticCells}
+use Rattle.ast.specs.Layout.{diagnosticCells}
 use Rattle.lex.specs.Answer.{maxBytes}
 use Rattle.rules.specs.Promise.{Arrays, Outcome, outcome, tooShort, promised, numbersOf}
-use Rattle.rules.specs.declared.Parsed.{Parsed}
-use Rattle.rules.specs.declared.Parsed.the-variants as P
+use Rattle.ast.specs.declared.Parsed.{Parsed}
+use Rattle.ast.specs.declared.Parsed.the-variants as P
 use Rattle.text.specs.Emit.{plain}
 use Rattle.text.proofs.EmitLaws.{and-left}
 use Rattle.words.specs.Words.{isScriptError, isWanted, isSeen, hasWords, errorOf}

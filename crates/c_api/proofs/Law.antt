@@ -8,10 +8,10 @@ use Rattle.lex.specs.declared.diagnostic.Diagnostic.{Diagnostic}
 use Rattle.rules.specs.Tree.{Tree}
 use Rattle.rules.specs.Rules.{stageOne}
 use Rattle.rules.specs.Parse.{parse, parseCollect}
-use Rattle.rules.specs.Layout.{diagnosticCells}
+use Rattle.ast.specs.Layout.{diagnosticCells}
 use Rattle.rules.specs.Promise.{Arrays, holding, Outcome, promised, numbersOf}
 use Rattle.rules.specs.Law.{resynchronisings, Law}
-use Rattle.rules.specs.declared.Parsed.{Parsed}
+use Rattle.ast.specs.declared.Parsed.{Parsed}
 use Rattle.rules.proofs.Law.Whole.{treeLaw-stageOne, Delivered, strict-delivered, collecting-delivered}
 use Rattle.c_api.specs.Numbers.{numberCells, written, Returned, asNumbers}
 

@@ -12,8 +12,8 @@ use Rattle.rules.specs.Rules.{stageOne}
 use Rattle.rules.specs.Parse.{read}
 use Rattle.rules.specs.Promise.{Arrays, Outcome, promised}
 use Rattle.rules.specs.Strike.{noDocBeforeImport, notesOf, strike, Plain}
-use Rattle.rules.specs.declared.Counts.{Counts}
-use Rattle.rules.specs.declared.Parsed.the-variants as P
+use Rattle.ast.specs.declared.Counts.{Counts}
+use Rattle.ast.specs.declared.Parsed.the-variants as P
 use Rattle.rules.proofs.Unique.Whole.{uniqueReading}
 use Rattle.lex.specs.Answer.{Answer, answer}
 use Rattle.ast.specs.Answer.{Lent, lent}

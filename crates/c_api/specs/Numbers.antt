@@ -5,11 +5,11 @@ use mathlib.Core.Option.{Option, none, some}
 use mathlib.Core.List.{List, [], _∷_, _++_}
 use Prim.Native.Nat.{ℕ}
 use lib.ListN.{getD}
-use Rattle.rules.specs.Layout.{diagnosticCells}
+use Rattle.ast.specs.Layout.{diagnosticCells}
 use Rattle.rules.specs.Promise.{Arrays, Outcome, Numbers, numbersOf}
-use Rattle.rules.specs.declared.Counts.{Counts}
-use Rattle.rules.specs.declared.Parsed.{Parsed}
-use Rattle.rules.specs.declared.Parsed.the-variants as P
+use Rattle.ast.specs.declared.Counts.{Counts}
+use Rattle.ast.specs.declared.Parsed.{Parsed}
+use Rattle.ast.specs.declared.Parsed.the-variants as P
 use Rattle.lex.specs.Answer.{Answer, refused, answer}
 use Rattle.positions.specs.declared.Span.{Span}
 use Rattle.positions.specs.declared.Place.{Place}

@@ -10,8 +10,8 @@ use native.Mathlib.Nat.{zero-mul, suc-mul, add-comm}
 use borrow.Author.Tests.{le-leb, lt-leb, leb-true, leb-false}
 use lib.ListN.{length, getD, drop, length-drop}
 use lib.Seq.{drop-drop}
-use Rattle.rules.specs.Shape.{map₁, map₂, andThen, Decoder, decoded, chain, number, token, run, resolve, both, items, from, listAt}
-use Rattle.rules.specs.declared.Run.{Run}
+use Rattle.ast.specs.Lists.{map₁, map₂, andThen, Decoder, decoded, chain, number, token, run, resolve, both, items, from, listAt}
+use Rattle.ast.specs.declared.Run.{Run}
 use Rattle.lex.specs.Bytes.{if}
 use Rattle.ast.specs.Decode.{tokenAt, runAt}
 use Rattle.compare.specs.Agree.{Agree, Decides}

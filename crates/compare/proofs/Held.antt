@@ -17,17 +17,18 @@ use Rattle.rules.specs.Rules.{stageOne}
 use Rattle.rules.specs.Parse.{Reading, read, ended, begin, parse, parseRoots}
 use Rattle.lex.specs.Kind.{kEof}
 use Rattle.rules.specs.Combinators.{choose}
-use Rattle.rules.specs.Layout.{nodeWidth, typeWidth, zeros, padded, nodeCells, typeCells}
+use Rattle.ast.specs.Layout.{nodeWidth, typeWidth, zeros, padded, nodeCells, typeCells}
 use Rattle.lex.specs.Answer.{maxBytes, Answer, answer}
 use Rattle.rules.specs.Promise.{Arrays, tooShort, holding, Outcome, outcome, promised}
 use Rattle.rules.specs.Shape as R
-use Rattle.rules.specs.Shape.{Shapes, tabulate, lookup, andThen, shapeOf}
-use Rattle.rules.specs.declared.Counts.{Counts}
-use Rattle.rules.specs.declared.Parsed.the-variants as P
+use Rattle.rules.specs.Shape.{Shapes, shapeOf}
+use Rattle.ast.specs.Lists.{andThen}
+use Rattle.ast.specs.Tabulate.{tabulate, lookup, rows, entriesBelow}
+use Rattle.ast.specs.declared.Counts.{Counts}
+use Rattle.ast.specs.declared.Parsed.the-variants as P
 use Rattle.rules.proofs.Unique.Whole.{shaped}
 use Rattle.rules.proofs.Unique.Collect.{shapedCollect}
 use Rattle.ast.specs.Decode.{fits, nodeOf, typeOf, nodeAt, typeAt}
-use Rattle.ast.specs.Tabulate.{rows, entriesBelow}
 use Rattle.ast.specs.Answer.{Lent, lent, refusal, cellsOf}
 use Rattle.ast.proofs.LayoutLaws.{node-length, type-length, node-trip, type-trip}
 use Rattle.compare.specs.Agree.{Decides}

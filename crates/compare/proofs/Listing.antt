@@ -8,7 +8,7 @@ use native.Mathlib.Omega.{arith}
 use lib.ListN.{length}
 use Rattle.rules.specs.Shape as S
 use Rattle.rules.specs.Shape.{Word, TypeShape, Params, FnShape, Shape, Shapes, FieldShapes, CaseShapes, Env}
-use Rattle.rules.specs.declared.Run.{Run}
+use Rattle.ast.specs.declared.Run.{Run}
 use Rattle.compare.specs.Agree.{Agree, Decides}
 use Rattle.compare.proofs.Agree.{decides-yes, decides-no, decides-by}
 use Rattle.compare.proofs.Walk as W

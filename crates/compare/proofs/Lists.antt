@@ -11,8 +11,8 @@ use lib.Dec.{leb}
 use lib.ListN.{length, drop}
 use lib.Seq.{drop-drop, getD-drop}
 use borrow.Author.Tests.{le-leb, lt-leb, leb-true, leb-false}
-use Rattle.rules.specs.Shape.{map₁, map₂, Decoder, listAt}
-use Rattle.rules.specs.declared.Run.{Run}
+use Rattle.ast.specs.Lists.{map₁, map₂, Decoder, listAt}
+use Rattle.ast.specs.declared.Run.{Run}
 use Rattle.lex.specs.Bytes.{if}
 use Rattle.ast.specs.Decode.{tokenAt}
 use Rattle.compare.specs.Agree.{Agree}

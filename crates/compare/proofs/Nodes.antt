@@ -12,11 +12,12 @@ use lib.Dec.{ltb, leb}
 use lib.ListN.{length, getD, List·getD-eq-default}
 use borrow.Author.Tests.{leb-true, leb-false, ltb-true, ltb-false, ne-eqb}
 use Rattle.lex.proofs.Laws.{agree}
-use Rattle.rules.specs.Layout.{nodeWidth}
-use Rattle.rules.specs.Schema.{nodeSchema}
+use Rattle.ast.specs.Layout.{nodeWidth}
+use Rattle.ast.specs.Schema.{nodeSchema}
 use Rattle.rules.specs.Shape as S
-use Rattle.rules.specs.Shape.{Shape, Env, map₁, map₂, map₃, map₄, map₅, andThen, w, nodeShape}
-use Rattle.rules.specs.declared.Run.{Run}
+use Rattle.rules.specs.Shape.{Shape, Env, w, nodeShape}
+use Rattle.ast.specs.Lists.{map₁, map₂, map₃, map₄, map₅, andThen}
+use Rattle.ast.specs.declared.Run.{Run}
 use Rattle.lex.specs.Bytes.{if}
 use Rattle.ast.specs.Decode.{fits, runAt, nodeOf, nodesByKind, nodeAt}
 use Rattle.ast.specs.Tabulate.{entryAt}

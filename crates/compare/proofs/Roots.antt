@@ -12,7 +12,8 @@ use lib.ListN.{length, getD, take, drop}
 use lib.Seq.{drop-cons}
 use borrow.Author.Tests.{leb-true}
 use Rattle.rules.specs.Shape as S
-use Rattle.rules.specs.Shape.{Shape, noShape, shape, Env, map₂, shapesOf}
+use Rattle.rules.specs.Shape.{Shape, noShape, shape, Env, shapesOf}
+use Rattle.ast.specs.Lists.{map₂}
 use Rattle.lex.specs.Bytes.{if}
 use Rattle.compare.specs.Agree.{Agree, Decides}
 use Rattle.compare.specs.Shapes.{View, typesIn, nodesBelow, rootShapes}

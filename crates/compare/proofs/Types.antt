@@ -9,8 +9,9 @@ use native.Mathlib.Nat.{add-zero}
 use lib.Dec.{leb}
 use lib.ListN.{length, getD}
 use borrow.Author.Tests.{leb-true, leb-false}
-use Rattle.rules.specs.Layout.{typeWidth}
-use Rattle.rules.specs.Shape.{TypeShape, atomT, foreignT, optionT, arrayT, recordT, Env, map₁, map₂, andThen, word, w, params, typeShape}
+use Rattle.ast.specs.Layout.{typeWidth}
+use Rattle.rules.specs.Shape.{TypeShape, atomT, foreignT, optionT, arrayT, recordT, Env, word, w, params, typeShape}
+use Rattle.ast.specs.Lists.{map₁, map₂, andThen}
 use Rattle.lex.specs.Bytes.{if}
 use Rattle.ast.specs.Decode.{fits, tokenAt, runAt, typeOf, typesByKind, typeAt}
 use Rattle.ast.specs.Tabulate.{entryAt}

@@ -12,8 +12,9 @@ use lib.Seq.{getD-drop, drop-drop}
 use Rattle.lex.specs.declared.tok.Token.{Token}
 use Rattle.rules.specs.Shape as S
 use Rattle.lex.specs.Spelling.{wellFormed}
-use Rattle.rules.specs.Shape.{Word, word, TypeShape, Params, FnShape, Shape, Shapes, FieldShapes, CaseShapes, Env, map₁, map₂, andThen, listAt, number, token, run, resolve, both}
-use Rattle.rules.specs.declared.Run.{Run}
+use Rattle.rules.specs.Shape.{Word, word, TypeShape, Params, FnShape, Shape, Shapes, FieldShapes, CaseShapes, Env}
+use Rattle.ast.specs.Lists.{map₁, map₂, andThen, listAt, number, token, run, resolve, both}
+use Rattle.ast.specs.declared.Run.{Run}
 use Rattle.lex.specs.Bytes.{if}
 use Rattle.ast.specs.Decode.{tokenAt, runAt}
 use Rattle.compare.specs.Agree.{Agree, Decides}

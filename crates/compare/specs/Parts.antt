@@ -4,7 +4,7 @@ use mathlib.Core.List.{List, [], _∷_, _++_, map}
 use Prim.Native.Nat.{ℕ, zero, suc, _+_, _*_, _/_, _%_}
 use lib.Dec.{eqb}
 use lib.ListN.{getD}
-use Rattle.rules.specs.Schema.{Field, cellCount, nodeSchema}
+use Rattle.ast.specs.Schema.{Field, cellCount, nodeSchema}
 use Rattle.rules.specs.Shape.{Word, TypeShape, Params, FnShape, Shape, Shapes, FieldShapes, CaseShapes, Env, w, words, params, shapes, fields, cases, fns}
 use Rattle.lex.specs.Bytes.{if}
 use Rattle.ast.specs.Decode.{tokenAt, runAt}

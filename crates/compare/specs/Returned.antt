@@ -8,8 +8,8 @@ use Rattle.rules.specs.Parse.{Reading, parse, parseCollect}
 use Rattle.rules.specs.Tree.{Tree}
 use Rattle.rules.specs.Promise.{Arrays, promised}
 use Rattle.rules.specs.Shape.{shapeOf}
-use Rattle.rules.specs.declared.Counts.{Counts}
-use Rattle.rules.specs.declared.Parsed.the-variants as P
+use Rattle.ast.specs.declared.Counts.{Counts}
+use Rattle.ast.specs.declared.Parsed.the-variants as P
 use Rattle.lex.specs.Answer.{Answer, answer}
 use Rattle.ast.specs.Answer.{Lent, lent}
 

@@ -4,10 +4,11 @@ use mathlib.Core.List.{List}
 use Prim.Native.Nat.{ℕ, _*_}
 use lib.Dec.{leb}
 use lib.ListN.{length, getD, take}
-use Rattle.rules.specs.Layout.{nodeWidth, typeWidth}
-use Rattle.rules.specs.Shape.{TypeShape, Shape, Shapes, Env, typeShape, nodeShape, shapesOf, andThen}
-use Rattle.rules.specs.declared.Node.{Node}
-use Rattle.rules.specs.declared.TypeExpr.{TypeExpr}
+use Rattle.ast.specs.Layout.{nodeWidth, typeWidth}
+use Rattle.rules.specs.Shape.{TypeShape, Shape, Shapes, Env, typeShape, nodeShape, shapesOf}
+use Rattle.ast.specs.Lists.{andThen}
+use Rattle.ast.specs.declared.Node.{Node}
+use Rattle.ast.specs.declared.TypeExpr.{TypeExpr}
 use Rattle.lex.specs.Bytes.{if}
 use Rattle.ast.specs.Decode.{fits, nodeAt, typeAt}
 use Rattle.ast.specs.Tabulate.{entriesBelow}

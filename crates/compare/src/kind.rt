@@ -1,5 +1,5 @@
 // The kinds of the records in a lent array.
-use ast::layout::cell;
+use ast::decode::cell;
 ghost use mathlib.Core.Path.{_≡_};
 ghost use Prim.Native.Nat.{_≤_};
 ghost use Rattle.compare.specs.Shapes.{kindAt};

@@ -4,12 +4,12 @@ mod node;
 mod type_expr;
 mod word;
 
-use ast::layout::cell;
+use ast::Counts;
+use ast::NodeId;
+use ast::decode::cell;
 use ast::lent::refusal;
 use ast::lent::used;
 use node::agree_node;
-use rules::Counts;
-use rules::NodeId;
 ghost use mathlib.Core.Path.{_≡_};
 ghost use Rattle.ast.specs.Answer.{lent};
 ghost use Rattle.compare.specs.Agree.{Agree, Decides};

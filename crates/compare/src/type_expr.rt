@@ -2,12 +2,12 @@
 use crate::kind::kind_at;
 use crate::word::agree_token_at;
 use crate::word::agree_words;
-use ast::layout::cell;
-use ast::layout::run_at;
-use rules::Run;
-use rules::TypeExpr;
-use rules::TypeExprId;
-use rules::TypeExprKind;
+use ast::Run;
+use ast::TypeExpr;
+use ast::TypeExprId;
+use ast::TypeExprKind;
+use ast::decode::cell;
+use ast::decode::run_at;
 ghost use Rattle.rules.specs.Shape.{params, fns};
 ghost use Rattle.compare.specs.Agree.{Agree, Decides};
 ghost use Rattle.compare.specs.Shapes.{typesBelow, typeEnv};

@@ -1,11 +1,11 @@
 // When two tokens, or two lists of tokens, say the same.
-use ast::layout::token_at;
+use ast::Run;
+use ast::decode::token_at;
 use lex::Found;
 use lex::Token;
 use lex::Type;
 use lex::same_bytes;
 use lex::spelling;
-use rules::Run;
 ghost use mathlib.Core.Path.{_≡_};
 ghost use Rattle.lex.specs.Spelling.{wellFormed};
 ghost use Rattle.rules.specs.Shape.{word, words};

@@ -7,7 +7,7 @@ use Rattle.lex.specs.Bytes.{or, between, isWs, isDigit, isIdentStart, isIdentCo
 use Rattle.lex.specs.Kind.{sameBytes, keywords, nameKind, punctuators, punctuatorKinds, punctuatorKind}
 use Rattle.lex.specs.Lex.{beginsComment, skipped, punctuator, punctuation, name, symbol, piece, standsAt, stepAt, diagnosticOf}
 use Rattle.lex.specs.declared.diagnostic.Diagnostic.{Diagnostic}
-use Rattle.rules.specs.Layout.{diagnosticCells}
+use Rattle.ast.specs.Layout.{diagnosticCells}
 use Rattle.diagnostics.specs.Records.{diagnostics, pushed}
 use Rattle.diagnostics.specs.Faults.{faultsFrom, faultsBetween}
 

@@ -9,7 +9,7 @@ use lib.ListN.{length, take, drop, set, length-append, length-replicate, replica
 use lib.Seq.{sets-eq, take-at, drop-append-add}
 use borrow.Author.Tests.{lt-ltb, le-ltb, le-leb, lt-leb}
 use Rattle.lex.specs.declared.diagnostic.Diagnostic.{Diagnostic}
-use Rattle.rules.specs.Layout.{zeros, padded, diagnosticCells}
+use Rattle.ast.specs.Layout.{zeros, padded, diagnosticCells}
 use Rattle.diagnostics.specs.Records.{Diagnostics, diagnostics, holding, maxCount, pushed}
 
 -- ---- one record

@@ -5,7 +5,7 @@ use Prim.Native.Nat.{ℕ, _+_, _*_, _-_}
 use lib.Dec.{leb, ltb}
 use lib.ListN.{length, take, drop}
 use Rattle.lex.specs.declared.diagnostic.Diagnostic.{Diagnostic}
-use Rattle.rules.specs.Layout.{diagnosticWidth, zeros, diagnosticCells}
+use Rattle.ast.specs.Layout.{diagnosticWidth, zeros, diagnosticCells}
 
 -- the array's cells, and how many of its records are in use
 pub record Diagnostics : Type 0 where

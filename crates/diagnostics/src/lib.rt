@@ -1,9 +1,9 @@
 // The diagnostics array of collecting mode: errors and the lexer's faults are pushed in the order
 // in which they are met.
+use ast::DIAGNOSTIC_WIDTH;
 use lex::Diagnostic;
 use lex::Fault;
 use lex::Step;
-use rules::DIAGNOSTIC_WIDTH;
 ghost use mathlib.Core.Path.{_≡_};
 ghost use mathlib.Core.List.{map, foldl};
 ghost use Rattle.lex.specs.Lex.{diagnosticOf};

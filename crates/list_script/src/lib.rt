@@ -1,8 +1,8 @@
 // The listing of a reading on standard output.
+use ast::Parsed;
 use libc::STDIN_FILENO;
 use libc::STDOUT_FILENO;
 use listing::Listing;
-use rules::Parsed;
 
 // Room for the listing of a script of 960 bytes: nodes, types, errors and list members are each at
 // most 960, and none takes over 64 bytes.

@@ -13,22 +13,22 @@ use borrow.Author.Tests.{le-leb, lt-leb, leb-true, eq-eqb, ne-eqb}
 use Rattle.lex.proofs.Laws.{agree}
 use Rattle.lex.specs.declared.diagnostic.Diagnostic.{Diagnostic}
 use Rattle.lex.specs.declared.tok.Token.{Token}
-use Rattle.rules.specs.declared.Run.{Run}
-use Rattle.rules.specs.declared.Node.{Node}
-use Rattle.rules.specs.declared.TypeExpr.{TypeExpr}
-use Rattle.ast.specs.declared.layout.NodeRead.{NodeRead}
-use Rattle.ast.specs.declared.layout.NodeRead.the-variants as NR
-use Rattle.ast.specs.declared.layout.TypeRead.{TypeRead}
-use Rattle.ast.specs.declared.layout.TypeRead.the-variants as TR
-use Rattle.rules.specs.declared.Counts.{Counts}
-use Rattle.rules.specs.declared.Parsed.{Parsed}
-use Rattle.rules.specs.declared.Parsed.the-variants as P
-use Rattle.rules.specs.Layout.{nodeWidth, typeWidth}
+use Rattle.ast.specs.declared.Run.{Run}
+use Rattle.ast.specs.declared.Node.{Node}
+use Rattle.ast.specs.declared.TypeExpr.{TypeExpr}
+use Rattle.ast.specs.declared.decode.NodeRead.{NodeRead}
+use Rattle.ast.specs.declared.decode.NodeRead.the-variants as NR
+use Rattle.ast.specs.declared.decode.TypeRead.{TypeRead}
+use Rattle.ast.specs.declared.decode.TypeRead.the-variants as TR
+use Rattle.ast.specs.declared.Counts.{Counts}
+use Rattle.ast.specs.declared.Parsed.{Parsed}
+use Rattle.ast.specs.declared.Parsed.the-variants as P
+use Rattle.ast.specs.Layout.{nodeWidth, typeWidth}
 use Rattle.rules.specs.Promise.{Arrays}
 use Rattle.ast.specs.Decode.{tokenAt, nodeRead, typeRead, nodeAt, typeAt}
 use Rattle.ast.specs.Schema.{membersOf}
-use Rattle.rules.specs.Schema as S
-use Rattle.rules.specs.Schema.{Members as Listed, memberWidth}
+use Rattle.ast.specs.Schema as S
+use Rattle.ast.specs.Schema.{Members as Listed, memberWidth}
 use Rattle.text.proofs.EmitLaws.{then, nothing, by, and-left, and-right}
 use Rattle.text.specs.Text.{bytes, number}
 use Rattle.listing.specs.Text.{malformed, gap, each, listed, tokens, ids, pairs, branches, externFns, member, list, kindNames, kindName, token, node, typeExpr}

@@ -11,12 +11,12 @@ use lib.ListN.{length, getD, take, drop, getElem?, length-append, List·getD-app
 use lib.Seq.{take-append-seam, getD-take, getD-drop}
 use borrow.Author.Tests.{le-leb}
 use Rattle.lex.specs.declared.diagnostic.Diagnostic.{Diagnostic}
-use Rattle.rules.specs.declared.Node.{Node}
-use Rattle.rules.specs.declared.TypeExpr.{TypeExpr}
-use Rattle.rules.specs.declared.Counts.{Counts}
+use Rattle.ast.specs.declared.Node.{Node}
+use Rattle.ast.specs.declared.TypeExpr.{TypeExpr}
+use Rattle.ast.specs.declared.Counts.{Counts}
 use Rattle.rules.specs.Tree.{Tree}
 use Rattle.rules.specs.Parse.{Reading, read, ended}
-use Rattle.rules.specs.Layout.{nodeWidth, typeWidth, zeros, padded, nodeCells, typeCells, diagnosticCells}
+use Rattle.ast.specs.Layout.{nodeWidth, typeWidth, zeros, padded, nodeCells, typeCells, diagnosticCells}
 use Rattle.rules.specs.Promise.{Arrays, noError, holding, outcome}
 use Rattle.ast.specs.Decode.{nodeOf, typeOf, nodeAt, typeAt}
 use Rattle.ast.proofs.LayoutLaws.{node-inside, type-inside, node-length, type-length, node-trip, type-trip}

@@ -6,12 +6,12 @@ use Prim.Native.Nat.{ℕ, _+_, _*_}
 use lib.Dec.{leb, ltb, eqb}
 use lib.ListN.{length, getD, take, getElem?}
 use Rattle.lex.specs.declared.diagnostic.Diagnostic.{Diagnostic}
-use Rattle.rules.specs.declared.Counts.{Counts}
-use Rattle.rules.specs.declared.Node.{Node}
-use Rattle.rules.specs.declared.TypeExpr.{TypeExpr}
-use Rattle.rules.specs.declared.Parsed.{Parsed}
-use Rattle.rules.specs.declared.Parsed.the-variants as P
-use Rattle.rules.specs.Layout.{nodeWidth, typeWidth}
+use Rattle.ast.specs.declared.Counts.{Counts}
+use Rattle.ast.specs.declared.Node.{Node}
+use Rattle.ast.specs.declared.TypeExpr.{TypeExpr}
+use Rattle.ast.specs.declared.Parsed.{Parsed}
+use Rattle.ast.specs.declared.Parsed.the-variants as P
+use Rattle.ast.specs.Layout.{nodeWidth, typeWidth}
 use Rattle.rules.specs.Tree.{Tree}
 use Rattle.rules.specs.Parse.{Reading, read, ended}
 use Rattle.rules.specs.Promise.{Arrays, noError}

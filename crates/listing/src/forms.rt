@@ -2,14 +2,14 @@
 use crate::emit::write_gap;
 use crate::emit::write_malformed;
 use crate::emit::write_number;
-use ast::layout::cell;
-use ast::layout::run_at;
-use ast::layout::token_at;
+use ast::Run;
+use ast::decode::cell;
+use ast::decode::run_at;
+use ast::decode::token_at;
 use ast::schema::Sort;
 use ast::schema::member_width;
 use lex::Token;
 use lex::Type;
-use rules::Run;
 use text::write_byte;
 use text::write_text;
 ghost use mathlib.Core.List.{_++_};

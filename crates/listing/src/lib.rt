@@ -5,7 +5,7 @@ mod lines;
 mod records;
 
 use crate::lines::write_answer;
-use rules::Parsed;
+use ast::Parsed;
 use text::LAST;
 ghost use mathlib.Core.Path.{_≡_};
 ghost use Rattle.text.specs.Answer.{Result};

@@ -4,17 +4,17 @@ use crate::emit::write_number;
 use crate::records::write_node;
 use crate::records::write_one_number;
 use crate::records::write_type;
-use ast::layout::NodeRead;
-use ast::layout::TypeRead;
-use ast::layout::cell;
+use ast::Counts;
+use ast::DIAGNOSTIC_WIDTH;
+use ast::Node;
+use ast::NodeId;
+use ast::Parsed;
+use ast::TypeExpr;
+use ast::TypeExprId;
+use ast::decode::NodeRead;
+use ast::decode::TypeRead;
+use ast::decode::cell;
 use lex::Diagnostic;
-use rules::Counts;
-use rules::DIAGNOSTIC_WIDTH;
-use rules::Node;
-use rules::NodeId;
-use rules::Parsed;
-use rules::TypeExpr;
-use rules::TypeExprId;
 use text::write_byte;
 use text::write_text;
 ghost use Prim.Native.Nat.{_+_, _*_, _<_};
@@ -45,7 +45,7 @@ fn write_node_field(nodes: &[u32], lists: &[u32], i: u32, out: &mut [u8], at: us
     ensures { λ r. ⌜ Emits (gap 1 ++ nodeText (now (lists .entry)) (nodeAt (now (nodes .entry)) i)) (now (out .entry)) at (now (out .exit)) r ⌝ }
 {
     let a = write_byte(b' ', out, at);
-    match ast::layout::node(nodes, NodeId(i)) {
+    match ast::decode::node(nodes, NodeId(i)) {
         NodeRead::Known(n) => write_node(lists, n, out, a),
         NodeRead::Unknown => write_malformed(out, a),
     }
@@ -78,7 +78,7 @@ fn write_type_field(types: &[u32], lists: &[u32], i: u32, out: &mut [u8], at: us
     ensures { λ r. ⌜ Emits (gap 1 ++ typeText (now (lists .entry)) (typeAt (now (types .entry)) i)) (now (out .entry)) at (now (out .exit)) r ⌝ }
 {
     let a = write_byte(b' ', out, at);
-    match ast::layout::type_expr(types, TypeExprId(i)) {
+    match ast::decode::type_expr(types, TypeExprId(i)) {
         TypeRead::Known(t) => write_type(lists, t, out, a),
         TypeRead::Unknown => write_malformed(out, a),
     }

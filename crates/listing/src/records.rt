@@ -2,13 +2,13 @@
 use crate::emit::write_number;
 use crate::forms::write_list;
 use crate::forms::write_token;
+use ast::Node;
+use ast::NodeId;
+use ast::Run;
+use ast::TypeExpr;
+use ast::TypeExprId;
 use ast::schema::Sort;
 use lex::Token;
-use rules::Node;
-use rules::NodeId;
-use rules::Run;
-use rules::TypeExpr;
-use rules::TypeExprId;
 use text::write_byte;
 use text::write_text;
 ghost use mathlib.Core.List.{[], _∷_, _++_};

@@ -9,24 +9,24 @@ use lib.Dec.{ltb, eqb}
 use lib.ListN.{getD}
 use borrow.Author.Tests.{lt-ltb, le-ltb, ltb-true, ltb-false, ne-eqb}
 use Rattle.lex.specs.Spelling.{wellFormed}
-use Rattle.rules.specs.Shape.{andThen}
+use Rattle.ast.specs.Lists.{andThen}
 use Rattle.lex.specs.declared.tok.Token.{Token}
-use Rattle.rules.specs.declared.Run.{Run}
-use Rattle.rules.specs.declared.NodeId.{NodeId}
-use Rattle.rules.specs.declared.Node.{Node}
-use Rattle.rules.specs.declared.Node.the-variants as N
-use Rattle.rules.specs.declared.TypeExpr.{TypeExpr}
-use Rattle.rules.specs.declared.TypeExpr.the-variants as T
+use Rattle.ast.specs.declared.Run.{Run}
+use Rattle.ast.specs.declared.NodeId.{NodeId}
+use Rattle.ast.specs.declared.Node.{Node}
+use Rattle.ast.specs.declared.Node.the-variants as N
+use Rattle.ast.specs.declared.TypeExpr.{TypeExpr}
+use Rattle.ast.specs.declared.TypeExpr.the-variants as T
 use Rattle.lex.specs.Bytes.{if}
 use Rattle.ast.specs.Decode.{low, tokenAt, nodeAt, typeAt, nodeRead, typeRead}
 use Rattle.ast.specs.Tabulate.{entriesBelow, entryAt}
 use Rattle.ast.proofs.Tabulate.{entries-below, entries-past}
 use Rattle.lookups.specs.Lookup.{inside, tokenStart, orElse, matchStart, startOf, startRow, startAt, typeTokenOf, typeTokenRow, typeTokenAt}
 use Rattle.lookups.specs.Descent.{asStart, startOr, arrayStep, stepOf, decodeStart, innerOf, Innermost}
-use Rattle.ast.specs.declared.layout.NodeRead.{NodeRead}
-use Rattle.ast.specs.declared.layout.NodeRead.the-variants as NR
-use Rattle.ast.specs.declared.layout.TypeRead.{TypeRead}
-use Rattle.ast.specs.declared.layout.TypeRead.the-variants as TR
+use Rattle.ast.specs.declared.decode.NodeRead.{NodeRead}
+use Rattle.ast.specs.declared.decode.NodeRead.the-variants as NR
+use Rattle.ast.specs.declared.decode.TypeRead.{TypeRead}
+use Rattle.ast.specs.declared.decode.TypeRead.the-variants as TR
 use Rattle.lookups.specs.declared.Start.{Start}
 use Rattle.lookups.specs.declared.Start.the-variants as S
 use Rattle.lookups.specs.declared.Step.{Step}

@@ -6,11 +6,11 @@ use Prim.Native.Nat.{ℕ, _-_, _%_, _≤_}
 use lib.Dec.{ltb, eqb}
 use lib.ListN.{getD}
 use Rattle.lex.specs.declared.tok.Token.{Token}
-use Rattle.rules.specs.declared.Run.{Run}
-use Rattle.rules.specs.declared.Node.{Node}
-use Rattle.rules.specs.declared.Node.the-variants as N
-use Rattle.rules.specs.declared.TypeExpr.{TypeExpr}
-use Rattle.rules.specs.declared.TypeExpr.the-variants as T
+use Rattle.ast.specs.declared.Run.{Run}
+use Rattle.ast.specs.declared.Node.{Node}
+use Rattle.ast.specs.declared.Node.the-variants as N
+use Rattle.ast.specs.declared.TypeExpr.{TypeExpr}
+use Rattle.ast.specs.declared.TypeExpr.the-variants as T
 use Rattle.lex.specs.Bytes.{if}
 use Rattle.ast.specs.Decode.{typeAt}
 use Rattle.lookups.specs.Lookup.{inside, tokenStart, matchStart, typeTokenAt}

@@ -6,14 +6,14 @@ use Prim.Native.Nat.{ℕ, _+_, _*_}
 use lib.Dec.{leb, ltb, eqb}
 use lib.ListN.{length, getD}
 use Rattle.lex.specs.declared.tok.Token.{Token}
-use Rattle.rules.specs.Layout.{nodeWidth, typeWidth}
+use Rattle.ast.specs.Layout.{nodeWidth, typeWidth}
 use Rattle.lex.specs.Spelling.{wellFormed, asStrLength}
-use Rattle.rules.specs.Shape.{andThen}
-use Rattle.rules.specs.declared.Run.{Run}
-use Rattle.rules.specs.declared.Node.{Node}
-use Rattle.rules.specs.declared.Node.the-variants as N
-use Rattle.rules.specs.declared.TypeExpr.{TypeExpr}
-use Rattle.rules.specs.declared.TypeExpr.the-variants as T
+use Rattle.ast.specs.Lists.{andThen}
+use Rattle.ast.specs.declared.Run.{Run}
+use Rattle.ast.specs.declared.Node.{Node}
+use Rattle.ast.specs.declared.Node.the-variants as N
+use Rattle.ast.specs.declared.TypeExpr.{TypeExpr}
+use Rattle.ast.specs.declared.TypeExpr.the-variants as T
 use Rattle.lex.specs.Bytes.{if}
 use Rattle.ast.specs.Decode.{fits, low, tokenAt, nodeAt, typeAt}
 use Rattle.ast.specs.Tabulate.{entryAt}

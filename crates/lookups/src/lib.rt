@@ -1,18 +1,18 @@
 // Where a node starts, and the token of a type.
-use ast::layout::NodeRead;
-use ast::layout::TypeRead;
-use ast::layout::token_at;
+use ast::Counts;
+use ast::Node;
+use ast::NodeId;
+use ast::Run;
+use ast::TypeExpr;
+use ast::TypeExprId;
+use ast::decode::NodeRead;
+use ast::decode::TypeRead;
+use ast::decode::token_at;
 use ast::lent::refusal;
 use ast::lent::used;
 use lex::Token;
 use lex::as_str_len;
 use lex::well_formed;
-use rules::Counts;
-use rules::Node;
-use rules::NodeId;
-use rules::Run;
-use rules::TypeExpr;
-use rules::TypeExprId;
 ghost use mathlib.Core.Path.{_≡_};
 ghost use Prim.Native.Nat.{_≤_};
 ghost use Rattle.ast.specs.Decode.{nodeAt, typeAt};
@@ -81,7 +81,7 @@ fn array_step(cells: &[u32], members: Run, other: Start) -> Step
 fn start_step(script: &[u8], nodes: &[u32], cells: &[u32], id: NodeId, other: Start) -> Step
     ensures { λ r. ⌜ r ≡ stepOf (now (script .entry)) (now (cells .entry)) other (nodeAt (now (nodes .entry)) (id .0)) ⌝ }
 {
-    let read = ast::layout::node(nodes, id);
+    let read = ast::decode::node(nodes, id);
     match read {
         NodeRead::Unknown => Step::Done(Start::Refused(4)),
         NodeRead::Known(n) => match n {
@@ -242,7 +242,7 @@ fn check_token(script: &[u8], t: Token) -> TypeToken
 fn inner_of(types: &[u32], id: TypeExprId) -> TypeExprId
     ensures { λ r. ⌜ r .0 ≡ innerOf (typeAt (now (types .entry)) (id .0)) (id .0) ⌝ }
 {
-    let read = ast::layout::type_expr(types, id);
+    let read = ast::decode::type_expr(types, id);
     match read {
         TypeRead::Unknown => id,
         TypeRead::Known(t) => match t {
@@ -274,7 +274,7 @@ fn token_here(script: &[u8], types: &[u32], id: TypeExprId) -> TypeToken
     requires { ⌜ id .0 ≤ innerOf (typeAt (now types) (id .0)) (id .0) ⌝ }
     ensures { λ r. ⌜ r ≡ asTypeToken (typeTokenAt (now (script .entry)) (now (types .entry)) (id .0)) ⌝ }
 {
-    let read = ast::layout::type_expr(types, id);
+    let read = ast::decode::type_expr(types, id);
     match read {
         TypeRead::Unknown => TypeToken::Refused(4),
         TypeRead::Known(t) => match t {

@@ -5,7 +5,7 @@ use Prim.Native.Nat.{ℕ, suc, _+_, _-_, _≤_, _<_}
 use native.Mathlib.Omega.{arith}
 use lib.ListN.{length, take, drop, set, getD, length-append, length-take, take-append-drop, drop-of-length-le, replicate-append-replicate}
 use lib.Seq.{drop-cons, drop-at, set-at, take-at}
-use Rattle.rules.specs.Layout.{zeros}
+use Rattle.ast.specs.Layout.{zeros}
 use Rattle.parser_state.proofs.Cells.{zeros-length}
 use Rattle.parser.specs.Whole.{cleared, ZeroBetween}
 

@@ -18,8 +18,8 @@ use Rattle.rules.specs.Tree.{State, Result, ok, err}
 use Rattle.rules.specs.Combinators.{_>>_, pure, choose, current, ControlFlow, continue, break, iterate, loop}
 use Rattle.rules.specs.Rules.{stageOne, maxLevels}
 use Rattle.rules.specs.Parse.{Gathered, begin, merged, synchronizeRoot, recover, parseRootsCollect}
-use Rattle.rules.specs.Layout.{zeros, padded, diagnosticCells}
-use Rattle.rules.specs.declared.NodeId.{NodeId}
+use Rattle.ast.specs.Layout.{zeros, padded, diagnosticCells}
+use Rattle.ast.specs.declared.NodeId.{NodeId}
 use Rattle.rules.proofs.Results as Results
 use Rattle.rules.proofs.Counting.Step.{WellEnded, pending}
 use Rattle.rules.proofs.Counting.Whole.{begin-left, begin-pending, Reached}

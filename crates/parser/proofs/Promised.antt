@@ -12,11 +12,11 @@ use Rattle.lex.specs.declared.diagnostic.Diagnostic.{Diagnostic}
 use Rattle.rules.specs.Tree.{State, Result, ok, err}
 use Rattle.rules.specs.Rules.{stageOne}
 use Rattle.rules.specs.Parse.{Reading, read, ended, Gathered, begin, parse, parseRoots, parseCollect, parseRootsCollect}
-use Rattle.rules.specs.Layout.{zeros, padded, nodeCells, typeCells, diagnosticCells}
+use Rattle.ast.specs.Layout.{zeros, padded, nodeCells, typeCells, diagnosticCells}
 use Rattle.lex.specs.Answer.{maxBytes}
 use Rattle.rules.specs.Promise.{Arrays, arraysOf, Outcome, tooShort, zeroed, holding, outcome, promised}
-use Rattle.rules.specs.declared.Parsed.{Parsed}
-use Rattle.rules.specs.declared.Parsed.the-variants as P
+use Rattle.ast.specs.declared.Parsed.{Parsed}
+use Rattle.ast.specs.declared.Parsed.the-variants as P
 use Rattle.parser_state.specs.Represents.{isGoing}
 use Rattle.parser_state.specs.declared.Used.{Used}
 use Rattle.parser_state.specs.declared.Status.{Status}

@@ -17,8 +17,8 @@ use Rattle.rules.specs.Tree.{State, Result, ok, err}
 use Rattle.rules.specs.Combinators.{_>>=_, pure, current, withDocs, loop, ControlFlow, continue, break}
 use Rattle.rules.specs.Rules.{maxLevels, stageOne}
 use Rattle.rules.specs.Parse.{begin, parseRoots}
-use Rattle.rules.specs.Layout.{zeros, nodeCells, typeCells}
-use Rattle.rules.specs.declared.NodeId.{NodeId}
+use Rattle.ast.specs.Layout.{zeros, nodeCells, typeCells}
+use Rattle.ast.specs.declared.NodeId.{NodeId}
 use Rattle.parser_state.specs.Represents.{withUsed, Going, Failed, Code, code, going, isGoing, ahead, docCells, Related, Represents, FailedAt}
 use Rattle.parser_state.specs.Refines.{Ends, stackUnchanged, Refines, deeper, memberFollows}
 use Rattle.parser_state.specs.declared.Parser.{Parser}

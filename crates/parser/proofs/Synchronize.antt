@@ -14,7 +14,7 @@ use Rattle.lex.specs.declared.diagnostic.Diagnostic.{Diagnostic}
 use Rattle.rules.specs.Tree.{State, Result, ok, err}
 use Rattle.rules.specs.Combinators.{Rule, _>>_, pure, advance, choose, withDocs, ControlFlow, continue, break}
 use Rattle.rules.specs.Parse.{synchronizeByKind, synchronizeStep, synchronizeRoot}
-use Rattle.rules.specs.Layout.{zeros}
+use Rattle.ast.specs.Layout.{zeros}
 use Rattle.rules.proofs.Results as Results
 use Rattle.parser_state.specs.Represents.{Going, withUsed, withStatus, Code, code, isGoing, Represents, FailedAt}
 use Rattle.parser_state.specs.Refines.{Ends, stackUnchanged, Refines}

@@ -10,7 +10,7 @@ use Rattle.rules.specs.Tree.{Result, ok, err}
 use Rattle.rules.specs.Combinators.{Rule, pure, ifKind, ControlFlow, continue, break}
 use Rattle.rules.specs.Rules.{stageOne, maxLevels}
 use Rattle.rules.specs.Parse.{Gathered, merged, recover}
-use Rattle.rules.specs.Layout.{padded, diagnosticCells}
+use Rattle.ast.specs.Layout.{padded, diagnosticCells}
 use Rattle.diagnostics.specs.Records.{diagnostics, holding}
 use Rattle.diagnostics.proofs.Order.{Ordered}
 use Rattle.parser_state.specs.Represents.{Failed, code, ahead, Represents}

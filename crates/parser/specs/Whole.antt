@@ -13,7 +13,7 @@ use Rattle.rules.specs.Tree.{State, Result, ok, err}
 use Rattle.rules.specs.Combinators.{Rule, _>>=_, pure, ifKind, withDocs, ControlFlow, continue, break, loop}
 use Rattle.rules.specs.Rules.{maxLevels}
 use Rattle.rules.specs.Parse.{synchronizeStep}
-use Rattle.rules.specs.Layout.{nodeWidth, typeWidth, zeros, padded, nodeCells, typeCells}
+use Rattle.ast.specs.Layout.{nodeWidth, typeWidth, zeros, padded, nodeCells, typeCells}
 use Rattle.lex.specs.Answer.{maxBytes}
 use Rattle.parser_state.specs.Represents.{lowToken, Going, Failed, Code, ahead, isGoing, EnoughLent, Represents, FailedAt}
 use Rattle.parser_state.specs.Refines.{deeper}

@@ -11,7 +11,7 @@ use Rattle.lex.specs.Kind.{kDoc, kImport, kExtern, kLet, kFn, kMatch}
 use Rattle.rules.specs.Tree.{State, ok}
 use Rattle.rules.specs.Combinators.{Rule, Readers, ControlFlow, break, failExpecting, byKind, choose, collectDocs, pure}
 use Rattle.rules.specs.Rules.{stageOne, readers, itemByKind, parsePrefix, parseExpr, operand}
-use Rattle.rules.specs.declared.NodeId.{NodeId}
+use Rattle.ast.specs.declared.NodeId.{NodeId}
 use Rattle.parser_state.specs.Represents.{Code, going}
 use Rattle.parser_state.specs.Refines.{stackUnchanged, Refines, Refuses, deeper}
 use Rattle.parser_state.proofs.Steps.{either, at-kind, refused, then, enough, current-represents, ifKind-no}

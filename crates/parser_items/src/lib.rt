@@ -3,6 +3,9 @@
 // `infixStep`, `post_step` `postfixStep`, `record_lit` and `array_lit` `recordLiteral` and
 // `arrayLiteral`, `init` `field`, `case` `nextCase`, `prefix` and `expr` `parsePrefix` and
 // `parseExpr`.
+use ast::NodeId;
+use ast::NodeKind;
+use ast::Run;
 use lex::Token;
 use lex::Type;
 use parser_operators::CasesRead;
@@ -44,9 +47,6 @@ use parser_types::fn_return;
 use parser_types::parse_args;
 use parser_types::parse_extern;
 use parser_types::parse_import;
-use rules::NodeId;
-use rules::NodeKind;
-use rules::Run;
 ghost use mathlib.Core.Path.{_≡_};
 ghost use mathlib.Core.Bool.{true};
 ghost use Prim.Native.Nat.{_<_};

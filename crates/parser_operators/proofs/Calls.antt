@@ -9,12 +9,11 @@ use lib.ListN.{length, getD}
 use lib.Seq.{getD-append-add}
 use borrow.Author.Tests.{eq-eqb, ne-eqb}
 use Rattle.rules.specs.Tree.{State}
-use Rattle.rules.specs.Combinators.{tokenCells, runCells}
+use Rattle.ast.specs.Layout.{tokenCells, runCells, zeros, nodeCells}
 use Rattle.rules.specs.Rules.{isCallableTarget}
-use Rattle.rules.specs.Layout.{zeros, nodeCells}
-use Rattle.rules.specs.declared.NodeId.{NodeId}
-use Rattle.rules.specs.declared.Node.{Node}
-use Rattle.rules.specs.declared.Node.the-variants as N
+use Rattle.ast.specs.declared.NodeId.{NodeId}
+use Rattle.ast.specs.declared.Node.{Node}
+use Rattle.ast.specs.declared.Node.the-variants as N
 use Rattle.parser_state.specs.Represents.{Code, Represents}
 use Rattle.parser_state.proofs.Cells.{node-length}
 use Rattle.parser_operators.specs.Tests.{callAt}

@@ -11,7 +11,7 @@ use Rattle.lex.specs.declared.tok.Token.{Token}
 use Rattle.rules.specs.Tree.{State, ok}
 use Rattle.rules.specs.Combinators.{Rule, Readers, _>>=_, pure, cur, current, ControlFlow, break}
 use Rattle.rules.specs.Rules.{stageOne, breaksOff, callable, call, callStep, postfixStep, binary, signStep, infixStep}
-use Rattle.rules.specs.declared.NodeId.{NodeId}
+use Rattle.ast.specs.declared.NodeId.{NodeId}
 use Rattle.parser_state.specs.Represents.{Code, isGoing, Represents}
 use Rattle.parser_state.specs.Refines.{Ends, stackUnchanged, Refines}
 use Rattle.parser_state.specs.declared.Parser.{Parser}

@@ -11,10 +11,11 @@ use borrow.Author.Tests.{eq-eqb, ne-eqb}
 use Rattle.lex.specs.Kind.{kEof, kCurlyLeft, kCurlyRight}
 use Rattle.lex.specs.declared.tok.Token.{Token}
 use Rattle.rules.specs.Tree.{Notes, State, Result, ok, err}
-use Rattle.rules.specs.Combinators.{Rule, Readers, _>>=_, _>>_, pure, cur, current, ifKind, loop, ControlFlow, continue, break, allocSlice, expect, tokenCells, runCells}
+use Rattle.rules.specs.Combinators.{Rule, Readers, _>>=_, _>>_, pure, cur, current, ifKind, loop, ControlFlow, continue, break, allocSlice, expect}
+use Rattle.ast.specs.Layout.{tokenCells, runCells}
 use Rattle.rules.specs.Rules.{Cases, noteAfterDefault, defaultCase, conditionCase, nextCase, parseBody}
-use Rattle.rules.specs.declared.Run.{Run}
-use Rattle.rules.specs.declared.NodeId.{NodeId}
+use Rattle.ast.specs.declared.Run.{Run}
+use Rattle.ast.specs.declared.NodeId.{NodeId}
 use Rattle.parser_state.specs.Represents.{Code, going, ahead, lowToken, Represents, FailedAt}
 use Rattle.parser_state.specs.Refines.{Ends, stackUnchanged, grown, Refines, ReadsMember, Lists, failAt, memberFollows, closed}
 use Rattle.parser_state.proofs.Steps.{either, represents-less, represents-going, failed-fails, represents-noted, noted, current-represents, seq, read, looks, done, enough, ifKind-yes}

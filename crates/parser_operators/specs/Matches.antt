@@ -8,11 +8,12 @@ use lib.Dec.{eqb}
 use Rattle.lex.specs.Kind.{kCurlyRight}
 use Rattle.lex.specs.declared.tok.Token.{Token}
 use Rattle.rules.specs.Tree.{err}
-use Rattle.rules.specs.Combinators.{Rule, Readers, _>>=_, pure, cur, atToken, pushNode, loop, tokenCells, runCells}
+use Rattle.rules.specs.Combinators.{Rule, Readers, _>>=_, pure, cur, atToken, pushNode, loop}
+use Rattle.ast.specs.Layout.{tokenCells, runCells}
 use Rattle.rules.specs.Rules.{Cases, parseBody, nextCase}
-use Rattle.rules.specs.declared.Run.{Run}
-use Rattle.rules.specs.declared.NodeId.{NodeId}
-use Rattle.rules.specs.declared.Node.the-variants as N
+use Rattle.ast.specs.declared.Run.{Run}
+use Rattle.ast.specs.declared.NodeId.{NodeId}
+use Rattle.ast.specs.declared.Node.the-variants as N
 use Rattle.parser_state.specs.Represents.{Code, lowToken}
 use Rattle.parser_state.specs.Refines.{Collected, closed}
 use Rattle.parser_operators.specs.declared.Default.{Default}

@@ -9,7 +9,7 @@ use lib.ListN.{getD}
 use Rattle.lex.specs.Kind.{kPlus, kMinus, kAsteriks, kSlash, kPercent, kDoubleEqual, kLessThan, kGreaterThan, kDot, kBraceLeft, kBraketLeft, kCurlyLeft, kS, kD, kI, kIdent, kDoc, kMatch, kAs, kTrue, kFalse}
 use Rattle.rules.specs.Combinators.{Rule, Readers, choose, fail}
 use Rattle.rules.specs.Rules.{stageOne, breaksOff, recordLiteral, arrayLiteral, atom, ident, group, unary}
-use Rattle.rules.specs.declared.NodeId.{NodeId}
+use Rattle.ast.specs.declared.NodeId.{NodeId}
 use Rattle.parser_state.specs.Represents.{isGoing}
 use Rattle.parser_state.specs.declared.Parser.{Parser}
 

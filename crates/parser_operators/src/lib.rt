@@ -1,4 +1,8 @@
 // The tables and tests of items and expressions, and the nodes with none below them.
+use ast::NodeId;
+use ast::NodeKind;
+use ast::Run;
+use ast::TypeExprId;
 use lex::Token;
 use lex::Type;
 use lex::is_prefix_sign;
@@ -17,16 +21,13 @@ use parser_state::push_field;
 use parser_state::push_node;
 use parser_state::push_token_node;
 use parser_types::parse_type;
-use rules::NodeId;
-use rules::NodeKind;
-use rules::Run;
-use rules::TypeExprId;
 ghost use mathlib.Core.Path.{_≡_};
 ghost use mathlib.Core.List.{List, [], _∷_, _++_};
 ghost use Prim.Native.Nat.{ℕ, _<_};
 ghost use lib.ListN.{getD};
-ghost use Rattle.rules.specs.Combinators.{pushNode, tokenCells, runCells};
-ghost use Rattle.rules.specs.declared.Node.the-variants as N;
+ghost use Rattle.rules.specs.Combinators.{pushNode};
+ghost use Rattle.ast.specs.Layout.{tokenCells, runCells};
+ghost use Rattle.ast.specs.declared.Node.the-variants as N;
 ghost use Rattle.rules.specs.Rules.{atom, ident, fieldAccess, cast, breaksOff};
 ghost use Rattle.parser_state.specs.Represents.{parserOf, code, lowToken};
 ghost use Rattle.parser_state.specs.Refines.{Refines, stackUnchanged, ReadsNode, ReadsStep, Pushes, deeper};

@@ -9,13 +9,13 @@ use lib.Dec.{leb, ltb}
 use borrow.Author.Tests.{leb-true, ltb-true, le-leb, lt-ltb}
 use borrow.Rule.Slice.PartMut.{midOf, putMid}
 use lib.Seq.{paste, length-paste, take-at, drop-at, set-at, getD-at, drop-append-add, take-all}
-use Rattle.rules.specs.Combinators.{pure, pushNodeAnd, pushType, withArena, allocSlice, tokenCells, runCells}
-use Rattle.rules.specs.declared.Node.{Node}
-use Rattle.rules.specs.declared.NodeId.{NodeId}
-use Rattle.rules.specs.declared.Node.the-variants as N
-use Rattle.rules.specs.declared.TypeExpr.{TypeExpr}
-use Rattle.rules.specs.declared.TypeExpr.the-variants as TE
-use Rattle.rules.specs.Layout.{zeros, nodeCells, typeCells}
+use Rattle.rules.specs.Combinators.{pure, pushNodeAnd, pushType, withArena, allocSlice}
+use Rattle.ast.specs.Layout.{tokenCells, runCells, zeros, nodeCells, typeCells}
+use Rattle.ast.specs.declared.Node.{Node}
+use Rattle.ast.specs.declared.NodeId.{NodeId}
+use Rattle.ast.specs.declared.Node.the-variants as N
+use Rattle.ast.specs.declared.TypeExpr.{TypeExpr}
+use Rattle.ast.specs.declared.TypeExpr.the-variants as TE
 use Rattle.parser_state.specs.Represents.{code, withUsed, isGoing, docCells, ListsLaid}
 use Rattle.parser_state.specs.Refines.{stackUnchanged, Refines, Pushes, Lists, hasRoom}
 use Rattle.parser_state.specs.declared.Parser.{Parser}

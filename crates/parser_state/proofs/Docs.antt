@@ -10,9 +10,9 @@ use lib.Dec.{eqb}
 use Rattle.lex.specs.Kind.{kEof}
 use Rattle.lex.specs.declared.tok.Token.{Token}
 use Rattle.rules.specs.Tree.{State, Result, ok, err}
-use Rattle.rules.specs.Combinators.{Rule, _>>_, current, pure, ifKind, atToken, keepDoc, withDocs, withArena, tokenCells, takeDocs, allocSlice, continue}
+use Rattle.rules.specs.Combinators.{Rule, _>>_, current, pure, ifKind, atToken, keepDoc, withDocs, withArena, takeDocs, allocSlice, continue}
+use Rattle.ast.specs.Layout.{tokenCells, zeros, typeCells}
 use Rattle.rules.specs.Rules.{lastOf, requireNoDocs}
-use Rattle.rules.specs.Layout.{zeros, typeCells}
 use Rattle.parser_state.specs.Represents.{Code, code, withUsed, isGoing, lowToken, docCells, AllLow, Represents}
 use Rattle.parser_state.specs.Refines.{Ends, stackUnchanged, Refines, noDocsWait, failed, docAt}
 use Rattle.parser_state.specs.declared.Parser.{Parser}

@@ -11,7 +11,7 @@ use Rattle.lex.specs.Kind.{kEof}
 use Rattle.lex.specs.declared.diagnostic.Diagnostic.{Diagnostic}
 use Rattle.rules.specs.Tree.{State, Result, ok, err}
 use Rattle.rules.specs.Combinators.{Rule, _>>=_, pure, current, ifKind, ControlFlow, continue, break, iterate, loop, members, listUntil}
-use Rattle.rules.specs.declared.Run.{Run}
+use Rattle.ast.specs.declared.Run.{Run}
 use Rattle.parser_state.specs.Represents.{Code, going, isGoing, ahead, Represents, FailedAt}
 use Rattle.parser_state.specs.Refines.{Ends, stackUnchanged, grown, allGrown, Collected, Refines, ReadsMember, Lists, memberFollows, followsBy, closed}
 use Rattle.parser_state.specs.declared.Parser.{Parser}

@@ -11,9 +11,9 @@ use Rattle.lex.specs.declared.tok.Token.{Token}
 use Rattle.rules.specs.Tree.{State, Result, ok, err}
 use Rattle.rules.specs.Combinators.{Rule, Readers, _>>_, current, atToken, expect, allocSlice, pure, ControlFlow, continue}
 use Rattle.rules.specs.Rules.{readers, stageOne, requireNoDocs}
-use Rattle.rules.specs.declared.Run.{Run}
-use Rattle.rules.specs.declared.NodeId.{NodeId}
-use Rattle.rules.specs.declared.TypeExprId.{TypeExprId}
+use Rattle.ast.specs.declared.Run.{Run}
+use Rattle.ast.specs.declared.NodeId.{NodeId}
+use Rattle.ast.specs.declared.TypeExprId.{TypeExprId}
 use Rattle.parser_state.specs.Represents.{Failed, withStatus, Code, code, going, ahead, Represents, FailedAt, isGoing}
 use Rattle.parser_state.specs.declared.Parser.{Parser}
 

@@ -12,15 +12,14 @@ use Rattle.lex.specs.declared.diagnostic.Diagnostic.{Diagnostic}
 use Rattle.lex.specs.declared.tok.Next.{Next}
 use Rattle.lex.specs.declared.tok.Token.{Token}
 use Rattle.rules.specs.Tree.{State}
-use Rattle.rules.specs.Combinators.{tokenCells}
-use Rattle.rules.specs.Layout.{nodeCells, typeCells, zeros}
+use Rattle.ast.specs.Layout.{tokenCells, nodeCells, typeCells, zeros}
 use Rattle.lex.specs.Answer.{maxBytes}
-use Rattle.rules.specs.declared.Node.{Node}
-use Rattle.rules.specs.declared.Node.the-variants as N
+use Rattle.ast.specs.declared.Node.{Node}
+use Rattle.ast.specs.declared.Node.the-variants as N
 use Rattle.parser_state.specs.declared.WideNode.{WideNode}
 use Rattle.parser_state.specs.declared.WideNode.the-variants as W
-use Rattle.rules.specs.declared.TypeExpr.{TypeExpr}
-use Rattle.rules.specs.declared.TypeExpr.the-variants as T
+use Rattle.ast.specs.declared.TypeExpr.{TypeExpr}
+use Rattle.ast.specs.declared.TypeExpr.the-variants as T
 use Rattle.parser_state.specs.declared.Parser.{Parser}
 use Rattle.parser_state.specs.declared.Used.{Used}
 use Rattle.parser_state.specs.declared.Status.{Status}

@@ -1,26 +1,26 @@
 // The parser's state, and the functions of parser.rs that take tokens, write records, lists and
 // docs, and fail.
+use ast::NodeId;
+use ast::NodeKind;
+use ast::Run;
+use ast::TypeExpr;
+use ast::TypeExprId;
+use ast::TypeExprKind;
 use lex::Diagnostic;
 use lex::Next;
 use lex::Token;
 use lex::Type;
 use lex::next_token;
-use rules::NodeId;
-use rules::NodeKind;
-use rules::Run;
-use rules::TypeExpr;
-use rules::TypeExprId;
-use rules::TypeExprKind;
 ghost use mathlib.Core.Path.{_≡_};
 ghost use mathlib.Core.Bool.{true, false};
 ghost use mathlib.Core.List.{List, [], _∷_, _++_, reverse};
 ghost use Prim.Native.Nat.{ℕ, _+_, _*_, _-_, _≤_, _<_};
 ghost use lib.ListN.{length, replicate};
 ghost use lib.Seq.{paste};
-ghost use Rattle.rules.specs.Layout.{nodeWidth, padded, nodeCells, typeCells};
-ghost use Rattle.rules.specs.Combinators.{continue, atToken, advance, expect, expectIdent, rejectKind, pushNode, pushNodeAnd, pushType, allocSlice, tokenCells, keepDoc, collectDocs, takeDocs};
-ghost use Rattle.rules.specs.declared.Node.{Node};
-ghost use Rattle.rules.specs.declared.Node.the-variants as N;
+ghost use Rattle.ast.specs.Layout.{nodeWidth, padded, nodeCells, typeCells, tokenCells};
+ghost use Rattle.rules.specs.Combinators.{continue, atToken, advance, expect, expectIdent, rejectKind, pushNode, pushNodeAnd, pushType, allocSlice, keepDoc, collectDocs, takeDocs};
+ghost use Rattle.ast.specs.declared.Node.{Node};
+ghost use Rattle.ast.specs.declared.Node.the-variants as N;
 ghost use Rattle.parser_state.specs.Represents.{parserOf, withNext, withUsed, withStatus, code, isGoing, low24Bits, lowToken, lowType, lowNode};
 ghost use Rattle.parser_state.specs.Refines.{Refines, stackUnchanged, Takes, Refuses, Pushes, Lists, failAt, noDocsWait, failed, docAt, hasRoom, memberFollows, docFollows, closed};
 

@@ -10,7 +10,7 @@ use borrow.Author.Tests.{eqb-true, eqb-false, ne-eqb}
 use Rattle.lex.specs.Kind.{kStr, kInt, kDouble, kBool, kVoid, kOption, kArray, kForeign, kRecord}
 use Rattle.rules.specs.Combinators.{choose, failExpecting, Readers}
 use Rattle.rules.specs.Rules.{readers, parseType, typeByKind, atomType}
-use Rattle.rules.specs.declared.TypeExprId.{TypeExprId}
+use Rattle.ast.specs.declared.TypeExprId.{TypeExprId}
 use Rattle.parser_state.specs.Represents.{Code}
 use Rattle.parser_state.specs.Refines.{Refines, Refuses, stackUnchanged, deeper}
 use Rattle.parser_state.proofs.Steps.{either, at-kind, refused}

@@ -1,5 +1,10 @@
 // The readers of parser.rs that read no item and no expression: types, arguments, imports and
 // externs.
+use ast::NodeId;
+use ast::NodeKind;
+use ast::Run;
+use ast::TypeExpr;
+use ast::TypeExprId;
 use lex::Token;
 use lex::Type;
 use parser_state::State;
@@ -24,16 +29,12 @@ use parser_state::push_token_node;
 use parser_state::push_type;
 use parser_state::reject_kind;
 use parser_state::take_docs;
-use rules::NodeId;
-use rules::NodeKind;
-use rules::Run;
-use rules::TypeExpr;
-use rules::TypeExprId;
 ghost use mathlib.Core.Path.{_≡_};
 ghost use mathlib.Core.List.{List, [], _∷_, _++_};
 ghost use Prim.Native.Nat.{ℕ, _+_, _≤_, _<_};
 ghost use Rattle.lex.specs.Kind.{kCurlyRight};
-ghost use Rattle.rules.specs.Combinators.{listUntil, tokenCells, runCells};
+ghost use Rattle.rules.specs.Combinators.{listUntil};
+ghost use Rattle.ast.specs.Layout.{tokenCells, runCells};
 ghost use Rattle.rules.specs.Rules.{openAngle, atomType, foreignType, optionType, arrayType, recordType, typedName, suppliedVoid, fnReturn, externReturn, parseArgs, importPath, bracketedPaths, onePath, importPaths, parseImport, externFn, parseExtern, externName};
 ghost use Rattle.parser_state.specs.Represents.{parserOf, code, lowToken};
 ghost use Rattle.parser_state.specs.Refines.{Refines, stackUnchanged, Takes, ReadsType, ReadsNode, ReadsList, ReadsMember, Pushes, deeper};

@@ -18,8 +18,8 @@ use Rattle.rules.specs.Tree.{State, Result, ok, err, Tree}
 use Rattle.rules.specs.Combinators.{Rule, _>>=_, pure, current, rest, advance, struck, byKind, ifKind, choose, expect, expectIdent, withArena, withDocs, pushNodeAnd, allocSlice, ControlFlow, continue, break, loop, docStep, collectDocs, takeDocs, Readers}
 use Rattle.rules.specs.Rules.{atom, ident, breaksOff, requireNoDocs, readers, itemByKind, plainItem, group, unary, operand, postfix, postfixStep, signStep, infixStep, binary, infixes, parseExpr, parseLet, parsePrefix}
 use Rattle.rules.specs.Parse.{Reading, read, ended, begin, root, parseRoots, parse}
-use Rattle.rules.specs.declared.NodeId.{NodeId}
-use Rattle.rules.specs.declared.Node.{Node}
+use Rattle.ast.specs.declared.NodeId.{NodeId}
+use Rattle.ast.specs.declared.Node.{Node}
 use Rattle.rules.proofs.Results.{Ends, holds, fails, ended-ok, ifKind-else, bind-ok, then-ok, pure-ok, cur-ok, not-kind, requireNoDocs-ok, Turned, out, again, loop-out}
 use Rattle.practice.specs.Practice.{Expr}
 use Rattle.practice.proofs.Spelled.{Spelled, numeral, bracketed, signed, Lines, end, line, shorter, lines-fewer, depth, Shallow}

@@ -13,7 +13,7 @@ use borrow.Author.Tests.{leb-true, le-ltb}
 use Rattle.lex.specs.Lex.{cut, tokensFrom}
 use Rattle.lex.proofs.Laws.{cases, agree}
 use Rattle.rules.specs.Tree.{Tree}
-use Rattle.rules.specs.declared.Counts.{Counts}
+use Rattle.ast.specs.declared.Counts.{Counts}
 use Rattle.rules.specs.Parse.{parse}
 use Rattle.lex.specs.Answer.{maxBytes}
 use Rattle.rules.specs.Promise.{outcome, promised}

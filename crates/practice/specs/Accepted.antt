@@ -10,8 +10,8 @@ use Rattle.rules.specs.Tree.{Tree}
 use Rattle.rules.specs.Parse.{read, parse}
 use Rattle.lex.specs.Answer.{maxBytes}
 use Rattle.rules.specs.Promise.{Arrays, tooShort, promised}
-use Rattle.rules.specs.declared.Counts.{Counts}
-use Rattle.rules.specs.declared.Parsed.the-variants as P
+use Rattle.ast.specs.declared.Counts.{Counts}
+use Rattle.ast.specs.declared.Parsed.the-variants as P
 use Rattle.practice.specs.Practice.{maxLines, sheet}
 
 -- what is asked of a set of infix signs: the power of `+`, and that `)`, `let` and Eof are none of

@@ -12,9 +12,12 @@ use Rattle.lex.specs.Utf8 as Utf8
 use Rattle.lex.specs.Lex as Lex
 use Rattle.lex.specs.Spelling as Spelling
 use Rattle.rules.specs.Combinators as Combinators
+use Rattle.ast.specs.Layout as Layout
 use Rattle.rules.specs.Rules as Rules
 use Rattle.rules.specs.Parse as Parse
 use Rattle.rules.specs.Shape as Shape
+use Rattle.ast.specs.Lists as Lists
+use Rattle.ast.specs.Tabulate as Tabulate
 use Rattle.rules.specs.Strike as Strike
 use Rattle.rules.specs.Law as Law
 use Rattle.rules.specs.Parents as Parents
@@ -66,10 +69,10 @@ unfolding
     Kind.sameBytes Kind.keywords Kind.nameKind Kind.punctuators Kind.punctuatorKinds Kind.punctuatorKind
     Utf8.leastSecond Utf8.greatestSecond Utf8.afterLead Utf8.afterContinuation Utf8.nextState Utf8.stateAfter Utf8.utf8
     Lex.beginsComment Lex.skipped Lex.punctuator Lex.punctuation Lex.leadingSpace Lex.docIn Lex.doc Lex.string Lex.doubleIn Lex.numberIn Lex.number Lex.name Lex.symbol Lex.piece Lex.standsAt Lex.stepAt Lex.cutFrom Lex.cutAt Lex.cut Lex.tokensOf Lex.diagnosticOf Lex.faultsOf Lex.isPrefixSign
-    Combinators._>>=_ Combinators._>>_ Combinators.pure Combinators.current Combinators.rest Combinators.cur Combinators.advance Combinators.struck Combinators.byKind Combinators.ifKind Combinators.choose Combinators.atToken Combinators.failExpecting Combinators.expect Combinators.expectIdent Combinators.rejectKind Combinators.withArena Combinators.pushNodeAnd Combinators.pushType Combinators.allocSlice Combinators.tokenCells Combinators.runCells Combinators.iterate Combinators.loop Combinators.members Combinators.listUntil Combinators.withDocs Combinators.collectDocs Combinators.takeDocs
+    Combinators._>>=_ Combinators._>>_ Combinators.pure Combinators.current Combinators.rest Combinators.cur Combinators.advance Combinators.struck Combinators.byKind Combinators.ifKind Combinators.choose Combinators.atToken Combinators.failExpecting Combinators.expect Combinators.expectIdent Combinators.rejectKind Combinators.withArena Combinators.pushNodeAnd Combinators.pushType Combinators.allocSlice Layout.tokenCells Layout.runCells Combinators.iterate Combinators.loop Combinators.members Combinators.listUntil Combinators.withDocs Combinators.collectDocs Combinators.takeDocs
     Rules.stageOne Rules.openAngle Rules.atomType Rules.foreignType Rules.suppliedVoid Rules.importPath Rules.bracketedPaths Rules.strikeSingle Rules.parseImport Rules.atom Rules.ident Rules.isCallableTarget Rules.callable Rules.fieldAccess Rules.breaksOff Rules.requireNoDocs Rules.noteAfterDefault Rules.nodeMember Rules.typedName Rules.optionType Rules.arrayType Rules.recordType Rules.typeByKind Rules.parseType Rules.parseBody Rules.parseArgs Rules.returnType Rules.parseLet Rules.parseFn Rules.externFn Rules.parseExtern Rules.defaultCase Rules.conditionCase Rules.nextCase Rules.parseMatch Rules.parsePrefix Rules.field Rules.recordLiteral Rules.arrayLiteral Rules.group Rules.unary Rules.operand Rules.call Rules.postfix Rules.cast Rules.binary Rules.infixes Rules.parseExpr Rules.readers
     Parse.begin Parse.synchronizeRoot Parse.merged Parse.parseRoots Parse.parse Parse.recover Parse.parseRootsCollect Parse.parseCollect
-    Spelling.spellingOffset Spelling.spellingStart Spelling.wellFormed Shape.wordOf Shape.word Shape.map₁ Shape.map₂ Shape.map₃ Shape.map₄ Shape.map₅ Shape.andThen Shape.decoded Shape.chain Shape.number Shape.token Shape.run Shape.resolve Shape.both Shape.items Shape.from Shape.listAt Shape.w Shape.wordIn Shape.paramIn Shape.fieldIn Shape.words Shape.params Shape.shapes Shape.fields Shape.caseIn Shape.cases Shape.fnIn Shape.fns Shape.typeShape Shape.nodeShape Shape.lookup Shape.tabulate Shape.typeIn Shape.typeShapeAt Shape.nodeIn Shape.nodeShapeAt Shape.shapesOf Shape.shapeOf
+    Spelling.spellingOffset Spelling.spellingStart Spelling.wellFormed Shape.wordOf Shape.word Lists.map₁ Lists.map₂ Lists.map₃ Lists.map₄ Lists.map₅ Lists.andThen Lists.decoded Lists.chain Lists.number Lists.token Lists.run Lists.resolve Lists.both Lists.items Lists.from Lists.listAt Shape.w Shape.wordIn Shape.paramIn Shape.fieldIn Shape.words Shape.params Shape.shapes Shape.fields Shape.caseIn Shape.cases Shape.fnIn Shape.fns Shape.typeShape Shape.nodeShape Tabulate.lookup Tabulate.tabulate Shape.typeIn Shape.typeShapeAt Shape.nodeIn Shape.nodeShapeAt Shape.shapesOf Shape.shapeOf
     Law.listed Law.nodeIn Law.typeIn Law.fieldIn Law.paramIn Law.caseIn Law.fnIn Law.childrenOf Law.innerOf Law.same Law.times Law.allOf Law.occurrences Law.argumentsOf Law.allArguments Law.resynchronisings Parents.isAmong Parents.parentFrom Parents.parentOf numbersTo namedIn
     Strike.keep Strike.noDocBeforeImport Strike.notesOf Strike.strike
 computedFrom script = record {

@@ -8,11 +8,13 @@ use Rattle.lex.specs.Bytes as Bytes
 use Rattle.lex.specs.Spelling as Spelling
 use Rattle.lex.specs.Kind.{kMinus, kBraketLeft, kIdent}
 use Rattle.rules.specs.Shape as Shape
+use Rattle.ast.specs.Lists as Lists
+use Rattle.ast.specs.Tabulate as Tabulate
 use Rattle.rules.specs.Law as Law
 use Rattle.rules.specs.Law.{Child, aNode, aType}
 use Rattle.rules.specs.Parents as Parents
-use Rattle.rules.specs.declared.Node.{Node}
-use Rattle.rules.specs.declared.Node.the-variants as N
+use Rattle.ast.specs.declared.Node.{Node}
+use Rattle.ast.specs.declared.Node.the-variants as N
 use Rattle.rules.proofs.Compute.{bytes, computed, computedFrom}
 
 -- roots and children, and the parent of each node, in collecting mode
@@ -61,7 +63,7 @@ unfoldable pub turned : List Node → List ℕ → ℕ
 unfolding
     bytes flatten
     Bytes.or Bytes.between Spelling.spellingOffset Spelling.spellingStart
-    Spelling.wellFormed Shape.wordOf Shape.word Shape.map₁ Shape.map₂ Shape.map₃ Shape.map₄ Shape.map₅ Shape.andThen Shape.decoded Shape.chain Shape.number Shape.token Shape.run Shape.resolve Shape.both Shape.items Shape.from Shape.listAt Shape.w Shape.wordIn Shape.paramIn Shape.fieldIn Shape.words Shape.params Shape.shapes Shape.fields Shape.caseIn Shape.cases Shape.fnIn Shape.fns Shape.typeShape Shape.nodeShape Shape.lookup Shape.tabulate Shape.typeIn Shape.typeShapeAt Shape.nodeIn Shape.nodeShapeAt Shape.shapesOf Shape.shapeOf
+    Spelling.wellFormed Shape.wordOf Shape.word Lists.map₁ Lists.map₂ Lists.map₃ Lists.map₄ Lists.map₅ Lists.andThen Lists.decoded Lists.chain Lists.number Lists.token Lists.run Lists.resolve Lists.both Lists.items Lists.from Lists.listAt Shape.w Shape.wordIn Shape.paramIn Shape.fieldIn Shape.words Shape.params Shape.shapes Shape.fields Shape.caseIn Shape.cases Shape.fnIn Shape.fns Shape.typeShape Shape.nodeShape Tabulate.lookup Tabulate.tabulate Shape.typeIn Shape.typeShapeAt Shape.nodeIn Shape.nodeShapeAt Shape.shapesOf Shape.shapeOf
     Law.listed Law.nodeIn Law.typeIn Law.fieldIn Law.paramIn Law.caseIn Law.fnIn Law.childrenOf Law.innerOf Law.same Law.times Law.allOf Law.occurrences
     Parents.allBelow Parents.isSome Parents.sound Parents.onceEach Parents.turnedAway
 turned nodes roots = Parents.turnedAway (bytes "a") (record { arena = record { nodes = nodes; types = []; cells = 0 ∷ 0 ∷ []; values = 0 }; roots = roots })

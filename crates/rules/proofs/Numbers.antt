@@ -13,7 +13,7 @@ use Rattle.rules.specs.Combinators as R
 use Rattle.rules.specs.Combinators.{ControlFlow, continue}
 use Rattle.rules.specs.Rules.{readers, maxLevels}
 use Rattle.rules.specs.Parse.{Reading, read, ended, begin, synchronizeRoot, Gathered, merged, recover, parse, parseRoots, parseCollect, parseRootsCollect}
-use Rattle.rules.specs.declared.NodeId.{NodeId}
+use Rattle.ast.specs.declared.NodeId.{NodeId}
 use Rattle.lex.specs.declared.tok.Token.{Token}
 use Rattle.rules.proofs.Counting.Whole.{ended≢read}
 use Rattle.rules.proofs.Preserves as Pr

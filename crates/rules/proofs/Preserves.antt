@@ -15,11 +15,11 @@ use Rattle.rules.specs.Combinators as R
 use Rattle.rules.specs.Combinators.{Rule, current, rest, Readers, ControlFlow, continue, break}
 use Rattle.rules.specs.Rules as Q
 use Rattle.rules.specs.Rules.{Cases}
-use Rattle.rules.specs.declared.Run.{Run}
-use Rattle.rules.specs.declared.NodeId.{NodeId}
-use Rattle.rules.specs.declared.Node.{Node}
-use Rattle.rules.specs.declared.Node.the-variants as N
-use Rattle.rules.specs.declared.TypeExpr.{TypeExpr}
+use Rattle.ast.specs.declared.Run.{Run}
+use Rattle.ast.specs.declared.NodeId.{NodeId}
+use Rattle.ast.specs.declared.Node.{Node}
+use Rattle.ast.specs.declared.Node.the-variants as N
+use Rattle.ast.specs.declared.TypeExpr.{TypeExpr}
 use Rattle.rules.proofs.Results.{Ends, holds, fails}
 
 -- a property of the tokens left and of what is made, and the steps that preserve it; docs that wait and notes play no part

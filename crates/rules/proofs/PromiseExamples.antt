@@ -5,11 +5,10 @@ use Prim.Native.Nat.{ℕ, _+_, _*_}
 use Prim.Native.String.{String}
 use lib.ListN.{replicate}
 use Rattle.lex.specs.Bytes.{or}
-use Rattle.rules.specs.Combinators.{tokenCells, runCells}
-use Rattle.rules.specs.Layout.{nodeCells, typeCells, diagnosticCells}
+use Rattle.ast.specs.Layout.{tokenCells, runCells, nodeCells, typeCells, diagnosticCells}
 use Rattle.rules.specs.Promise.{Arrays, Outcome, tooShort, zeroed, holding, outcome, promised}
-use Rattle.rules.specs.declared.Parsed.{Parsed}
-use Rattle.rules.specs.declared.Parsed.the-variants as P
+use Rattle.ast.specs.declared.Parsed.{Parsed}
+use Rattle.ast.specs.declared.Parsed.the-variants as P
 use Rattle.rules.proofs.Compute.{bytes, computed}
 
 -- arrays as a script of `n` bytes needs them, the nodes `more` cells longer, every cell the same

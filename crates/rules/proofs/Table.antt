@@ -7,13 +7,13 @@ use Rattle.lex.specs.Kind.{kPlus, kMinus, kCurlyLeft, kNotEqual, kI, kIdent, kD
 use Rattle.lex.specs.declared.diagnostic.Diagnostic.{Diagnostic}
 use Rattle.lex.specs.declared.tok.Token.{Token}
 use Rattle.rules.specs.Parse.{Reading, read, ended}
-use Rattle.rules.specs.declared.Run.{Run}
-use Rattle.rules.specs.declared.NodeId.{NodeId}
-use Rattle.rules.specs.declared.TypeExprId.{TypeExprId}
-use Rattle.rules.specs.declared.Node.{Node}
-use Rattle.rules.specs.declared.Node.the-variants.{Atom, Ident, Bin, Unary, Let, Match, Call, Field, Cast}
-use Rattle.rules.specs.declared.TypeExpr.{TypeExpr}
-use Rattle.rules.specs.declared.TypeExpr.the-variants as T
+use Rattle.ast.specs.declared.Run.{Run}
+use Rattle.ast.specs.declared.NodeId.{NodeId}
+use Rattle.ast.specs.declared.TypeExprId.{TypeExprId}
+use Rattle.ast.specs.declared.Node.{Node}
+use Rattle.ast.specs.declared.Node.the-variants.{Atom, Ident, Bin, Unary, Let, Match, Call, Field, Cast}
+use Rattle.ast.specs.declared.TypeExpr.{TypeExpr}
+use Rattle.ast.specs.declared.TypeExpr.the-variants as T
 use Rattle.rules.proofs.Compute.{computed}
 
 abbrev strict : String → Reading

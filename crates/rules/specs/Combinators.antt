@@ -9,11 +9,12 @@ use Rattle.lex.specs.declared.diagnostic.Diagnostic.{Diagnostic}
 use Rattle.lex.specs.declared.tok.Token.{Token}
 use Rattle.lex.specs.Errors.{eExpectedToken, eExpectedIdentifier}
 use Rattle.rules.specs.Tree.{Arena, State, Result, ok, err}
-use Rattle.rules.specs.declared.Run.{Run}
-use Rattle.rules.specs.declared.NodeId.{NodeId}
-use Rattle.rules.specs.declared.TypeExprId.{TypeExprId}
-use Rattle.rules.specs.declared.Node.{Node}
-use Rattle.rules.specs.declared.TypeExpr.{TypeExpr}
+use Rattle.ast.specs.Layout.{tokenCells}
+use Rattle.ast.specs.declared.Run.{Run}
+use Rattle.ast.specs.declared.NodeId.{NodeId}
+use Rattle.ast.specs.declared.TypeExprId.{TypeExprId}
+use Rattle.ast.specs.declared.Node.{Node}
+use Rattle.ast.specs.declared.TypeExpr.{TypeExpr}
 
 abbrev pub Rule : Type 0 → Type 0
 Rule A = State → Result A
@@ -113,12 +114,6 @@ pushType t = λ s. let m = s .arena in
 unfoldable pub allocSlice : List (List ℕ) → Rule Run
 allocSlice xs = λ s. let m = s .arena in
     ok (record { start = length (m .cells); len = length xs }) (withArena (record { nodes = m .nodes; types = m .types; cells = m .cells ++ flatten xs; values = m .values }) s)
-
-unfoldable pub tokenCells : Token → List ℕ
-tokenCells t = t .kind ∷ t .start ∷ t .len ∷ []
-
-unfoldable pub runCells : Run → List ℕ
-runCells r = r .start ∷ r .len ∷ []
 
 -- ---- loops
 

@@ -11,12 +11,12 @@ use Rattle.lex.specs.Lex.{Occurrence}
 use Rattle.lex.specs.declared.diagnostic.Diagnostic.{Diagnostic}
 use Rattle.rules.specs.Tree.{Arena, Tree, ok, err}
 use Rattle.rules.specs.Parse.{read, begin, parse, parseCollect, parseRootsCollect}
-use Rattle.rules.specs.Shape.{map₁, map₂, andThen, Decoder, decoded, chain, number, token, run, listAt}
-use Rattle.rules.specs.declared.Run.{Run}
-use Rattle.rules.specs.declared.Node.{Node}
-use Rattle.rules.specs.declared.Node.the-variants as N
-use Rattle.rules.specs.declared.TypeExpr.{TypeExpr}
-use Rattle.rules.specs.declared.TypeExpr.the-variants as T
+use Rattle.ast.specs.Lists.{map₁, map₂, andThen, Decoder, decoded, chain, number, token, run, listAt}
+use Rattle.ast.specs.declared.Run.{Run}
+use Rattle.ast.specs.declared.Node.{Node}
+use Rattle.ast.specs.declared.Node.the-variants as N
+use Rattle.ast.specs.declared.TypeExpr.{TypeExpr}
+use Rattle.ast.specs.declared.TypeExpr.the-variants as T
 
 -- ---- children
 

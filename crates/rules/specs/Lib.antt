@@ -3,8 +3,6 @@ pub mod Tree
 pub mod Combinators
 pub mod Rules
 pub mod Parse
-pub mod Schema
-pub mod Layout
 pub mod Promise
 pub mod Shape
 pub mod Strike

@@ -11,16 +11,16 @@ use Rattle.lex.specs.Kind.{kEof, kImport, kExtern, kLet, kFn, kMatch}
 use Rattle.lex.specs.Lex.{cut, tokensOf, faultsOf}
 use Rattle.rules.specs.Tree.{Arena, Tree, ok, err}
 use Rattle.rules.specs.Combinators.{current, choose}
-use Rattle.rules.specs.Schema as S
-use Rattle.rules.specs.Schema.{Field, Members, memberSchema}
+use Rattle.ast.specs.Schema as S
+use Rattle.ast.specs.Schema.{Field, Members, memberSchema}
 use Rattle.rules.specs.Parse.{read, begin, parse, parseRoots}
-use Rattle.rules.specs.declared.Run.{Run}
-use Rattle.rules.specs.declared.NodeId.{NodeId}
-use Rattle.rules.specs.declared.TypeExprId.{TypeExprId}
-use Rattle.rules.specs.declared.Node.{Node}
-use Rattle.rules.specs.declared.Node.the-variants as N
-use Rattle.rules.specs.declared.TypeExpr.{TypeExpr}
-use Rattle.rules.specs.declared.TypeExpr.the-variants as T
+use Rattle.ast.specs.declared.Run.{Run}
+use Rattle.ast.specs.declared.NodeId.{NodeId}
+use Rattle.ast.specs.declared.TypeExprId.{TypeExprId}
+use Rattle.ast.specs.declared.Node.{Node}
+use Rattle.ast.specs.declared.Node.the-variants as N
+use Rattle.ast.specs.declared.TypeExpr.{TypeExpr}
+use Rattle.ast.specs.declared.TypeExpr.the-variants as T
 
 -- what stands before the second tree: node and type records, list cells, value numbers, and bytes of the script
 pub record Offsets : Type 0 where

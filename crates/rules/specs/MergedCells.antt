@@ -2,11 +2,11 @@
 use mathlib.Core.List.{List, [], _∷_, _++_, map, flatten}
 use Prim.Native.Nat.{ℕ, zero, suc, _+_, _-_}
 use lib.ListN.{length, getD, take, drop, replicate}
-use Rattle.rules.specs.Layout.{nodeWidth, typeWidth}
-use Rattle.rules.specs.Schema as S
-use Rattle.rules.specs.Schema.{Field, cellCount, nodeSchema, typeSchema}
+use Rattle.ast.specs.Layout.{nodeWidth, typeWidth}
+use Rattle.ast.specs.Schema as S
+use Rattle.ast.specs.Schema.{Field, cellCount, nodeSchema, typeSchema}
 use Rattle.rules.specs.Merge.{Offsets, Role, fixed, movedBy, tokenRoles, typedRoles, fieldRoles, caseRoles, fnRoles, rolesOfFields, Held, split, cellAt, heldByFns}
-use Rattle.rules.specs.declared.Run.{Run}
+use Rattle.ast.specs.declared.Run.{Run}
 
 -- ---- records
 

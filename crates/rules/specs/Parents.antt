@@ -6,10 +6,10 @@ use Prim.Native.Nat.{ℕ, zero, suc}
 use lib.Dec.{eqb, leb}
 use lib.ListN.{length, getD, take, drop}
 use Rattle.rules.specs.Tree.{Arena, Tree}
-use Rattle.rules.specs.Layout.{nodeWidth}
+use Rattle.ast.specs.Layout.{nodeWidth}
 use Rattle.rules.specs.Shape.{typeShapeAt, nodeShapeAt, shapeOf}
 use Rattle.rules.specs.Law.{Child, aNode, times, childrenOf, occurrences}
-use Rattle.rules.specs.declared.Node.{Node}
+use Rattle.ast.specs.declared.Node.{Node}
 
 -- it is one of these
 unfoldable pub isAmong : Child → Option (List Child) → Bool

@@ -12,7 +12,7 @@ use Rattle.lex.specs.Errors.{eTooDeep}
 use Rattle.rules.specs.Tree.{emptyArena, State, Result, ok, err, Tree}
 use Rattle.rules.specs.Combinators.{Rule, _>>=_, _>>_, pure, advance, byKind, ifKind, choose, withDocs, ControlFlow, continue, break, loop}
 use Rattle.rules.specs.Rules.{readers, maxLevels}
-use Rattle.rules.specs.declared.NodeId.{NodeId}
+use Rattle.ast.specs.declared.NodeId.{NodeId}
 
 -- how a reading ends: with a tree and the errors gathered, or at an error
 pub data Reading : Type 0 where

@@ -9,12 +9,12 @@ use Rattle.lex.specs.Bytes.{or}
 use Rattle.lex.specs.declared.diagnostic.Diagnostic.{Diagnostic}
 use Rattle.rules.specs.Tree.{Tree}
 use Rattle.rules.specs.Parse.{Reading, read, ended}
-use Rattle.rules.specs.Layout.{nodeWidth, typeWidth, diagnosticWidth, zeros, padded}
-use Rattle.rules.specs.Layout.{nodeCells, typeCells, diagnosticCells}
+use Rattle.ast.specs.Layout.{nodeWidth, typeWidth, diagnosticWidth, zeros, padded}
+use Rattle.ast.specs.Layout.{nodeCells, typeCells, diagnosticCells}
 use Rattle.lex.specs.Refusals.{rTooLong, rTooShort}
-use Rattle.rules.specs.declared.Counts.{Counts}
-use Rattle.rules.specs.declared.Parsed.{Parsed}
-use Rattle.rules.specs.declared.Parsed.the-variants as P
+use Rattle.ast.specs.declared.Counts.{Counts}
+use Rattle.ast.specs.declared.Parsed.{Parsed}
+use Rattle.ast.specs.declared.Parsed.the-variants as P
 
 -- the five arrays
 pub record Arrays : Type 0 where

@@ -14,13 +14,14 @@ use Rattle.lex.specs.Errors.{eImportPathNotAString, eExternWithoutAString, eNes
 use Rattle.lex.specs.Errors.{eMatchWithoutADefault, eExpectedExpression, eEmptyForeign}
 use Rattle.lex.specs.Errors.{eEmptyOption, eEmptyArray, eBadType}
 use Rattle.rules.specs.Tree.{ok, err}
-use Rattle.rules.specs.Combinators.{Rule, _>>=_, _>>_, pure, cur, advance, struck, byKind, ifKind, choose, atToken, fail, expect, expectIdent, rejectKind, pushNode, pushNodeAnd, pushType, allocSlice, tokenCells, runCells, ControlFlow, continue, break, loop, members, listUntil, collectDocs, takeDocs, Readers}
-use Rattle.rules.specs.declared.Run.{Run}
-use Rattle.rules.specs.declared.NodeId.{NodeId}
-use Rattle.rules.specs.declared.TypeExprId.{TypeExprId}
-use Rattle.rules.specs.declared.Node.{Node}
-use Rattle.rules.specs.declared.Node.the-variants as N
-use Rattle.rules.specs.declared.TypeExpr.the-variants as T
+use Rattle.rules.specs.Combinators.{Rule, _>>=_, _>>_, pure, cur, advance, struck, byKind, ifKind, choose, atToken, fail, expect, expectIdent, rejectKind, pushNode, pushNodeAnd, pushType, allocSlice, ControlFlow, continue, break, loop, members, listUntil, collectDocs, takeDocs, Readers}
+use Rattle.ast.specs.Layout.{tokenCells, runCells}
+use Rattle.ast.specs.declared.Run.{Run}
+use Rattle.ast.specs.declared.NodeId.{NodeId}
+use Rattle.ast.specs.declared.TypeExprId.{TypeExprId}
+use Rattle.ast.specs.declared.Node.{Node}
+use Rattle.ast.specs.declared.Node.the-variants as N
+use Rattle.ast.specs.declared.TypeExpr.the-variants as T
 
 -- ---- powers
 

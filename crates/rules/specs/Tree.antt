@@ -4,8 +4,8 @@ use mathlib.Core.List.{List, []}
 use Prim.Native.Nat.{ℕ}
 use Rattle.lex.specs.declared.diagnostic.Diagnostic.{Diagnostic}
 use Rattle.lex.specs.declared.tok.Token.{Token}
-use Rattle.rules.specs.declared.Node.{Node}
-use Rattle.rules.specs.declared.TypeExpr.{TypeExpr}
+use Rattle.ast.specs.declared.Node.{Node}
+use Rattle.ast.specs.declared.TypeExpr.{TypeExpr}
 
 -- what a reading makes: node and type records, the cells of the lists that they name by runs, and how many value numbers are given out
 pub record Arena : Type 0 where

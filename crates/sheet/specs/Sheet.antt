@@ -8,7 +8,7 @@ use lib.Dec.{leb, ltb, eqb}
 use lib.ListN.{length, getD, take, drop, replicate}
 use Rattle.lex.specs.declared.diagnostic.Diagnostic.{Diagnostic}
 use Rattle.lex.specs.Answer.{maxBytes, Answer, refused, answer}
-use Rattle.rules.specs.Layout.{diagnosticWidth}
+use Rattle.ast.specs.Layout.{diagnosticWidth}
 use Rattle.lex.specs.Refusals.{rTooLong, rNoWords, rSheetTooShort}
 use Rattle.positions.specs.Position.{placeAt}
 use Rattle.positions.specs.declared.Place.{Place}

@@ -1,12 +1,12 @@
 // The correction sheet of a paper: each error by line and column, in words.
-use ast::layout::cell;
+use ast::DIAGNOSTIC_WIDTH;
+use ast::decode::cell;
 use lex::Diagnostic;
 use lex::MAX_BYTES;
 use lex::Refusal;
 use positions::Place;
 use positions::Position;
 use positions::advance;
-use rules::DIAGNOSTIC_WIDTH;
 use text::Writing;
 use text::write_byte;
 use text::write_number;

@@ -1,8 +1,8 @@
 // Lists arrays that hold trees of the fixed list, and the answers without a tree; what it writes is
 // the Rust's text.
+use ast::Counts;
+use ast::Parsed;
 use lex::Diagnostic;
-use rules::Counts;
-use rules::Parsed;
 
 fn sign() {
     let nodes = [

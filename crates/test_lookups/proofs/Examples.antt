@@ -11,12 +11,13 @@ use Rattle.lex.specs.Bytes.{between}
 use Rattle.lex.specs.Lex.{leadingSpace}
 use Rattle.lex.specs.Kind.{keywords, fixedSpellings, fixedSpelling}
 use Rattle.lex.specs.Spelling.{spellingOffset, spellingStart, wellFormed, asStrLength}
-use Rattle.rules.specs.Layout.{padded}
+use Rattle.ast.specs.Layout.{padded}
 use Rattle.rules.specs.Shape as R
-use Rattle.rules.specs.Shape.{andThen, lookup, tabulate, map₁, map₂, map₃, map₄, map₅}
-use Rattle.rules.specs.declared.Counts.{Counts}
+use Rattle.ast.specs.Lists as Lists
+use Rattle.ast.specs.Lists.{andThen, map₁, map₂, map₃, map₄, map₅}
+use Rattle.ast.specs.Tabulate.{lookup, tabulate, rows, entriesBelow, entryAt}
+use Rattle.ast.specs.declared.Counts.{Counts}
 use Rattle.ast.specs.Decode.{nodeOf, nodesByKind, nodeAt, typeOf, typesByKind, typeAt}
-use Rattle.ast.specs.Tabulate.{rows, entriesBelow, entryAt}
 use Rattle.ast.specs.Answer.{unless, lent, refusal}
 use Rattle.lookups.specs.Lookup.{unlessMalformed, recordAsked, tokenStart, orElse, matchStart, startOf, nodeStart, spelled, wellFormedToken, typeTokenOf, typeToken}
 use Rattle.positions.specs.Span.{spanOf, tokenSpan}
@@ -54,7 +55,7 @@ unfolding placeAt placeOf feeds since columnsOf between
 place = tt
 
 unfoldable comparison : Unit {0}
-unfolding records computed compare compareShapes refusals rootShapes nodesBelow typesBelow R.shapesOf R.nodeShape R.typeShape R.w R.word R.wordOf R.words R.wordIn R.params R.paramIn R.shapes R.fields R.fieldIn R.cases R.caseIn R.fns R.fnIn R.listAt R.items R.from R.chain R.resolve R.both R.number R.token R.run R.decoded map₁ map₂ map₃ map₄ map₅
+unfolding records computed compare compareShapes refusals rootShapes nodesBelow typesBelow R.shapesOf R.nodeShape R.typeShape R.w R.word R.wordOf R.words R.wordIn R.params R.paramIn R.shapes R.fields R.fieldIn R.cases R.caseIn R.fns R.fnIn Lists.listAt Lists.items Lists.from Lists.chain Lists.resolve Lists.both Lists.number Lists.token Lists.run Lists.decoded map₁ map₂ map₃ map₄ map₅
 comparison = tt
 
 -- []

@@ -1,6 +1,9 @@
 // Lookups and comparison on arrays made by hand, whole and damaged. The cases come from standard
 // input, as tools/cases writes them: a name, which lookup, what is asked about, what is lent. Each
 // gives a line: its name and the answer. proofs/Examples.antt has what the definitions say.
+use ast::Counts;
+use ast::NodeId;
+use ast::TypeExprId;
 use compare::Comparison;
 use compare::same_shape;
 use console::frames::Frame;
@@ -17,9 +20,6 @@ use positions::Position;
 use positions::Span;
 use positions::SpanRead;
 use positions::line_column;
-use rules::Counts;
-use rules::NodeId;
-use rules::TypeExprId;
 ghost use Rattle.io.specs.Counts.{Counts as Counted};
 
 // One more than a script may have.

@@ -5,13 +5,12 @@ use mathlib.Core.List.{[], _∷_, flatten}
 use Prim.Native.Nat.{ℕ}
 use lib.ListN.{replicate}
 use Rattle.lex.specs.Bytes.{or}
-use Rattle.rules.specs.Combinators.{tokenCells, runCells}
-use Rattle.rules.specs.Layout.{padded, nodeCells, typeCells, diagnosticCells}
+use Rattle.ast.specs.Layout.{tokenCells, runCells, padded, nodeCells, typeCells, diagnosticCells}
 use Rattle.rules.specs.Rules.{stageOne}
 use Rattle.rules.specs.Parse.{parse, parseCollect}
 use Rattle.rules.specs.Promise.{Arrays, Outcome, tooShort, zeroed, holding, outcome, promised}
-use Rattle.rules.specs.declared.Parsed.{Parsed}
-use Rattle.rules.specs.declared.Parsed.the-variants as P
+use Rattle.ast.specs.declared.Parsed.{Parsed}
+use Rattle.ast.specs.declared.Parsed.the-variants as P
 use Rattle.rules.proofs.Compute.{computedFrom}
 
 abbrev tree : ℕ → ℕ → ℕ → ℕ → ℕ → ℕ → Parsed

@@ -2,12 +2,12 @@
 // rubbish. The cases come from standard input, as tools/cases writes them: a name, the mode, the
 // lengths of the five arrays, the script. Printed are the answer and every cell of the arrays.
 // proofs/Examples.antt has what the definitions say.
+use ast::Parsed;
 use console::frames::Frame;
 use console::frames::read_script;
 use console::frames::read_up_to;
 use console::output::write;
 use console::output::write_number;
-use rules::Parsed;
 ghost use Prim.Native.Nat.{_≤_};
 ghost use lib.ListN.{length};
 

@@ -2,6 +2,10 @@
 // of strict mode, the start of each node and the token of each type where strict mode accepts, and
 // the listing of collecting mode. A script is a frame of at most 960 bytes. What is framed
 // otherwise ends the program.
+use ast::Counts;
+use ast::NodeId;
+use ast::Parsed;
+use ast::TypeExprId;
 use console::frames::Frame;
 use console::output::write;
 use console::output::write_number;
@@ -9,10 +13,6 @@ use lookups::Start;
 use lookups::TypeToken;
 use lookups::node_start;
 use lookups::type_token;
-use rules::Counts;
-use rules::NodeId;
-use rules::Parsed;
-use rules::TypeExprId;
 
 fn write_refused(n: u32) {
     write(b"refused ");

@@ -17,11 +17,11 @@ use Rattle.rules.specs.Combinators as R
 use Rattle.rules.specs.Combinators.{Rule, current, rest, Readers, ControlFlow, continue, break}
 use Rattle.rules.specs.Rules as Q
 use Rattle.rules.specs.Rules.{Cases, lastOf}
-use Rattle.rules.specs.declared.Run.{Run}
-use Rattle.rules.specs.declared.NodeId.{NodeId}
-use Rattle.rules.specs.declared.Node.{Node}
-use Rattle.rules.specs.declared.Node.the-variants as N
-use Rattle.rules.specs.declared.TypeExpr.{TypeExpr}
+use Rattle.ast.specs.declared.Run.{Run}
+use Rattle.ast.specs.declared.NodeId.{NodeId}
+use Rattle.ast.specs.declared.Node.{Node}
+use Rattle.ast.specs.declared.Node.the-variants as N
+use Rattle.ast.specs.declared.TypeExpr.{TypeExpr}
 use Rattle.text.proofs.EmitLaws.{and-left, and-right}
 use Rattle.words.specs.Words.{isKind, isScriptError, isWanted, isSeen, hasWords}
 use Rattle.words.proofs.Parts.{wanted-none, seen-kind}

@@ -19,12 +19,12 @@ use Rattle.rules.specs.Combinators as R
 use Rattle.rules.specs.Combinators.{Rule, withDocs, ControlFlow, continue, break}
 use Rattle.rules.specs.Rules.{readers, maxLevels}
 use Rattle.rules.specs.Parse.{Reading, read, ended, begin, synchronizeRoot, Gathered, merged, parse, parseRoots, recover, parseCollect, parseRootsCollect}
-use Rattle.rules.specs.Layout.{diagnosticCells, zeros}
+use Rattle.ast.specs.Layout.{diagnosticCells, zeros}
 use Rattle.lex.specs.Answer.{maxBytes}
 use Rattle.rules.specs.Promise.{Arrays, Outcome, outcome, holding, tooShort, promised}
-use Rattle.rules.specs.declared.Counts.{Counts}
-use Rattle.rules.specs.declared.NodeId.{NodeId}
-use Rattle.rules.specs.declared.Parsed.the-variants as P
+use Rattle.ast.specs.declared.Counts.{Counts}
+use Rattle.ast.specs.declared.NodeId.{NodeId}
+use Rattle.ast.specs.declared.Parsed.the-variants as P
 use Rattle.rules.proofs.Counting.Whole.{ended≢read}
 use Rattle.text.specs.Emit.{plain}
 use Rattle.text.specs.Answer.{inFront}

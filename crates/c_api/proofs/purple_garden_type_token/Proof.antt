@@ -1,7 +1,7 @@
 -- `purple_garden_type_token` meets its contract.
 -- Assumes nothing.
 use mathlib.Core.Path.{_∙_, ap}
-use Rattle.rules.specs.Combinators.{tokenCells}
+use Rattle.ast.specs.Layout.{tokenCells}
 use Rattle.ast.specs.Answer.{lent}
 use Rattle.lookups.specs.Lookup.{typeToken}
 use Rattle.c_api.proofs.Answers.{answers-same}

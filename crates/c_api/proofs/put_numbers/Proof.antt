@@ -1,9 +1,9 @@
 -- `put_numbers` meets its contract.
 -- Assumes nothing.
 use mathlib.Core.Path.{sym, ap}
-use Rattle.rules.specs.Layout.{diagnosticCells}
+use Rattle.ast.specs.Layout.{diagnosticCells}
 use Rattle.rules.specs.Promise.{numbersOf}
-use Rattle.rules.specs.declared.Parsed.{Parsed}
+use Rattle.ast.specs.declared.Parsed.{Parsed}
 use Rattle.c_api.specs.Numbers.{written, numberCells}
 use borrow.Author.Needs.{needs}
 use Rattle.c_api.proofs.put_numbers.Statement.{statement}

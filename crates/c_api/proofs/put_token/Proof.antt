@@ -1,7 +1,7 @@
 -- `put_token` meets its contract.
 -- Assumes nothing.
 use mathlib.Core.Path.{sym, ap}
-use Rattle.rules.specs.Combinators.{tokenCells}
+use Rattle.ast.specs.Layout.{tokenCells}
 use Rattle.lookups.specs.Lookup.{typeTokenAnswer}
 use Rattle.c_api.specs.Numbers.{numberOf, stored}
 use Rattle.c_api.proofs.Answers.{answers}

@@ -1,7 +1,7 @@
 -- `lookups::inner_of` meets its contract.
 use mathlib.Core.Path.{sym, ap}
 use mathlib.Core.Option.{Option}
-use Rattle.rules.specs.declared.TypeExpr.{TypeExpr}
+use Rattle.ast.specs.declared.TypeExpr.{TypeExpr}
 use Rattle.lookups.specs.Descent.{innerOf}
 use Rattle.lookups.proofs.Descent.{type-is, type-is-none}
 use borrow.Author.Needs.{needs}

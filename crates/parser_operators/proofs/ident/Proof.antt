@@ -2,8 +2,7 @@
 use borrow.Author.Needs.{needs}
 use Rattle.parser_state.proofs.Steps.{read, enough}
 use mathlib.Core.Path.{refl}
-use Rattle.rules.specs.Combinators.{tokenCells}
-use Rattle.rules.specs.Layout.{nodeCells}
+use Rattle.ast.specs.Layout.{tokenCells, nodeCells}
 use Rattle.rules.specs.Rules.{ident}
 use Rattle.parser_operators.proofs.ident.Statement.{statement}
 use Rattle.parser_operators.proofs.ident.Tie as tie

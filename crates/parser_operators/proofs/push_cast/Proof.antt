@@ -1,8 +1,7 @@
 -- `parser_operators::push_cast` meets its contract.
 use borrow.Author.Needs.{needs}
 use mathlib.Core.Path.{refl}
-use Rattle.rules.specs.Combinators.{tokenCells}
-use Rattle.rules.specs.Layout.{nodeCells}
+use Rattle.ast.specs.Layout.{tokenCells, nodeCells}
 use Rattle.parser_operators.proofs.push_cast.Statement.{statement}
 use Rattle.parser_operators.proofs.push_cast.Tie as tie
 

@@ -2,8 +2,7 @@
 use borrow.Author.Needs.{needs}
 use mathlib.Core.Path.{sym, ap, _∙_}
 use mathlib.Core.List.{[], _∷_}
-use Rattle.rules.specs.Combinators.{tokenCells, runCells}
-use Rattle.rules.specs.Layout.{nodeCells}
+use Rattle.ast.specs.Layout.{tokenCells, runCells, nodeCells}
 use Rattle.parser_state.specs.Represents.{lowNode}
 use Rattle.parser_state.specs.declared.WideNode.{WideNode}
 use Rattle.parser_state.proofs.Cells.{two-cells}

@@ -1,8 +1,7 @@
 -- `parser_state::push_call` meets its contract.
 use borrow.Author.Needs.{needs}
 use mathlib.Core.Path.{refl}
-use Rattle.rules.specs.Combinators.{runCells}
-use Rattle.rules.specs.Layout.{nodeCells}
+use Rattle.ast.specs.Layout.{runCells, nodeCells}
 use Rattle.parser_state.proofs.push_call.Statement.{statement}
 use Rattle.parser_state.proofs.push_call.Tie as tie
 

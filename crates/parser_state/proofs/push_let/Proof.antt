@@ -2,8 +2,7 @@
 use borrow.Author.Needs.{needs}
 use mathlib.Core.Path.{sym}
 use mathlib.Core.List.{[], _∷_}
-use Rattle.rules.specs.Combinators.{tokenCells, runCells}
-use Rattle.rules.specs.Layout.{nodeCells}
+use Rattle.ast.specs.Layout.{tokenCells, runCells, nodeCells}
 use Rattle.parser_state.proofs.Cells.{two-cells}
 use Rattle.parser_state.proofs.push_let.Statement.{statement}
 use Rattle.parser_state.proofs.push_let.Tie as tie

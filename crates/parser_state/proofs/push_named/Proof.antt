@@ -1,7 +1,7 @@
 -- `parser_state::push_named` meets its contract.
 use borrow.Author.Needs.{needs}
 use mathlib.Core.List.{[], _∷_}
-use Rattle.rules.specs.Combinators.{tokenCells}
+use Rattle.ast.specs.Layout.{tokenCells}
 use Rattle.parser_state.proofs.push_named.Statement.{statement}
 use Rattle.parser_state.proofs.push_named.Tie as tie
 use Rattle.parser_state.proofs.Steps.{push-as}

@@ -5,7 +5,7 @@ use mathlib.Core.List.{append-nil}
 use native.Mathlib.Omega.{arith}
 use Rattle.parser_state.specs.declared.Used.{Used}
 use borrow.Author.Tests.{not-true, not-false}
-use Rattle.rules.specs.Layout.{nodeCells}
+use Rattle.ast.specs.Layout.{nodeCells}
 use Rattle.parser_state.proofs.Cells.{room, no-room, node-making}
 use Rattle.parser_state.proofs.push_node.Statement.{statement}
 use Rattle.parser_state.proofs.push_node.Tie as tie

@@ -2,7 +2,7 @@
 use borrow.Author.Needs.{needs}
 use mathlib.Core.Path.{sym, _∙_}
 use mathlib.Core.List.{[], _∷_}
-use Rattle.rules.specs.Combinators.{tokenCells}
+use Rattle.ast.specs.Layout.{tokenCells}
 use Rattle.parser_state.proofs.Cells.{two-cells}
 use Rattle.parser_state.proofs.push_token_node.Statement.{statement}
 use Rattle.parser_state.proofs.push_token_node.Tie as tie

@@ -2,9 +2,8 @@
 use borrow.Author.Needs.{needs}
 use mathlib.Core.Path.{sym, ap, _∙_}
 use mathlib.Core.List.{[], _∷_}
-use Rattle.rules.specs.Layout.{typeCells}
-use Rattle.rules.specs.Combinators.{tokenCells, runCells}
-use Rattle.rules.specs.declared.TypeExpr.{TypeExpr}
+use Rattle.ast.specs.Layout.{typeCells, tokenCells, runCells}
+use Rattle.ast.specs.declared.TypeExpr.{TypeExpr}
 use Rattle.parser_state.specs.Represents.{lowType}
 use Rattle.parser_state.proofs.Cells.{two-cells}
 use Rattle.parser_state.proofs.type_cells.Statement.{statement}

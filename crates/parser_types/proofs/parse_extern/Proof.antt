@@ -1,6 +1,6 @@
 -- `parser_types::parse_extern` meets its contract.
 use borrow.Author.Needs.{needs}
-use Rattle.rules.specs.declared.Node.the-variants as N
+use Rattle.ast.specs.declared.Node.the-variants as N
 use Rattle.parser_state.specs.Represents.{lowToken}
 use Rattle.parser_state.specs.declared.Used.{Used}
 use Rattle.parser_state.proofs.Steps.{then, seq, read, enough}

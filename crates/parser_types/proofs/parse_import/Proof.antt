@@ -3,8 +3,8 @@ use borrow.Author.Needs.{needs}
 use Rattle.parser_state.specs.declared.Used.{Used}
 use Rattle.parser_state.proofs.Steps.{read, seq, reassoc, lists-after, enough}
 use Rattle.rules.specs.Rules.{parseImport}
-use Rattle.rules.specs.Combinators.{allocSlice, tokenCells, runCells}
-use Rattle.rules.specs.Layout.{nodeCells}
+use Rattle.rules.specs.Combinators.{allocSlice}
+use Rattle.ast.specs.Layout.{tokenCells, runCells, nodeCells}
 use mathlib.Core.Path.{refl, ap}
 use native.Mathlib.Omega.{arith}
 use Rattle.parser_types.proofs.parse_import.Statement.{statement}

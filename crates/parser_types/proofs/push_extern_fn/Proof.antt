@@ -1,7 +1,7 @@
 -- `parser_types::push_extern_fn` meets its contract.
 use borrow.Author.Needs.{needs}
 use mathlib.Core.List.{[], _∷_}
-use Rattle.rules.specs.Combinators.{tokenCells, runCells}
+use Rattle.ast.specs.Layout.{tokenCells, runCells}
 use Rattle.parser_state.proofs.Steps.{push-as}
 use Rattle.parser_state.proofs.Cells.{two-cells}
 use Rattle.parser_types.proofs.push_extern_fn.Statement.{statement}

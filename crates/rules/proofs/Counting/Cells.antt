@@ -14,17 +14,18 @@ use Rattle.lex.specs.declared.diagnostic.Diagnostic.{Diagnostic}
 use Rattle.lex.specs.declared.tok.Token.{Token}
 use Rattle.rules.specs.Tree.{Notes, State, Result, ok, err, Tree}
 use Rattle.rules.specs.Combinators as R
-use Rattle.rules.specs.Combinators.{Rule, current, Readers, ControlFlow, continue, break, tokenCells, runCells, withDocs}
+use Rattle.rules.specs.Combinators.{Rule, current, Readers, ControlFlow, continue, break, withDocs}
+use Rattle.ast.specs.Layout.{tokenCells, runCells}
 use Rattle.rules.specs.Rules as Q
 use Rattle.rules.specs.Rules.{Cases, readers, maxLevels}
 use Rattle.rules.specs.Parse.{Reading, read, ended, begin, parse, parseRoots, synchronizeRoot, Gathered, merged, recover, parseCollect, parseRootsCollect}
-use Rattle.rules.specs.declared.Run.{Run}
-use Rattle.rules.specs.declared.NodeId.{NodeId}
-use Rattle.rules.specs.declared.TypeExprId.{TypeExprId}
-use Rattle.rules.specs.declared.Node.{Node}
-use Rattle.rules.specs.declared.Node.the-variants as N
-use Rattle.rules.specs.declared.TypeExpr.{TypeExpr}
-use Rattle.rules.specs.declared.TypeExpr.the-variants as X
+use Rattle.ast.specs.declared.Run.{Run}
+use Rattle.ast.specs.declared.NodeId.{NodeId}
+use Rattle.ast.specs.declared.TypeExprId.{TypeExprId}
+use Rattle.ast.specs.declared.Node.{Node}
+use Rattle.ast.specs.declared.Node.the-variants as N
+use Rattle.ast.specs.declared.TypeExpr.{TypeExpr}
+use Rattle.ast.specs.declared.TypeExpr.the-variants as X
 use Rattle.rules.proofs.Unique.Grow.{none≢some}
 use Rattle.rules.proofs.Results.{not-kind, Ends, holds, fails, weaken, ended-ok, ifKind-else, ifKind-ok, table-ok, entry-else, entry-ok, other-ok, bind-ok, then-ok, pure-ok, cur-ok, fail-ok, rejectKind-ok, requireNoDocs-ok, flowValue, loop-ok}
 use Rattle.rules.proofs.Counting.Step.{WellEnded, not-empty, shorter}

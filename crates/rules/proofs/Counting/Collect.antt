@@ -17,7 +17,7 @@ use Rattle.rules.specs.Combinators as R
 use Rattle.rules.specs.Combinators.{current, withDocs, ControlFlow, continue}
 use Rattle.rules.specs.Rules.{readers, maxLevels}
 use Rattle.rules.specs.Parse.{Reading, read, ended, begin, synchronizeRoot, Gathered, merged, recover, parseCollect, parseRootsCollect}
-use Rattle.rules.specs.declared.NodeId.{NodeId}
+use Rattle.ast.specs.declared.NodeId.{NodeId}
 use Rattle.rules.proofs.Results.{not-kind, Ends, holds, fails, weaken, ifKind-else, table-ok, entry-ok, entry-else, other-ok, then-ok, pure-ok, Turned, again, out, loop-out}
 use Rattle.rules.proofs.Counting.Step.{not-empty, pending, Budget, budget, Accounted, Collected, start, less, forget, restart, onward, advance-counts}
 use Rattle.rules.proofs.Counting.Rules.{RootKind, anImport, aLet, aFn, anExtern, aMatch, readers-take, parsePrefix-ends}

@@ -14,12 +14,12 @@ use Rattle.rules.specs.Combinators as R
 use Rattle.rules.specs.Combinators.{Rule, current, Readers, ControlFlow, break}
 use Rattle.rules.specs.Rules as Q
 use Rattle.rules.specs.Rules.{Cases}
-use Rattle.rules.specs.declared.Run.{Run}
-use Rattle.rules.specs.declared.NodeId.{NodeId}
-use Rattle.rules.specs.declared.TypeExprId.{TypeExprId}
-use Rattle.rules.specs.declared.TypeExpr.{TypeExpr}
-use Rattle.rules.specs.declared.Node.the-variants as N
-use Rattle.rules.specs.declared.TypeExpr.the-variants as X
+use Rattle.ast.specs.declared.Run.{Run}
+use Rattle.ast.specs.declared.NodeId.{NodeId}
+use Rattle.ast.specs.declared.TypeExprId.{TypeExprId}
+use Rattle.ast.specs.declared.TypeExpr.{TypeExpr}
+use Rattle.ast.specs.declared.Node.the-variants as N
+use Rattle.ast.specs.declared.TypeExpr.the-variants as X
 use Rattle.rules.proofs.Unique.Grow.{none≢some}
 use Rattle.rules.proofs.Results.{Ends, holds, fails, weaken-both, ifKind-else, ifKind-ok, table-ok, entry-else, entry-ok, other-ok, bind-ok, then-ok, pure-ok, cur-ok, fail-ok, requireNoDocs-ok, loop-ok}
 use Rattle.rules.proofs.Counting.Step.{Budget, Accounted, Collected, Counts, less, forget, relax, renoted, spend, rebase, after-token, advance-counts, expect-at, expect-counts, expectIdent-counts, rejectKind-counts, struck-counts, pushNode-counts, pushType-counts, allocSlice-counts, members-counts, listUntil-counts, collectDocs-counts, takeDocs-counts}

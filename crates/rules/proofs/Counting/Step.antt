@@ -8,8 +8,8 @@ use Rattle.lex.specs.Kind.{kEof, kIdent, kDoc}
 use Rattle.lex.specs.declared.tok.Token.{Token}
 use Rattle.rules.specs.Tree.{Notes, State, Result, ok, err}
 use Rattle.rules.specs.Combinators.{Rule, current, rest, advance, struck, rejectKind, expect, expectIdent, withArena, withDocs, pushNodeAnd, pushType, allocSlice, members, listUntil, collectDocs, takeDocs}
-use Rattle.rules.specs.declared.Node.{Node}
-use Rattle.rules.specs.declared.TypeExpr.{TypeExpr}
+use Rattle.ast.specs.declared.Node.{Node}
+use Rattle.ast.specs.declared.TypeExpr.{TypeExpr}
 use Rattle.rules.proofs.Results.{not-kind, Ends, holds, fails, weaken, weaken-both, ended-ok, ifKind-else, ifKind-ok, bind-ok, then-ok, pure-ok, fail-ok, rejectKind-ok, loop-ok}
 
 -- ---- the account

@@ -9,13 +9,15 @@ use lib.ListN.{length, length-append}
 use native.Mathlib.Omega.{arith}
 use Rattle.rules.specs.Tree.{Arena}
 use Rattle.rules.specs.Shape as S
-use Rattle.rules.specs.Shape.{TypeShape, Shape, map₁, map₂, map₃, map₄, map₅, andThen, Decoder, number, token, run, resolve, both, items, from, listAt, lookup, tabulate, typeIn, nodeIn, typeShapeAt, nodeShapeAt, typeShape, nodeShape}
+use Rattle.rules.specs.Shape.{TypeShape, Shape, typeIn, nodeIn, typeShapeAt, nodeShapeAt, typeShape, nodeShape}
+use Rattle.ast.specs.Lists.{map₁, map₂, map₃, map₄, map₅, andThen, Decoder, number, token, run, resolve, both, items, from, listAt}
+use Rattle.ast.specs.Tabulate.{lookup, tabulate}
 use Rattle.rules.specs.Law.{nth}
-use Rattle.rules.specs.declared.Run.{Run}
-use Rattle.rules.specs.declared.Node.{Node}
-use Rattle.rules.specs.declared.Node.the-variants as N
-use Rattle.rules.specs.declared.TypeExpr.{TypeExpr}
-use Rattle.rules.specs.declared.TypeExpr.the-variants as X
+use Rattle.ast.specs.declared.Run.{Run}
+use Rattle.ast.specs.declared.Node.{Node}
+use Rattle.ast.specs.declared.Node.the-variants as N
+use Rattle.ast.specs.declared.TypeExpr.{TypeExpr}
+use Rattle.ast.specs.declared.TypeExpr.the-variants as X
 use Rattle.rules.proofs.Unique.Grow.{none≢some, env, look-end, table-length}
 use Rattle.rules.proofs.Unique.Step.{AllShaped}
 use Rattle.rules.proofs.Results.{not-kind}

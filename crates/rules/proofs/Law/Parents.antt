@@ -9,11 +9,11 @@ use lib.ListN.{length, length-append, getD, take, drop, take-append-drop, length
 use native.Mathlib.Nat.{suc-add}
 use native.Mathlib.Omega.{arith}
 use Rattle.rules.specs.Tree.{Arena, Tree}
-use Rattle.rules.specs.Shape.{map₁, map₂, andThen}
+use Rattle.ast.specs.Lists.{map₁, map₂, andThen}
 use Rattle.rules.specs.Law.{Child, aNode, childrenOf, innerOf, times, allOf, occurrences, nth, childrenAt, Below, Once}
-use Rattle.rules.specs.Layout.{nodeWidth}
+use Rattle.ast.specs.Layout.{nodeWidth}
 use Rattle.rules.specs.Parents.{isAmong, parentFrom, parentOf, wideWidth, widened, narrowed, allBelow, parentsRight}
-use Rattle.rules.specs.declared.Node.{Node}
+use Rattle.ast.specs.declared.Node.{Node}
 use Rattle.rules.proofs.Results.{not-kind}
 use Rattle.rules.proofs.Unique.Grow.{none≢some, some-inj}
 use Rattle.rules.proofs.Law.Step.{times-append}

@@ -10,7 +10,7 @@ use native.Mathlib.Omega.{arith}
 use Rattle.rules.specs.Tree.{Tree}
 use Rattle.rules.specs.Law.{Child, aNode, aType, childrenOf, same, times, allOf}
 use Rattle.rules.specs.Parents.{isAmong, parentFrom, parentOf}
-use Rattle.rules.specs.declared.Node.{Node}
+use Rattle.ast.specs.declared.Node.{Node}
 use Rattle.rules.proofs.Law.Parents.{Split, split, split-times, parts, parts-times, Sole}
 
 -- `k` written at each of the nodes among these children

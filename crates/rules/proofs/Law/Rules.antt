@@ -11,17 +11,18 @@ use Rattle.lex.specs.Kind.{kEof, kBraceLeft, kBraceRight, kEqual, kLessThan, kG
 use Rattle.lex.specs.declared.tok.Token.{Token}
 use Rattle.rules.specs.Tree.{Arena, Notes, State, Result, ok, err}
 use Rattle.rules.specs.Combinators as R
-use Rattle.rules.specs.Combinators.{Rule, current, Readers, ControlFlow, break, tokenCells, runCells}
+use Rattle.rules.specs.Combinators.{Rule, current, Readers, ControlFlow, break}
+use Rattle.ast.specs.Layout.{tokenCells, runCells}
 use Rattle.rules.specs.Rules as Q
 use Rattle.rules.specs.Rules.{Cases}
-use Rattle.rules.specs.Shape.{map₁, map₂, andThen, decoded, chain, number, token, run}
+use Rattle.ast.specs.Lists.{map₁, map₂, andThen, decoded, chain, number, token, run}
 use Rattle.rules.specs.Law.{Child, aNode, aType, listed, nodeIn, typeIn, fieldIn, paramIn, caseIn, fnIn, childrenOf, innerOf, times, argumentsOf}
-use Rattle.rules.specs.declared.Run.{Run}
-use Rattle.rules.specs.declared.NodeId.{NodeId}
-use Rattle.rules.specs.declared.TypeExprId.{TypeExprId}
-use Rattle.rules.specs.declared.TypeExpr.{TypeExpr}
-use Rattle.rules.specs.declared.Node.the-variants as N
-use Rattle.rules.specs.declared.TypeExpr.the-variants as X
+use Rattle.ast.specs.declared.Run.{Run}
+use Rattle.ast.specs.declared.NodeId.{NodeId}
+use Rattle.ast.specs.declared.TypeExprId.{TypeExprId}
+use Rattle.ast.specs.declared.TypeExpr.{TypeExpr}
+use Rattle.ast.specs.declared.Node.the-variants as N
+use Rattle.ast.specs.declared.TypeExpr.the-variants as X
 use Rattle.rules.proofs.Results.{Ends, holds, fails, weaken-both, ifKind-ok, table-ok, entry-ok, other-ok, bind-ok, then-ok, pure-ok, cur-ok, fail-ok, requireNoDocs-ok, flowValue, loop-ok}
 use Rattle.rules.proofs.Unique.Step.{All, all[], all-snoc, all-mono, fold}
 use Rattle.rules.proofs.Law.Step.{Reader, Steady, Base, Holding, Held, Stays, Gives, ItemsHeld, MemberHeld, RunHeld, joined, less, drop, rebase, onward, times-append, times-snoc, node-steady, field-steady, param-steady, case-steady, fn-steady, listed-mono, advance-holds, expect-holds, expectIdent-holds, rejectKind-holds, collectDocs-holds, allocSlice-holds, takeDocs-holds, pushNode-holds, pushType-holds, struck-holds, writes, listUntil-holds}

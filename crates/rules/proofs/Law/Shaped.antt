@@ -5,14 +5,15 @@ use mathlib.Core.List.{List, [], _∷_, _++_}
 use Prim.Native.Nat.{ℕ, zero, suc}
 use Rattle.lex.specs.declared.tok.Token.{Token}
 use Rattle.rules.specs.Shape as S
-use Rattle.rules.specs.Shape.{map₁, map₂, map₃, map₄, map₅, andThen, Decoder, decoded, chain, number, token, run, resolve, both, items, from, listAt, Env, typeShape, nodeShape}
+use Rattle.rules.specs.Shape.{Env, typeShape, nodeShape}
+use Rattle.ast.specs.Lists.{map₁, map₂, map₃, map₄, map₅, andThen, Decoder, decoded, chain, number, token, run, resolve, both, items, from, listAt}
 use Rattle.rules.specs.Law as L
 use Rattle.rules.specs.Law.{Child, aNode, aType, listed, childrenOf, innerOf}
-use Rattle.rules.specs.declared.Run.{Run}
-use Rattle.rules.specs.declared.Node.{Node}
-use Rattle.rules.specs.declared.Node.the-variants as N
-use Rattle.rules.specs.declared.TypeExpr.{TypeExpr}
-use Rattle.rules.specs.declared.TypeExpr.the-variants as T
+use Rattle.ast.specs.declared.Run.{Run}
+use Rattle.ast.specs.declared.Node.{Node}
+use Rattle.ast.specs.declared.Node.the-variants as N
+use Rattle.ast.specs.declared.TypeExpr.{TypeExpr}
+use Rattle.ast.specs.declared.TypeExpr.the-variants as T
 use Rattle.rules.proofs.Unique.Grow.{none≢some, some-inj}
 
 -- ---- what is there

@@ -11,12 +11,14 @@ use Rattle.lex.specs.Kind.{kEof}
 use Rattle.lex.specs.declared.diagnostic.Diagnostic.{Diagnostic}
 use Rattle.rules.specs.Tree.{Arena, Tree}
 use Rattle.rules.specs.Parse.{read, parse, parseCollect}
-use Rattle.rules.specs.Layout.{nodeWidth}
-use Rattle.rules.specs.Shape.{TypeShape, Shape, map₁, map₂, andThen, lookup, tabulate, typeIn, nodeIn, typeShapeAt, nodeShapeAt, shapeOf}
+use Rattle.ast.specs.Layout.{nodeWidth}
+use Rattle.rules.specs.Shape.{TypeShape, Shape, typeIn, nodeIn, typeShapeAt, nodeShapeAt, shapeOf}
+use Rattle.ast.specs.Lists.{map₁, map₂, andThen}
+use Rattle.ast.specs.Tabulate.{lookup, tabulate}
 use Rattle.rules.specs.Law.{Child, aNode, aType, childrenOf, innerOf, same, times, allOf, occurrences, nth, childrenAt, Once}
 use Rattle.rules.specs.Parents.{parentOf, wideWidth, widened, narrowed, allBelow, isSome, sound, onceEach, parentsRight, turnedAway, turnedBack}
-use Rattle.rules.specs.declared.Node.{Node}
-use Rattle.rules.specs.declared.TypeExpr.{TypeExpr}
+use Rattle.ast.specs.declared.Node.{Node}
+use Rattle.ast.specs.declared.TypeExpr.{TypeExpr}
 use Rattle.rules.proofs.Unique.Grow.{none≢some, some-inj, env, look-end}
 use Rattle.rules.proofs.Unique.Step.{AllShaped}
 use Rattle.rules.proofs.Unique.Whole.{shaped, allShaped}

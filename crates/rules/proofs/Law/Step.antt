@@ -10,13 +10,13 @@ use native.Mathlib.Omega.{arith}
 use Rattle.lex.specs.Kind.{kEof, kIdent, kDoc}
 use Rattle.rules.specs.Tree.{Arena, Notes, State, Result, ok, err}
 use Rattle.rules.specs.Combinators.{Rule, advance, struck, rejectKind, expect, expectIdent, withArena, withDocs, pushNodeAnd, pushType, allocSlice, members, listUntil, collectDocs, takeDocs}
-use Rattle.rules.specs.Shape.{map₁, andThen, Decoder, listAt, items}
+use Rattle.ast.specs.Lists.{map₁, andThen, Decoder, listAt, items}
 use Rattle.rules.specs.Law.{Child, aNode, aType, listed, nodeIn, typeIn, fieldIn, paramIn, caseIn, fnIn, childrenOf, innerOf, same, times, argumentsOf, allArguments}
-use Rattle.rules.specs.declared.Run.{Run}
-use Rattle.rules.specs.declared.Node.{Node}
-use Rattle.rules.specs.declared.Node.the-variants as N
-use Rattle.rules.specs.declared.TypeExpr.{TypeExpr}
-use Rattle.rules.specs.declared.TypeExpr.the-variants as X
+use Rattle.ast.specs.declared.Run.{Run}
+use Rattle.ast.specs.declared.Node.{Node}
+use Rattle.ast.specs.declared.Node.the-variants as N
+use Rattle.ast.specs.declared.TypeExpr.{TypeExpr}
+use Rattle.ast.specs.declared.TypeExpr.the-variants as X
 use Rattle.rules.proofs.Results.{not-kind, Ends, holds, fails, weaken-both, ended-ok, ifKind-ok, bind-ok, then-ok, pure-ok, fail-ok, rejectKind-ok, loop-ok}
 use Rattle.rules.proofs.Unique.Grow.{_⊑_, Le, map₁-mono, map₂-mono, found-mono, number-mono, token-mono, run-mono, chain-mono, listAt-mono, from-end}
 use Rattle.rules.proofs.Unique.Step.{All, all[], all-snoc, all-mono, all-items, fold}

@@ -17,10 +17,10 @@ use Rattle.rules.specs.Rules.{readers, maxLevels, stageOne}
 use Rattle.rules.specs.Parse.{Reading, read, ended, begin, synchronizeRoot, Gathered, merged, recover, parse, parseRoots, parseCollect, parseRootsCollect}
 use Rattle.lex.specs.Answer.{maxBytes}
 use Rattle.rules.specs.Promise.{Arrays, tooShort, holding, Outcome, outcome, promised, numbersOf}
-use Rattle.rules.specs.declared.Parsed.the-variants as P
-use Rattle.rules.specs.Shape.{map₁, map₂, andThen}
+use Rattle.ast.specs.declared.Parsed.the-variants as P
+use Rattle.ast.specs.Lists.{map₁, map₂, andThen}
 use Rattle.rules.specs.Law.{Child, aNode, aType, childrenOf, innerOf, times, allOf, occurrences, nth, childrenAt, innerAt, allArguments, resynchronisings, Rising, Below, Law, TreeLaw}
-use Rattle.rules.specs.declared.NodeId.{NodeId}
+use Rattle.ast.specs.declared.NodeId.{NodeId}
 use Rattle.rules.proofs.Results.{Ends, holds, fails, weaken-both, ended-ok, ifKind-ok, table-ok, entry-ok, other-ok, bind-ok, then-ok, pure-ok, flowValue, loop-ok}
 use Rattle.rules.proofs.Unique.Grow.{none≢some, some-inj}
 use Rattle.rules.proofs.Counting.Whole.{Bounded, in-bytes, read-tree, ended≢read, parse-bounded}

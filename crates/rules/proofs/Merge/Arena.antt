@@ -12,8 +12,8 @@ use lib.ListN.{length, length-append, getD, replicate, List·getD-append}
 use lib.Seq.{getD-append-add}
 use Rattle.rules.specs.Tree.{Arena}
 use Rattle.rules.specs.Merge.{Offsets, behind, movedNode, movedType, Role, nodeNumber, added, movedBy, Held, rolesOf, heldByNode, heldByType, heldIn, covers, roleIn, movedCells}
-use Rattle.rules.specs.declared.Node.{Node}
-use Rattle.rules.specs.declared.TypeExpr.{TypeExpr}
+use Rattle.ast.specs.declared.Node.{Node}
+use Rattle.ast.specs.declared.TypeExpr.{TypeExpr}
 
 -- ---- lists of cells
 

@@ -12,14 +12,15 @@ use Rattle.lex.specs.Kind.{kEof, kIdent, kDoc}
 use Rattle.lex.specs.declared.tok.Token.{Token}
 use Rattle.rules.specs.Tree.{Arena, Notes, State, Result}
 use Rattle.rules.specs.Combinators as R
-use Rattle.rules.specs.Combinators.{Rule, _>>_, pure, current, rest, advance, ifKind, byKind, choose, failExpecting, expect, expectIdent, withArena, withDocs, pushNodeAnd, pushType, allocSlice, tokenCells, members, listUntil, collectDocs, takeDocs}
+use Rattle.rules.specs.Combinators.{Rule, _>>_, pure, current, rest, advance, ifKind, byKind, choose, failExpecting, expect, expectIdent, withArena, withDocs, pushNodeAnd, pushType, allocSlice, members, listUntil, collectDocs, takeDocs}
+use Rattle.ast.specs.Layout.{tokenCells}
 use Rattle.rules.specs.Rules.{breaksOff}
 use Rattle.rules.specs.Merge.{Offsets, behind, movedBy, movedToken, movedRun, movedNodeId, movedTypeId, movedNode, movedType, Role, nodeNumber, tokenRoles, added, Held, rolesOf, heldByNode, heldByType, beginsItem}
-use Rattle.rules.specs.declared.Run.{Run}
-use Rattle.rules.specs.declared.NodeId.{NodeId}
-use Rattle.rules.specs.declared.TypeExprId.{TypeExprId}
-use Rattle.rules.specs.declared.Node.{Node}
-use Rattle.rules.specs.declared.TypeExpr.{TypeExpr}
+use Rattle.ast.specs.declared.Run.{Run}
+use Rattle.ast.specs.declared.NodeId.{NodeId}
+use Rattle.ast.specs.declared.TypeExprId.{TypeExprId}
+use Rattle.ast.specs.declared.Node.{Node}
+use Rattle.ast.specs.declared.TypeExpr.{TypeExpr}
 use Rattle.rules.proofs.Merge.Match.{Match, matched, doomed, failed, Never, Matches, Fails, fails, by-failure, matched-ok, weaken, pure-match, bind-doom, bind-match, then-match, ifKind-match, ifKind-neither, ifKind-other, ifKind-here, Entries, table-match, renoted, Turn, again, out, TurnDoomed, doomed-out, loop-match}
 use Rattle.rules.proofs.Merge.Arena.{AllLike, like[], like∷, like-snoc, like-length, off, Moved, reorder, release, push-node, push-type, push-list}
 

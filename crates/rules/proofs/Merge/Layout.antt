@@ -5,15 +5,14 @@ use Prim.Native.Nat.{ℕ, _+_}
 use native.Mathlib.Nat.{zero-add}
 use lib.ListN.{length, getD}
 use lib.Seq.{take-at, drop-at}
-use Rattle.rules.specs.Combinators.{tokenCells, runCells}
-use Rattle.rules.specs.Layout.{nodeWidth, typeWidth, nodeCells, typeCells}
-use Rattle.rules.specs.Schema.{nodeSchema, typeSchema}
+use Rattle.ast.specs.Layout.{tokenCells, runCells, nodeWidth, typeWidth, nodeCells, typeCells}
+use Rattle.ast.specs.Schema.{nodeSchema, typeSchema}
 use Rattle.rules.specs.Merge.{Offsets, movedToken, movedRun, movedNodeId, movedTypeId, movedNode, movedType, added, movedBy, Role, cellAt, heldByNode, heldByType}
 use Rattle.rules.specs.MergedCells.{nodeRoles, typeRoles, movedRecords, heldAt, namesAt, namesFrom, nodeNames, typeNames, heldByCells}
-use Rattle.rules.specs.declared.Node.{Node}
-use Rattle.rules.specs.declared.Node.the-variants as N
-use Rattle.rules.specs.declared.TypeExpr.{TypeExpr}
-use Rattle.rules.specs.declared.TypeExpr.the-variants as T
+use Rattle.ast.specs.declared.Node.{Node}
+use Rattle.ast.specs.declared.Node.the-variants as N
+use Rattle.ast.specs.declared.TypeExpr.{TypeExpr}
+use Rattle.ast.specs.declared.TypeExpr.the-variants as T
 
 -- ---- records
 

@@ -15,16 +15,17 @@ use Rattle.lex.specs.declared.diagnostic.Diagnostic.{Diagnostic}
 use Rattle.lex.specs.declared.tok.Token.{Token}
 use Rattle.rules.specs.Tree.{Notes, State, Result, ok, err}
 use Rattle.rules.specs.Combinators as R
-use Rattle.rules.specs.Combinators.{Rule, current, Readers, ControlFlow, continue, break, tokenCells, runCells}
+use Rattle.rules.specs.Combinators.{Rule, current, Readers, ControlFlow, continue, break}
+use Rattle.ast.specs.Layout.{tokenCells, runCells}
 use Rattle.rules.specs.Rules as Q
 use Rattle.rules.specs.Rules.{Cases, isCallableTarget}
 use Rattle.rules.specs.Merge.{Offsets, behind, movedBy, movedToken, movedRun, movedNodeId, movedTypeId, movedNode, movedType, added, nodeNumber, tokenRoles, typedRoles, fieldRoles, caseRoles, fnRoles, Held, split, heldByFn, heldByFns, heldByNode, heldByType, beginsItem}
-use Rattle.rules.specs.declared.Run.{Run}
-use Rattle.rules.specs.declared.NodeId.{NodeId}
-use Rattle.rules.specs.declared.TypeExprId.{TypeExprId}
-use Rattle.rules.specs.declared.Node.{Node}
-use Rattle.rules.specs.declared.Node.the-variants as N
-use Rattle.rules.specs.declared.TypeExpr.the-variants as X
+use Rattle.ast.specs.declared.Run.{Run}
+use Rattle.ast.specs.declared.NodeId.{NodeId}
+use Rattle.ast.specs.declared.TypeExprId.{TypeExprId}
+use Rattle.ast.specs.declared.Node.{Node}
+use Rattle.ast.specs.declared.Node.the-variants as N
+use Rattle.ast.specs.declared.TypeExpr.the-variants as X
 use Rattle.rules.proofs.Unique.Grow.{none≢some}
 use Rattle.rules.proofs.Merge.Match.{Match, matched, doomed, failed, Never, Matches, Fails, fails, by-failure, matches-nothing, weaken, pure-match, fail-match, bind-doom, bind-match, then-doom, then-match, ifKind-match, ifKind-other, cur-match, entries[], entry, struck-match, strikeSingle-match, Turn, again, out, TurnDoomed, doomed-out, loop-match}
 use Rattle.rules.proofs.Merge.Arena.{AllLike, like[], like∷, like-snoc, flatten-snoc}

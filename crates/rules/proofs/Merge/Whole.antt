@@ -24,13 +24,13 @@ use Rattle.rules.specs.Combinators.{Rule, current, choose, ControlFlow, 
 use Rattle.rules.specs.Rules.{breaksOff, stageOne, maxLevels}
 use Rattle.rules.specs.Parse.{Reading, read, ended, begin, parse, parseRoots, root}
 use Rattle.rules.specs.Merge.{Offsets, behind, movedBy, movedToken, movedRun, movedNodeId, movedTypeId, movedNode, movedType, Role, fixed, position, nodeNumber, typeNumber, place, value, added, Held, mergedArena, mergedTree, joined, beginsItem, docsAtEnd, Joinable, Joins}
-use Rattle.rules.specs.declared.Run.{Run}
-use Rattle.rules.specs.declared.NodeId.{NodeId}
-use Rattle.rules.specs.declared.TypeExprId.{TypeExprId}
-use Rattle.rules.specs.declared.Node.{Node}
-use Rattle.rules.specs.declared.Node.the-variants as N
-use Rattle.rules.specs.declared.TypeExpr.{TypeExpr}
-use Rattle.rules.specs.declared.TypeExpr.the-variants as X
+use Rattle.ast.specs.declared.Run.{Run}
+use Rattle.ast.specs.declared.NodeId.{NodeId}
+use Rattle.ast.specs.declared.TypeExprId.{TypeExprId}
+use Rattle.ast.specs.declared.Node.{Node}
+use Rattle.ast.specs.declared.Node.the-variants as N
+use Rattle.ast.specs.declared.TypeExpr.{TypeExpr}
+use Rattle.ast.specs.declared.TypeExpr.the-variants as X
 use Rattle.rules.proofs.Counting.Step.{WellEnded}
 use Rattle.rules.proofs.Counting.Whole.{ended-wellEnded, begin-left, read-tree, ended≢read}
 use Rattle.rules.proofs.Merge.Match.{Match, matched, doomed, failed, Never, Matches, pure-match, bind-match, ifKind-match, Turn, again, out, TurnDoomed, iterate-match}

@@ -16,7 +16,7 @@ use Rattle.rules.specs.Combinators.{rest, withDocs, ControlFlow, continu
 use Rattle.rules.specs.Rules.{readers, maxLevels}
 use Rattle.rules.specs.Parse.{Reading, read, ended, begin, synchronizeRoot, Gathered, merged, recover, parseCollect, parseRootsCollect}
 use Rattle.rules.specs.Shape.{Shape, Shapes, noShape, shape, nodeShapeAt, shapeOf}
-use Rattle.rules.specs.declared.NodeId.{NodeId}
+use Rattle.ast.specs.declared.NodeId.{NodeId}
 use Rattle.rules.proofs.Results.{Ends, holds, fails, both, ifKind-ok, table-ok, entry-ok, other-ok, then-ok, pure-ok, flowValue, loop-ok}
 use Rattle.rules.proofs.Preserves.{StepsPreserve, readers-preserve}
 use Rattle.rules.proofs.Counting.Whole.{read-tree, ended≢read}

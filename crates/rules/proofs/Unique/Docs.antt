@@ -19,13 +19,13 @@ use Rattle.rules.specs.Rules as Q
 use Rattle.rules.specs.Rules.{Cases, readers, stageOne, maxLevels}
 use Rattle.rules.specs.Parse.{Reading, read, ended, begin, parse, parseRoots}
 use Rattle.rules.specs.Strike.{noDocBeforeImport, noDocBeforeImportOrEof}
-use Rattle.rules.specs.declared.Run.{Run}
-use Rattle.rules.specs.declared.NodeId.{NodeId}
-use Rattle.rules.specs.declared.TypeExprId.{TypeExprId}
-use Rattle.rules.specs.declared.Node.{Node}
-use Rattle.rules.specs.declared.Node.the-variants as N
-use Rattle.rules.specs.declared.TypeExpr.{TypeExpr}
-use Rattle.rules.specs.declared.TypeExpr.the-variants as X
+use Rattle.ast.specs.declared.Run.{Run}
+use Rattle.ast.specs.declared.NodeId.{NodeId}
+use Rattle.ast.specs.declared.TypeExprId.{TypeExprId}
+use Rattle.ast.specs.declared.Node.{Node}
+use Rattle.ast.specs.declared.Node.the-variants as N
+use Rattle.ast.specs.declared.TypeExpr.{TypeExpr}
+use Rattle.ast.specs.declared.TypeExpr.the-variants as X
 use Rattle.rules.proofs.Unique.Grow.{none≢some}
 use Rattle.rules.proofs.Results.{Ends, holds, fails, both, ended-ok, ifKind-ok, table-ok, entry-ok, other-ok, bind-ok, then-ok, pure-ok, cur-ok, fail-ok, rejectKind-ok, requireNoDocs-ok, loop-ok}
 use Rattle.rules.proofs.Counting.Step.{WellEnded, snoc≢nil}

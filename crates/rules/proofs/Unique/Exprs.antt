@@ -8,17 +8,19 @@ use lib.Dec.{eqb, eqb→eq, ltb}
 use Rattle.lex.specs.Kind.{kEof, kBraceLeft, kBraceRight, kPlus, kMinus, kColon, kDot, kBraketLeft, kBraketRight, kCurlyLeft, kCurlyRight, kS, kD, kI, kIdent, kAs, kTrue, kFalse}
 use Rattle.rules.specs.Tree.{Arena, State}
 use Rattle.rules.specs.Combinators as R
-use Rattle.rules.specs.Combinators.{Rule, current, Readers, tokenCells, ControlFlow, break}
+use Rattle.rules.specs.Combinators.{Rule, current, Readers, ControlFlow, break}
+use Rattle.ast.specs.Layout.{tokenCells}
 use Rattle.rules.specs.Rules as Q
 use Rattle.rules.specs.Shape as S
-use Rattle.rules.specs.Shape.{Word, wordOf, Shape, noShape, shape, noField, fieldS, map₁, map₂, map₃, andThen, Decoder, decoded, chain, number, token, resolve, both, nodeShapeAt, nodeShape}
+use Rattle.rules.specs.Shape.{Word, wordOf, Shape, noShape, shape, noField, fieldS, nodeShapeAt, nodeShape}
+use Rattle.ast.specs.Lists.{map₁, map₂, map₃, andThen, Decoder, decoded, chain, number, token, resolve, both}
 use Rattle.rules.proofs.Unique.Print.{fixed, print, prints, printFields, inRound}
 use Rattle.rules.proofs.Unique.Grow.{none≢some, envOf, Grows, Le, node-grows, fieldIn-grows}
 use Rattle.rules.proofs.Results.{holds, ifKind-ok, table-ok, entry-ok, other-ok, bind-ok, then-ok, pure-ok, cur-ok, fail-ok, flowValue, loop-ok}
 use Rattle.rules.proofs.Unique.Step.{Holds, Invariant, _▷_, consumed-end, advance-ok, expectIdent-ok, sign-ok, sign-took, struck-advance-ok, struck-expect-ok, NodeDone, node-end, fold, fold-print, printAll, ItemDone, listUntil-ok}
 use Rattle.rules.proofs.Unique.Types.{ReadersOk}
 use Rattle.lex.specs.declared.tok.Token.{Token}
-use Rattle.rules.specs.declared.NodeId.{NodeId}
+use Rattle.ast.specs.declared.NodeId.{NodeId}
 
 unfoldable pub printField : Word × Shape → List Word
 printField p = p .0 ∷ fixed kColon ∷ print (p .1)

@@ -8,12 +8,14 @@ use native.Mathlib.Nat.{zero-add}
 use native.Mathlib.Omega.{arith}
 use Rattle.rules.specs.Tree.{Arena}
 use Rattle.rules.specs.Shape as S
-use Rattle.rules.specs.Shape.{TypeShape, Shape, map₁, map₂, map₃, map₄, map₅, andThen, Decoder, decoded, chain, number, token, run, resolve, both, items, from, listAt, Env, lookup, tabulate, typeShapeAt, nodeShapeAt, typeIn, nodeIn, typeShape, nodeShape}
-use Rattle.rules.specs.declared.Run.{Run}
-use Rattle.rules.specs.declared.Node.{Node}
-use Rattle.rules.specs.declared.Node.the-variants as N
-use Rattle.rules.specs.declared.TypeExpr.{TypeExpr}
-use Rattle.rules.specs.declared.TypeExpr.the-variants as T
+use Rattle.rules.specs.Shape.{TypeShape, Shape, Env, typeShapeAt, nodeShapeAt, typeIn, nodeIn, typeShape, nodeShape}
+use Rattle.ast.specs.Lists.{map₁, map₂, map₃, map₄, map₅, andThen, Decoder, decoded, chain, number, token, run, resolve, both, items, from, listAt}
+use Rattle.ast.specs.Tabulate.{lookup, tabulate}
+use Rattle.ast.specs.declared.Run.{Run}
+use Rattle.ast.specs.declared.Node.{Node}
+use Rattle.ast.specs.declared.Node.the-variants as N
+use Rattle.ast.specs.declared.TypeExpr.{TypeExpr}
+use Rattle.ast.specs.declared.TypeExpr.the-variants as T
 
 module _ {A : Type 0} where
   -- what the one finds the other finds

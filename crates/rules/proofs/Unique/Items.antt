@@ -10,13 +10,15 @@ use native.Mathlib.Omega.{arith}
 use Rattle.lex.specs.Kind.{kBraceLeft, kBraceRight, kEqual, kCurlyLeft, kCurlyRight, kS, kDoc, kImport, kExtern, kLet, kFn, kMatch, kVoid}
 use Rattle.rules.specs.Tree.{Arena, State, Result, ok, err}
 use Rattle.rules.specs.Combinators as R
-use Rattle.rules.specs.Combinators.{Rule, current, rest, Readers, tokenCells, runCells, withDocs, ControlFlow, continue}
+use Rattle.rules.specs.Combinators.{Rule, current, rest, Readers, withDocs, ControlFlow, continue}
+use Rattle.ast.specs.Layout.{tokenCells, runCells}
 use Rattle.rules.specs.Rules as Q
 use Rattle.rules.specs.Rules.{Cases}
 use Rattle.rules.specs.Strike.{keep}
 use Rattle.rules.specs.Shape as S
 use Rattle.lex.specs.Spelling.{wellFormed}
-use Rattle.rules.specs.Shape.{Word, wordOf, word, TypeShape, Params, noParam, param, FnShape, Shape, Shapes, noShape, shape, CaseShapes, noCase, caseS, map₁, map₂, map₃, map₄, map₅, andThen, Decoder, decoded, chain, number, token, run, resolve, both, typeShapeAt, typeShape, nodeShape}
+use Rattle.rules.specs.Shape.{Word, wordOf, word, TypeShape, Params, noParam, param, FnShape, Shape, Shapes, noShape, shape, CaseShapes, noCase, caseS, typeShapeAt, typeShape, nodeShape}
+use Rattle.ast.specs.Lists.{map₁, map₂, map₃, map₄, map₅, andThen, Decoder, decoded, chain, number, token, run, resolve, both}
 use Rattle.rules.proofs.Unique.Print.{fixed, print, prints, printCases, printT, printParams, printReturn, printFn, printFns, printPaths, inRound, inCurly}
 use Rattle.rules.proofs.Unique.Grow.{envOf, Grows, grows-refl, grows-trans, Le, wordIn-grows, caseIn-grows, fnIn-grows, words-grows, params-grows, shapes-grows}
 use Rattle.rules.proofs.Results.{holds, fails, weaken, ifKind-ok, ifKind-else, table-ok, entry-ok, other-ok, rejectKind-ok, requireNoDocs-ok, bind-ok, then-ok, pure-ok, cur-ok, fail-ok, flowValue, loop-ok}
@@ -24,10 +26,10 @@ use Rattle.rules.proofs.Unique.Step.{Holds, WellFormed, AllWellFormed, 
 use Rattle.rules.proofs.Unique.Types.{ReadersOk, printParam, paramRd, paramRd-mono, typedName-ok, params-fold}
 use Rattle.rules.proofs.Unique.Exprs.{shapes-fold, nodeRd, nodeRd-mono, nodeMember-ok}
 use Rattle.lex.specs.declared.tok.Token.{Token}
-use Rattle.rules.specs.declared.Run.{Run}
-use Rattle.rules.specs.declared.NodeId.{NodeId}
-use Rattle.rules.specs.declared.TypeExprId.{TypeExprId}
-use Rattle.rules.specs.declared.Node.the-variants as N
+use Rattle.ast.specs.declared.Run.{Run}
+use Rattle.ast.specs.declared.NodeId.{NodeId}
+use Rattle.ast.specs.declared.TypeExprId.{TypeExprId}
+use Rattle.ast.specs.declared.Node.the-variants as N
 
 module _ (script : List ℕ) where
   abbrev w : Token → Word

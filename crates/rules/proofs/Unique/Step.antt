@@ -12,17 +12,18 @@ use Rattle.lex.specs.Lex.{cut, tokensOf}
 use Rattle.lex.specs.Spelling.{hasSpelling, spellingStart}
 use Rattle.rules.specs.Tree.{Arena, Notes, State, Result, ok, err}
 use Rattle.rules.specs.Combinators.{Rule, current, rest, advance, struck, expect, expectIdent, withArena, pushNodeAnd, pushType, allocSlice, members, listUntil}
-use Rattle.rules.specs.Shape.{Word, wordOf, word, TypeShape, Shape, map₁, andThen, Decoder, decoded, chain, items, listAt, typeShapeAt, nodeShapeAt, typeShape, nodeShape}
+use Rattle.rules.specs.Shape.{Word, wordOf, word, TypeShape, Shape, typeShapeAt, nodeShapeAt, typeShape, nodeShape}
+use Rattle.ast.specs.Lists.{map₁, andThen, Decoder, decoded, chain, items, listAt}
 use Rattle.rules.specs.Strike.{keep, noDocBeforeImport}
 use Rattle.rules.proofs.Results.{not-kind, Ends, holds, fails, weaken, ifKind-ok, bind-ok, then-ok, pure-ok, fail-ok, loop-ok}
 use Rattle.rules.proofs.Unique.Print.{fixed, printT, printReturn, print}
 use Rattle.rules.proofs.Unique.Grow.{Le, env, envOf, Grows, extend, grows-refl, grows-trans, arena-type, arena-node, from-end}
 use Rattle.lex.specs.declared.tok.Token.{Token}
-use Rattle.rules.specs.declared.Run.{Run}
-use Rattle.rules.specs.declared.NodeId.{NodeId}
-use Rattle.rules.specs.declared.TypeExprId.{TypeExprId}
-use Rattle.rules.specs.declared.Node.{Node}
-use Rattle.rules.specs.declared.TypeExpr.{TypeExpr}
+use Rattle.ast.specs.declared.Run.{Run}
+use Rattle.ast.specs.declared.NodeId.{NodeId}
+use Rattle.ast.specs.declared.TypeExprId.{TypeExprId}
+use Rattle.ast.specs.declared.Node.{Node}
+use Rattle.ast.specs.declared.TypeExpr.{TypeExpr}
 
 -- ---- results
 

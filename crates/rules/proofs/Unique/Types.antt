@@ -9,18 +9,20 @@ use Rattle.lex.specs.Kind.{kEof, kColon, kLessThan, kGreaterThan, kStr, kInt, k
 use Rattle.lex.specs.Spelling.{hasSpelling}
 use Rattle.rules.specs.Tree.{Arena, State}
 use Rattle.rules.specs.Combinators as R
-use Rattle.rules.specs.Combinators.{current, Readers, tokenCells}
+use Rattle.rules.specs.Combinators.{current, Readers}
+use Rattle.ast.specs.Layout.{tokenCells}
 use Rattle.rules.specs.Rules as Q
 use Rattle.rules.specs.Shape as S
-use Rattle.rules.specs.Shape.{Word, wordOf, TypeShape, atomT, foreignT, optionT, arrayT, recordT, noParam, param, map₁, map₂, andThen, Decoder, decoded, chain, number, token, resolve, both, typeShape}
+use Rattle.rules.specs.Shape.{Word, wordOf, TypeShape, atomT, foreignT, optionT, arrayT, recordT, noParam, param, typeShape}
+use Rattle.ast.specs.Lists.{map₁, map₂, andThen, Decoder, decoded, chain, number, token, resolve, both}
 use Rattle.rules.proofs.Unique.Print.{fixed, printT, printParams, printReturn}
 use Rattle.rules.proofs.Unique.Grow.{envOf, Grows, Le, paramIn-grows}
 use Rattle.rules.proofs.Results.{table-ok, entry-ok, other-ok, bind-ok, then-ok, pure-ok, fail-ok, rejectKind-ok}
 use Rattle.rules.proofs.Unique.Step.{Holds, Invariant, Consumed, _▷_, advance-ok, expectIdent-ok, sign-ok, sign-took, NodeDone, TypeDone, type-end, fold, fold-print, printAll, ItemDone, listUntil-ok}
 use Rattle.lex.specs.declared.tok.Token.{Token}
-use Rattle.rules.specs.declared.TypeExprId.{TypeExprId}
-use Rattle.rules.specs.declared.TypeExpr.{TypeExpr}
-use Rattle.rules.specs.declared.TypeExpr.the-variants as T
+use Rattle.ast.specs.declared.TypeExprId.{TypeExprId}
+use Rattle.ast.specs.declared.TypeExpr.{TypeExpr}
+use Rattle.ast.specs.declared.TypeExpr.the-variants as T
 
 -- the readers one level deeper do as they should
 pub record ReadersOk (script : List ℕ) (d : Readers) : Type 0 where

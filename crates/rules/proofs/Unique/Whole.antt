@@ -15,7 +15,8 @@ use Rattle.rules.specs.Combinators.{current}
 use Rattle.rules.specs.Rules as Q
 use Rattle.rules.specs.Rules.{readers, stageOne}
 use Rattle.rules.specs.Parse.{Reading, read, ended, begin, parse, parseRoots}
-use Rattle.rules.specs.Shape.{Word, wordOf, Shape, Shapes, noShape, shape, map₁, map₂, nodeShapeAt, shapesOf, shapeOf}
+use Rattle.rules.specs.Shape.{Word, wordOf, Shape, Shapes, noShape, shape, nodeShapeAt, shapesOf, shapeOf}
+use Rattle.ast.specs.Lists.{map₁, map₂}
 use Rattle.rules.specs.Strike.{keep, notesOf, strike, Plain, UniqueReading}
 use Rattle.rules.proofs.Unique.Print.{fixed, print, prints}
 use Rattle.rules.proofs.Unique.Grow.{_⊑_}
@@ -27,7 +28,7 @@ use Rattle.rules.proofs.Unique.Exprs.{shapes-fold, parseExpr-ok}
 use Rattle.rules.proofs.Unique.Items.{parsePrefix-ok}
 use Rattle.rules.proofs.Unique.Lexed.{tokens-ok}
 use Rattle.lex.specs.declared.tok.Token.{Token}
-use Rattle.rules.specs.declared.NodeId.{NodeId}
+use Rattle.ast.specs.declared.NodeId.{NodeId}
 
 -- ---- the knot
 

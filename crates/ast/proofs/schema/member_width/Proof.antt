@@ -1,7 +1,7 @@
 -- `ast::schema::member_width` meets its contract.
 use mathlib.Core.Path.{sym, ap}
 use Prim.Native.Nat.{ℕ}
-use Rattle.rules.specs.Schema.{memberWidth}
+use Rattle.ast.specs.Schema.{memberWidth}
 use Rattle.ast.specs.Schema.{membersOf}
 use Rattle.ast.proofs.SchemaLaws.{tokens-are}
 use Rattle.ast.proofs.schema.member_width.Statement.{statement}

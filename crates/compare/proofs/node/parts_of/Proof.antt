@@ -1,7 +1,7 @@
 -- `compare::node::parts_of` meets its contract.
 use mathlib.Core.Path.{sym, ap}
 use Prim.Native.Nat.{ℕ}
-use Rattle.rules.specs.Schema.{nodeSchema}
+use Rattle.ast.specs.Schema.{nodeSchema}
 use Rattle.compare.specs.Parts.{parts, restOf}
 use Rattle.compare.proofs.Nodes.{no-parts}
 use Rattle.compare.proofs.node.parts_of.Statement.{statement}

@@ -22,7 +22,7 @@ use Rattle.parser_state.proofs.Steps.{seq, enough}
 use Rattle.rules.specs.Rules.{nodeMember}
 use Rattle.lex.specs.Kind.{kBraketRight}
 use Rattle.rules.specs.Combinators.{pure}
-use Rattle.rules.specs.declared.NodeId.{NodeId}
+use Rattle.ast.specs.declared.NodeId.{NodeId}
 use mathlib.Core.List.{[], _∷_}
 
 abbrev claims : ℕ → lts.Claims

@@ -21,7 +21,7 @@ use lib.ListN.{length}
 use Rattle.parser_state.proofs.Steps.{seq, enough}
 use Rattle.rules.specs.Rules.{nodeMember}
 use Rattle.rules.specs.Combinators.{pure}
-use Rattle.rules.specs.declared.NodeId.{NodeId}
+use Rattle.ast.specs.declared.NodeId.{NodeId}
 use mathlib.Core.List.{[], _∷_}
 
 abbrev claims : ℕ → lts.Claims

@@ -2,7 +2,7 @@
 use borrow.Author.Needs.{needs}
 use Rattle.parser_state.specs.declared.Used.{Used}
 use Rattle.parser_state.specs.Represents.{lowToken}
-use Rattle.rules.specs.declared.Node.the-variants as N
+use Rattle.ast.specs.declared.Node.the-variants as N
 use native.Mathlib.Omega.{arith}
 use Prim.Native.Nat.{ℕ}
 use Rattle.parser_items.proofs.parse_fn.Reads as parse-fn

@@ -10,8 +10,7 @@ use Rattle.parser_state.proofs.push_token_node.Reads as push-token-node-reads
 use Rattle.parser_items.proofs.+array_lit+binary+call+case+cases+climb+condition+elems+expr+group+infixes+init+inits+item+items+member+operand+parse_body+parse_fn+parse_let+parse_match+post_step+postfix+prefix+record_lit+unary.Lts-record_lit as lts
 use Rattle.parser_items.proofs.+array_lit+binary+call+case+cases+climb+condition+elems+expr+group+infixes+init+inits+item+items+member+operand+parse_body+parse_fn+parse_let+parse_match+post_step+postfix+prefix+record_lit+unary.Proof.Measures.{record-lit-at, inits-below}
 use Rattle.parser_state.proofs.Steps.{read, seq, enough}
-use Rattle.rules.specs.Combinators.{tokenCells, runCells}
-use Rattle.rules.specs.Layout.{nodeCells}
+use Rattle.ast.specs.Layout.{tokenCells, runCells, nodeCells}
 use Rattle.rules.specs.Rules.{recordLiteral}
 use mathlib.Core.Path.{refl}
 

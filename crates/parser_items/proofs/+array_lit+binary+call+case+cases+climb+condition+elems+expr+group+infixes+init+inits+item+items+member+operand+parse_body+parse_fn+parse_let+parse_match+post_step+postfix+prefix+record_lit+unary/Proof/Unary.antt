@@ -10,8 +10,7 @@ use Rattle.parser_state.proofs.push_token_node.Reads as push-token-node-reads
 use Rattle.parser_items.proofs.+array_lit+binary+call+case+cases+climb+condition+elems+expr+group+infixes+init+inits+item+items+member+operand+parse_body+parse_fn+parse_let+parse_match+post_step+postfix+prefix+record_lit+unary.Lts-unary as lts
 use Rattle.parser_items.proofs.+array_lit+binary+call+case+cases+climb+condition+elems+expr+group+infixes+init+inits+item+items+member+operand+parse_body+parse_fn+parse_let+parse_match+post_step+postfix+prefix+record_lit+unary.Proof.Measures.{unary-at, expr-below}
 use Rattle.parser_state.proofs.Steps.{read, seq, enough}
-use Rattle.rules.specs.Combinators.{tokenCells}
-use Rattle.rules.specs.Layout.{nodeCells}
+use Rattle.ast.specs.Layout.{tokenCells, nodeCells}
 use Rattle.rules.specs.Rules.{unary}
 use mathlib.Core.Path.{refl}
 

@@ -11,9 +11,9 @@ use native.Mathlib.Omega.{arith}
 use Prim.Native.Nat.{ℕ}
 use Rattle.compare.proofs.node.agree_cases.Reads as agree-cases
 use Rattle.compare.proofs.word.formed_at.Reads as formed-at-reads
-use Rattle.ast.proofs.layout.cell.Reads as cell-reads
+use Rattle.ast.proofs.decode.cell.Reads as cell-reads
 use Rattle.compare.proofs.node.agree_node.Reads as agree-node
-use Rattle.ast.proofs.layout.run_at.Reads as run-at-reads
+use Rattle.ast.proofs.decode.run_at.Reads as run-at-reads
 use Rattle.compare.proofs.node.agree_nodes.Reads as agree-nodes
 use Rattle.compare.proofs.node.+agree_cases+agree_fields+agree_node+agree_nodes+agree_part+agree_parts.Lts-agree_cases as lts
 use Rattle.compare.proofs.node.+agree_cases+agree_fields+agree_node+agree_nodes+agree_part+agree_parts.Proof.Measures.{agree-cases-at, agree-node-below, agree-nodes-below}

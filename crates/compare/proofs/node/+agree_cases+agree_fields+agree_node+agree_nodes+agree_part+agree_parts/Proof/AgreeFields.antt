@@ -10,7 +10,7 @@ use native.Mathlib.Omega.{arith}
 use Prim.Native.Nat.{ℕ}
 use Rattle.compare.proofs.node.agree_fields.Reads as agree-fields
 use Rattle.compare.proofs.word.agree_token_at.Reads as agree-token-at-reads
-use Rattle.ast.proofs.layout.cell.Reads as cell-reads
+use Rattle.ast.proofs.decode.cell.Reads as cell-reads
 use Rattle.compare.proofs.node.agree_node.Reads as agree-node
 use Rattle.compare.proofs.node.+agree_cases+agree_fields+agree_node+agree_nodes+agree_part+agree_parts.Lts-agree_fields as lts
 use Rattle.compare.proofs.node.+agree_cases+agree_fields+agree_node+agree_nodes+agree_part+agree_parts.Proof.Measures.{agree-fields-at, agree-node-below}

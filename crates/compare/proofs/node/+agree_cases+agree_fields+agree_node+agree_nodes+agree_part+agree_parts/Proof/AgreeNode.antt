@@ -16,8 +16,8 @@ use Rattle.compare.proofs.kind.kind_at.Reads as kind-at-reads
 use Rattle.compare.proofs.node.order_of.Reads as order-of-reads
 use Rattle.compare.proofs.node.agree_parts.Reads as agree-parts
 use Rattle.compare.proofs.node.parts_of.Reads as parts-of-reads
-use Rattle.ast.proofs.layout.cell.Reads as cell-reads
-use Rattle.ast.proofs.layout.run_at.Reads as run-at-reads
+use Rattle.ast.proofs.decode.cell.Reads as cell-reads
+use Rattle.ast.proofs.decode.run_at.Reads as run-at-reads
 use Rattle.compare.proofs.word.agree_token_at.Reads as agree-token-at-reads
 use Rattle.compare.proofs.node.+agree_cases+agree_fields+agree_node+agree_nodes+agree_part+agree_parts.Lts-agree_node as lts
 use Rattle.compare.proofs.node.+agree_cases+agree_fields+agree_node+agree_nodes+agree_part+agree_parts.Proof.Measures.{agree-node-at, agree-node-below, agree-parts-below}

@@ -11,10 +11,10 @@ use native.Mathlib.Omega.{arith}
 use Prim.Native.Nat.{ℕ}
 use Rattle.compare.proofs.node.agree_part.Reads as agree-part
 use Rattle.compare.proofs.word.agree_token_at.Reads as agree-token-at-reads
-use Rattle.ast.proofs.layout.run_at.Reads as run-at-reads
+use Rattle.ast.proofs.decode.run_at.Reads as run-at-reads
 use Rattle.compare.proofs.word.agree_words.Reads as agree-words-reads
 use Rattle.compare.proofs.type_expr.agree_params.Reads as agree-params-reads
-use Rattle.ast.proofs.layout.cell.Reads as cell-reads
+use Rattle.ast.proofs.decode.cell.Reads as cell-reads
 use Rattle.compare.proofs.type_expr.agree_type.Reads as agree-type-reads
 use Rattle.compare.proofs.type_expr.agree_fns.Reads as agree-fns-reads
 use Rattle.compare.proofs.node.agree_nodes.Reads as agree-nodes

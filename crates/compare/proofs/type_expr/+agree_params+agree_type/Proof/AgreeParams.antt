@@ -10,7 +10,7 @@ use native.Mathlib.Omega.{arith}
 use Prim.Native.Nat.{ℕ}
 use Rattle.compare.proofs.type_expr.agree_params.Reads as agree-params
 use Rattle.compare.proofs.word.agree_token_at.Reads as agree-token-at-reads
-use Rattle.ast.proofs.layout.cell.Reads as cell-reads
+use Rattle.ast.proofs.decode.cell.Reads as cell-reads
 use Rattle.compare.proofs.type_expr.agree_type.Reads as agree-type
 use Rattle.compare.proofs.type_expr.+agree_params+agree_type.Lts-agree_params as lts
 use Rattle.compare.proofs.type_expr.+agree_params+agree_type.Proof.Measures.{agree-params-at, agree-type-below}

@@ -7,9 +7,9 @@ use native.Mathlib.Omega.{arith}
 use Prim.Native.Nat.{ℕ}
 use Rattle.compare.proofs.type_expr.agree_type.Reads as agree-type
 use Rattle.compare.proofs.kind.kind_at.Reads as kind-at-reads
-use Rattle.ast.proofs.layout.cell.Reads as cell-reads
+use Rattle.ast.proofs.decode.cell.Reads as cell-reads
 use Rattle.compare.proofs.word.agree_token_at.Reads as agree-token-at-reads
-use Rattle.ast.proofs.layout.run_at.Reads as run-at-reads
+use Rattle.ast.proofs.decode.run_at.Reads as run-at-reads
 use Rattle.compare.proofs.type_expr.agree_params.Reads as agree-params
 use Rattle.compare.proofs.type_expr.+agree_params+agree_type.Lts-agree_type as lts
 use Rattle.compare.proofs.type_expr.+agree_params+agree_type.Proof.Measures.{agree-type-at, agree-params-below, agree-type-below}

@@ -11,14 +11,14 @@ use borrow.Author.Needs.{needs}
 use native.Mathlib.Omega.{arith}
 use Rattle.listing.proofs.forms.write_member.Reads as write-member
 use Rattle.listing.proofs.forms.+write_list+write_member.Lts-write_member as lts
-use Rattle.ast.proofs.layout.cell.Reads as cell-reads
+use Rattle.ast.proofs.decode.cell.Reads as cell-reads
 use Rattle.listing.proofs.emit.write_number.Reads as write-number-reads
 use Rattle.listing.proofs.forms.write_pair.Reads as write-pair-reads
 use Rattle.listing.proofs.emit.write_gap.Reads as write-gap-reads
 use Rattle.text.proofs.write_byte.Reads as write-byte-reads
-use Rattle.ast.proofs.layout.run_at.Reads as run-at-reads
+use Rattle.ast.proofs.decode.run_at.Reads as run-at-reads
 use Rattle.listing.proofs.forms.write_list.Reads as write-list
-use Rattle.ast.proofs.layout.token_at.Reads as token-at-reads
+use Rattle.ast.proofs.decode.token_at.Reads as token-at-reads
 use Rattle.listing.proofs.forms.write_token.Reads as write-token-reads
 use Rattle.listing.proofs.forms.+write_list+write_member.Proof.Measures.{write-member-at, write-list-below}
 

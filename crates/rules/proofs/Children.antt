@@ -1,51 +1,16 @@
--- Records go by the schema: what they hold, how they are laid out, and what they name.
+-- A record's children go by the schema.
 use mathlib.Core.Path.{_≡_, refl, sym, ap}
 use mathlib.Core.Option.{Option, none, some}
-use mathlib.Core.List.{List, [], _∷_, _++_, map, flatten, append-nil}
+use mathlib.Core.List.{List, [], _∷_, _++_, append-nil}
 use Prim.Native.Nat.{ℕ}
-use lib.ListN.{getD}
-use Rattle.rules.specs.Combinators.{tokenCells, runCells}
-use Rattle.rules.specs.Layout.{nodeWidth, typeWidth, padded, nodeCells, typeCells}
-use Rattle.rules.specs.Shape.{map₁, map₂}
+use Rattle.ast.specs.Lists.{map₁, map₂}
 use Rattle.rules.specs.Law.{Child, aNode, aType, listed, nodeIn, fieldIn, paramIn, caseIn, fnIn, childrenOf, innerOf, allOf}
-use Rattle.rules.specs.Schema as S
-use Rattle.rules.specs.Schema.{Field, Part, nodeSchema, typeSchema, fieldOf, cellsOf, partsOf, typePartsOf}
-use Rattle.rules.specs.declared.Node.{Node}
-use Rattle.rules.specs.declared.Node.the-variants as N
-use Rattle.rules.specs.declared.TypeExpr.{TypeExpr}
-use Rattle.rules.specs.declared.TypeExpr.the-variants as T
-
--- a record is its kind, what the fields of the kind hold, and zeros
-pub record Laid (width : ℕ) (schema : List (List Field)) (cells : List ℕ) (parts : List Part) : Type 0 where
-  pub fields : map fieldOf parts ≡ getD schema (getD cells 0 0) []
-  pub encoded : cells ≡ padded width (getD cells 0 0 ∷ flatten (map cellsOf parts))
-
-pub node-laid : (x : Node) → Laid nodeWidth nodeSchema (nodeCells x) (partsOf x)
-unfolding nodeCells tokenCells runCells nodeSchema fieldOf cellsOf partsOf flatten
-node-laid (N.Atom id raw) = record { fields = refl; encoded = refl }
-node-laid (N.Ident id name) = record { fields = refl; encoded = refl }
-node-laid (N.Bin id op lhs rhs) = record { fields = refl; encoded = refl }
-node-laid (N.Unary id op rhs) = record { fields = refl; encoded = refl }
-node-laid (N.Let id docs name rhs) = record { fields = refl; encoded = refl }
-node-laid (N.Fn id docs name args ret body) = record { fields = refl; encoded = refl }
-node-laid (N.Match id cases t body) = record { fields = refl; encoded = refl }
-node-laid (N.Call id target args) = record { fields = refl; encoded = refl }
-node-laid (N.Field id target name) = record { fields = refl; encoded = refl }
-node-laid (N.Cast id src lhs rhs) = record { fields = refl; encoded = refl }
-node-laid (N.Import id src pkgs) = record { fields = refl; encoded = refl }
-node-laid (N.Extern id src docs name fns) = record { fields = refl; encoded = refl }
-node-laid (N.Record id src fields) = record { fields = refl; encoded = refl }
-node-laid (N.Array id src members) = record { fields = refl; encoded = refl }
-
-pub type-laid : (x : TypeExpr) → Laid typeWidth typeSchema (typeCells x) (typePartsOf x)
-unfolding typeCells tokenCells runCells typeSchema fieldOf cellsOf typePartsOf flatten
-type-laid (T.Atom t) = record { fields = refl; encoded = refl }
-type-laid (T.Foreign t) = record { fields = refl; encoded = refl }
-type-laid (T.Option t) = record { fields = refl; encoded = refl }
-type-laid (T.Array t) = record { fields = refl; encoded = refl }
-type-laid (T.Record src fields) = record { fields = refl; encoded = refl }
-
--- ---- children
+use Rattle.ast.specs.Schema as S
+use Rattle.ast.specs.Schema.{Part, partsOf, typePartsOf}
+use Rattle.ast.specs.declared.Node.{Node}
+use Rattle.ast.specs.declared.Node.the-variants as N
+use Rattle.ast.specs.declared.TypeExpr.{TypeExpr}
+use Rattle.ast.specs.declared.TypeExpr.the-variants as T
 
 -- what a field names; a list of tokens names none, wherever it lies
 unfoldable pub childrenIn : List ℕ → Part → Option (List Child)

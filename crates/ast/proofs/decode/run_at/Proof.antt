@@ -1,8 +1,8 @@
--- `ast::layout::run_at` meets its contract.
+-- `ast::decode::run_at` meets its contract.
 use native.Mathlib.Nat.{add-zero}
 use borrow.Author.Needs.{needs}
-use Rattle.ast.proofs.layout.run_at.Statement.{statement}
-use Rattle.ast.proofs.layout.run_at.Tie as tie
+use Rattle.ast.proofs.decode.run_at.Statement.{statement}
+use Rattle.ast.proofs.decode.run_at.Tie as tie
 
 cell-requires : tie.Need-cell-requires
 cell-requires c κs = search needs

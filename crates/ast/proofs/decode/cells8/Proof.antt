@@ -1,19 +1,19 @@
--- `ast::layout::cells16` meets its contract.
+-- `ast::decode::cells8` meets its contract.
 use Prim.Native.Nat.{_-_}
 use mathlib.Core.Path.{refl}
 use native.Mathlib.Omega.{arith}
 use Rattle.ast.proofs.Copy.{Copied, none-copied, one-more, all-copied}
-use Rattle.ast.proofs.layout.cells16.Statement.{statement}
-use Rattle.ast.proofs.layout.cells16.Tie as tie
+use Rattle.ast.proofs.decode.cells8.Statement.{statement}
+use Rattle.ast.proofs.decode.cells8.Tie as tie
 
 abbrev Inv-loop : tie.InvT-loop
-Inv-loop a at cells₀ i₀ cells i = Copied 16 a at cells i
+Inv-loop a at cells₀ i₀ cells i = Copied 8 a at cells i
 
 abbrev μ-loop : tie.MeasureT-loop
-μ-loop a at cells₀ i₀ cells i = 16 - i
+μ-loop a at cells₀ i₀ cells i = 8 - i
 
-pub cells16-spec : {M : Type 1} → statement M
-cells16-spec =
+pub cells8-spec : {M : Type 1} → statement M
+cells8-spec =
     tie.close
     (tie.spec
     Inv-loop

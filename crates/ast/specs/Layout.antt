@@ -3,11 +3,12 @@ use mathlib.Core.List.{List, [], _∷_, _++_}
 use Prim.Native.Nat.{ℕ, _-_}
 use lib.ListN.{length, replicate}
 use Rattle.lex.specs.declared.diagnostic.Diagnostic.{Diagnostic}
-use Rattle.rules.specs.declared.Node.{Node}
-use Rattle.rules.specs.declared.Node.the-variants as N
-use Rattle.rules.specs.declared.TypeExpr.{TypeExpr}
-use Rattle.rules.specs.declared.TypeExpr.the-variants as T
-use Rattle.rules.specs.Combinators.{tokenCells, runCells}
+use Rattle.lex.specs.declared.tok.Token.{Token}
+use Rattle.ast.specs.declared.Run.{Run}
+use Rattle.ast.specs.declared.Node.{Node}
+use Rattle.ast.specs.declared.Node.the-variants as N
+use Rattle.ast.specs.declared.TypeExpr.{TypeExpr}
+use Rattle.ast.specs.declared.TypeExpr.the-variants as T
 
 -- the cells of a record
 abbrev pub nodeWidth : ℕ
@@ -25,6 +26,12 @@ zeros n = replicate n 0
 -- zeros behind, up to a length
 abbrev pub padded : ℕ → List ℕ → List ℕ
 padded n xs = xs ++ zeros (n - length xs)
+
+unfoldable pub tokenCells : Token → List ℕ
+tokenCells t = t .kind ∷ t .start ∷ t .len ∷ []
+
+unfoldable pub runCells : Run → List ℕ
+runCells r = r .start ∷ r .len ∷ []
 
 unfoldable pub nodeCells : Node → List ℕ
 nodeCells (N.Atom id raw) = padded nodeWidth (1 ∷ id ∷ tokenCells raw)

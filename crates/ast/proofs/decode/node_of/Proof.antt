@@ -1,12 +1,12 @@
--- `ast::layout::node_of` meets its contract.
+-- `ast::decode::node_of` meets its contract.
 use mathlib.Core.Path.{sym}
 use Prim.Native.Nat.{_<_}
 use lib.ListN.{getD}
 use Rattle.ast.proofs.LayoutLaws.{node-unknown, past}
 use Rattle.ast.specs.Decode.{nodeOf, nodesByKind, nodeRead}
 use borrow.Author.Needs.{needs}
-use Rattle.ast.proofs.layout.node_of.Statement.{statement}
-use Rattle.ast.proofs.layout.node_of.Tie as tie
+use Rattle.ast.proofs.decode.node_of.Statement.{statement}
+use Rattle.ast.proofs.decode.node_of.Tie as tie
 
 array-read-kind : tie.Need-array-read-kind
 array-read-kind c = search needs

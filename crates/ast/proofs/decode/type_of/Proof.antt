@@ -1,12 +1,12 @@
--- `ast::layout::type_of` meets its contract.
+-- `ast::decode::type_of` meets its contract.
 use mathlib.Core.Path.{sym}
 use Prim.Native.Nat.{_<_}
 use lib.ListN.{getD}
 use Rattle.ast.proofs.LayoutLaws.{type-unknown, past}
 use Rattle.ast.specs.Decode.{typeOf, typesByKind, typeRead}
 use borrow.Author.Needs.{needs}
-use Rattle.ast.proofs.layout.type_of.Statement.{statement}
-use Rattle.ast.proofs.layout.type_of.Tie as tie
+use Rattle.ast.proofs.decode.type_of.Statement.{statement}
+use Rattle.ast.proofs.decode.type_of.Tie as tie
 
 array-read-kind : tie.Need-array-read-kind
 array-read-kind c = search needs

@@ -1,12 +1,12 @@
--- `ast::layout::cell` meets its contract.
+-- `ast::decode::cell` meets its contract.
 use Prim.Native.Nat.{_+_, _≤_}
 use lib.ListN.{length}
 use mathlib.Core.Path.{sym}
 use native.Mathlib.Omega.{arith}
 use lib.ListN.{List·getD-eq-default}
 use borrow.Author.Needs.{needs}
-use Rattle.ast.proofs.layout.cell.Statement.{statement}
-use Rattle.ast.proofs.layout.cell.Tie as tie
+use Rattle.ast.proofs.decode.cell.Statement.{statement}
+use Rattle.ast.proofs.decode.cell.Tie as tie
 
 sub-if2 : tie.Need-sub-if2
 sub-if2 c = search needs

@@ -1,10 +1,10 @@
--- `ast::layout::node` meets its contract.
+-- `ast::decode::node` meets its contract.
 use mathlib.Core.Path.{_∙_, sym, ap}
 use Rattle.ast.specs.Decode.{nodeOf, nodeRead}
 use Rattle.ast.proofs.LayoutLaws.{node-inside, node-outside}
 use borrow.Author.Needs.{needs}
-use Rattle.ast.proofs.layout.node.Statement.{statement}
-use Rattle.ast.proofs.layout.node.Tie as tie
+use Rattle.ast.proofs.decode.node.Statement.{statement}
+use Rattle.ast.proofs.decode.node.Tie as tie
 
 cast-at : tie.Need-cast-at
 cast-at c = search needs

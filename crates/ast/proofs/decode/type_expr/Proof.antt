@@ -1,10 +1,10 @@
--- `ast::layout::type_expr` meets its contract.
+-- `ast::decode::type_expr` meets its contract.
 use mathlib.Core.Path.{_∙_, sym, ap}
 use Rattle.ast.specs.Decode.{typeOf, typeRead}
 use Rattle.ast.proofs.LayoutLaws.{type-inside, type-outside}
 use borrow.Author.Needs.{needs}
-use Rattle.ast.proofs.layout.type_expr.Statement.{statement}
-use Rattle.ast.proofs.layout.type_expr.Tie as tie
+use Rattle.ast.proofs.decode.type_expr.Statement.{statement}
+use Rattle.ast.proofs.decode.type_expr.Tie as tie
 
 cast-at : tie.Need-cast-at
 cast-at c = search needs

@@ -1,12 +1,12 @@
 // The records of the tree, read from the lent arrays.
+use crate::Node;
+use crate::NodeId;
+use crate::NodeKind;
+use crate::Run;
+use crate::TypeExpr;
+use crate::TypeExprId;
+use crate::TypeExprKind;
 use lex::Token;
-use rules::Node;
-use rules::NodeId;
-use rules::NodeKind;
-use rules::Run;
-use rules::TypeExpr;
-use rules::TypeExprId;
-use rules::TypeExprKind;
 ghost use mathlib.Core.Path.{_≡_};
 ghost use Prim.Native.Nat.{_+_, _≤_};
 ghost use lib.ListN.{length, getD, take, drop};
