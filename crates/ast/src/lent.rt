@@ -1,11 +1,15 @@
 // What is lent: when a call is refused for it, and the list cells in use.
 use lex::MAX_BYTES;
+use lex::Refusal;
 use rules::Counts;
 use rules::Node;
 use rules::TypeExpr;
 ghost use mathlib.Core.Path.{_≡_};
 ghost use lib.ListN.{take};
 ghost use Rattle.ast.specs.Answer.{lent, refusal as refusalOf};
+
+// The list cells that are lent at least for each byte of the script.
+pub const CELLS_PER_BYTE: usize = 8;
 
 // 1 or 2 where the call is refused for what is lent, else 0.
 pub fn refusal(
@@ -20,19 +24,19 @@ pub fn refusal(
 {
     let n = script.len();
     if MAX_BYTES < n {
-        return 1;
+        return Refusal::TOO_LONG;
     }
     if nodes.len() < Node::WIDTH * n {
-        return 2;
+        return Refusal::TOO_SHORT;
     }
     if types.len() < TypeExpr::WIDTH * n {
-        return 2;
+        return Refusal::TOO_SHORT;
     }
-    if lists.len() < 8 * n {
-        return 2;
+    if lists.len() < CELLS_PER_BYTE * n {
+        return Refusal::TOO_SHORT;
     }
     if roots.len() < n {
-        return 2;
+        return Refusal::TOO_SHORT;
     }
     0
 }

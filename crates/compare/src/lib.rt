@@ -7,6 +7,7 @@ mod word;
 use ast::layout::cell;
 use ast::lent::refusal;
 use ast::lent::used;
+use lex::Refusal;
 use node::agree_node;
 use rules::Counts;
 use rules::NodeId;
@@ -98,11 +99,11 @@ pub fn same_shape(
 {
     let a = refusal(script, nodes, types, lists, roots, counts);
     let b = refusal(script2, nodes2, types2, lists2, roots2, counts2);
-    if a == 1 {
-        return Comparison::Refused(1);
+    if a == Refusal::TOO_LONG {
+        return Comparison::Refused(Refusal::TOO_LONG);
     }
-    if b == 1 {
-        return Comparison::Refused(1);
+    if b == Refusal::TOO_LONG {
+        return Comparison::Refused(Refusal::TOO_LONG);
     }
     if a != 0 {
         return Comparison::Refused(a);
@@ -130,7 +131,7 @@ pub fn same_shape(
         roots,
         counts.roots,
     ) {
-        return Comparison::Refused(4);
+        return Comparison::Refused(Refusal::MALFORMED);
     }
     if !agree_roots(
         &script2,
@@ -150,7 +151,7 @@ pub fn same_shape(
         roots2,
         counts2.roots,
     ) {
-        return Comparison::Refused(4);
+        return Comparison::Refused(Refusal::MALFORMED);
     }
     if agree_roots(
         &script,

@@ -8,6 +8,9 @@ use crate::word::agree_words;
 use crate::word::formed_at;
 use ast::layout::cell;
 use ast::layout::run_at;
+use ast::schema::CASE_WIDTH;
+use ast::schema::FIELD_WIDTH;
+use ast::schema::NODE_WIDTH;
 use ast::schema::Sort;
 use rules::Node;
 use rules::NodeId;
@@ -16,6 +19,7 @@ use rules::Run;
 use rules::TypeExprId;
 ghost use mathlib.Core.Path.{_≡_};
 ghost use Prim.Native.Nat.{ℕ, _*_, _<_};
+ghost use Rattle.rules.specs.Layout.{nodeWidth};
 ghost use Rattle.rules.specs.Shape.{shapes, fields, cases};
 ghost use Rattle.compare.specs.Agree.{Agree, Decides};
 ghost use Rattle.compare.specs.Shapes.{view, nodesBelow, envBelow};
@@ -198,10 +202,10 @@ pub(crate) fn agree_node(
         let mut at = r.start as usize;
         let mut at2 = r2.start as usize;
         let mut left = r.len as usize;
-        if cells.len() < at + left * 4 {
+        if cells.len() < at + left * FIELD_WIDTH {
             return false;
         }
-        if cells2.len() < at2 + left * 4 {
+        if cells2.len() < at2 + left * FIELD_WIDTH {
             return false;
         }
         if left == 0 {
@@ -229,8 +233,8 @@ pub(crate) fn agree_node(
             ) {
                 return false;
             }
-            at += 4;
-            at2 += 4;
+            at += FIELD_WIDTH;
+            at2 += FIELD_WIDTH;
             left -= 1;
         }
         if !agree_token_at(s, cells, at, s2, cells2, at2) {
@@ -259,10 +263,10 @@ pub(crate) fn agree_node(
     let mut at = r.start as usize;
     let mut at2 = r2.start as usize;
     let mut left = r.len as usize;
-    if cells.len() < at + left * 1 {
+    if cells.len() < at + left * NODE_WIDTH {
         return false;
     }
-    if cells2.len() < at2 + left * 1 {
+    if cells2.len() < at2 + left * NODE_WIDTH {
         return false;
     }
     if left == 0 {
@@ -287,8 +291,8 @@ pub(crate) fn agree_node(
         ) {
             return false;
         }
-        at += 1;
-        at2 += 1;
+        at += NODE_WIDTH;
+        at2 += NODE_WIDTH;
         left -= 1;
     }
     agree_node(
@@ -326,7 +330,7 @@ fn agree_parts(
     order: u32,
 ) -> bool
     requires { ⌜ order < 17 ⌝ }
-    ensures { λ r. ⌜ Decides r ((x : ℕ) → x < 5 → PartsAgree (envBelow (view (now (now (s .entry))) (now (now (nodes .entry))) (now (now (types .entry))) (now (now (cells .entry))) k) i) (envBelow (view (now (now (s2 .entry))) (now (now (nodes2 .entry))) (now (now (types2 .entry))) (now (now (cells2 .entry))) k2) j) order (now (now (nodes .entry))) (16 * i) (now (now (nodes2 .entry))) (16 * j) x) ⌝ }
+    ensures { λ r. ⌜ Decides r ((x : ℕ) → x < 5 → PartsAgree (envBelow (view (now (now (s .entry))) (now (now (nodes .entry))) (now (now (types .entry))) (now (now (cells .entry))) k) i) (envBelow (view (now (now (s2 .entry))) (now (now (nodes2 .entry))) (now (now (types2 .entry))) (now (now (cells2 .entry))) k2) j) order (now (now (nodes .entry))) (nodeWidth * i) (now (now (nodes2 .entry))) (nodeWidth * j) x) ⌝ }
 {
     let mut rest = parts_of(order);
     let mut x = 0;
@@ -533,10 +537,10 @@ fn agree_nodes(
     let mut at = r.start as usize;
     let mut at2 = r2.start as usize;
     let mut left = r.len as usize;
-    if cells.len() < at + left * 1 {
+    if cells.len() < at + left * NODE_WIDTH {
         return false;
     }
-    if cells2.len() < at2 + left * 1 {
+    if cells2.len() < at2 + left * NODE_WIDTH {
         return false;
     }
     while 0 < left {
@@ -558,8 +562,8 @@ fn agree_nodes(
         ) {
             return false;
         }
-        at += 1;
-        at2 += 1;
+        at += NODE_WIDTH;
+        at2 += NODE_WIDTH;
         left -= 1;
     }
     true
@@ -590,10 +594,10 @@ fn agree_fields(
     let mut at = r.start as usize;
     let mut at2 = r2.start as usize;
     let mut left = r.len as usize;
-    if cells.len() < at + left * 4 {
+    if cells.len() < at + left * FIELD_WIDTH {
         return false;
     }
-    if cells2.len() < at2 + left * 4 {
+    if cells2.len() < at2 + left * FIELD_WIDTH {
         return false;
     }
     while 0 < left {
@@ -618,8 +622,8 @@ fn agree_fields(
         ) {
             return false;
         }
-        at += 4;
-        at2 += 4;
+        at += FIELD_WIDTH;
+        at2 += FIELD_WIDTH;
         left -= 1;
     }
     true
@@ -650,10 +654,10 @@ fn agree_cases(
     let mut at = r.start as usize;
     let mut at2 = r2.start as usize;
     let mut left = r.len as usize;
-    if cells.len() < at + left * 6 {
+    if cells.len() < at + left * CASE_WIDTH {
         return false;
     }
-    if cells2.len() < at2 + left * 6 {
+    if cells2.len() < at2 + left * CASE_WIDTH {
         return false;
     }
     while 0 < left {
@@ -699,8 +703,8 @@ fn agree_cases(
         ) {
             return false;
         }
-        at += 6;
-        at2 += 6;
+        at += CASE_WIDTH;
+        at2 += CASE_WIDTH;
         left -= 1;
     }
     true

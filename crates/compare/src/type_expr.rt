@@ -4,6 +4,8 @@ use crate::word::agree_token_at;
 use crate::word::agree_words;
 use ast::layout::cell;
 use ast::layout::run_at;
+use ast::schema::FN_WIDTH;
+use ast::schema::PARAM_WIDTH;
 use rules::Run;
 use rules::TypeExpr;
 use rules::TypeExprId;
@@ -112,10 +114,10 @@ pub(crate) fn agree_params(
     let mut at = r.start as usize;
     let mut at2 = r2.start as usize;
     let mut left = r.len as usize;
-    if cells.len() < at + left * 4 {
+    if cells.len() < at + left * PARAM_WIDTH {
         return false;
     }
-    if cells2.len() < at2 + left * 4 {
+    if cells2.len() < at2 + left * PARAM_WIDTH {
         return false;
     }
     while 0 < left {
@@ -136,8 +138,8 @@ pub(crate) fn agree_params(
         ) {
             return false;
         }
-        at += 4;
-        at2 += 4;
+        at += PARAM_WIDTH;
+        at2 += PARAM_WIDTH;
         left -= 1;
     }
     true
@@ -164,10 +166,10 @@ pub(crate) fn agree_fns(
     let mut at = r.start as usize;
     let mut at2 = r2.start as usize;
     let mut left = r.len as usize;
-    if cells.len() < at + left * 8 {
+    if cells.len() < at + left * FN_WIDTH {
         return false;
     }
-    if cells2.len() < at2 + left * 8 {
+    if cells2.len() < at2 + left * FN_WIDTH {
         return false;
     }
     while 0 < left {
@@ -212,8 +214,8 @@ pub(crate) fn agree_fns(
         ) {
             return false;
         }
-        at += 8;
-        at2 += 8;
+        at += FN_WIDTH;
+        at2 += FN_WIDTH;
         left -= 1;
     }
     true

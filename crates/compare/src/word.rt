@@ -1,5 +1,6 @@
 // When two tokens, or two lists of tokens, say the same.
 use ast::layout::token_at;
+use ast::schema::TOKEN_WIDTH;
 use lex::Found;
 use lex::Token;
 use lex::Type;
@@ -75,18 +76,18 @@ pub(crate) fn agree_words(
     let mut at = r.start as usize;
     let mut at2 = r2.start as usize;
     let mut left = r.len as usize;
-    if cells.len() < at + left * 3 {
+    if cells.len() < at + left * TOKEN_WIDTH {
         return false;
     }
-    if cells2.len() < at2 + left * 3 {
+    if cells2.len() < at2 + left * TOKEN_WIDTH {
         return false;
     }
     while 0 < left {
         if !agree_token_at(s, cells, at, s2, cells2, at2) {
             return false;
         }
-        at += 3;
-        at2 += 3;
+        at += TOKEN_WIDTH;
+        at2 += TOKEN_WIDTH;
         left -= 1;
     }
     true

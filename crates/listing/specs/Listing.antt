@@ -11,7 +11,9 @@ use Rattle.rules.specs.declared.Node.{Node}
 use Rattle.rules.specs.declared.TypeExpr.{TypeExpr}
 use Rattle.rules.specs.declared.Parsed.{Parsed}
 use Rattle.rules.specs.declared.Parsed.the-variants as P
-use Rattle.rules.specs.Layout.{nodeWidth, typeWidth}
+use Rattle.lex.specs.Errors.{eTooDeep}
+use Rattle.lex.specs.Refusals.{rTooShort, rMalformed}
+use Rattle.rules.specs.Layout.{nodeWidth, typeWidth, diagnosticWidth}
 use Rattle.rules.specs.Tree.{Tree}
 use Rattle.rules.specs.Parse.{Reading, read, ended}
 use Rattle.rules.specs.Promise.{Arrays, noError}
@@ -58,7 +60,7 @@ numbersLine name e = line name (number (e .number) ∷ number (e .start) ∷ num
 -- 10 is a refusal, and has no kinds
 unfoldable pub errorLine : Diagnostic → List ℕ
 errorLine e =
-    elim (eqb (e .number) 10) [
+    elim (eqb (e .number) eTooDeep) [
       | true ↦ line (bytes "refused") (number (e .number) ∷ number (e .start) ∷ number (e .len) ∷ [])
       | false ↦ numbersLine (bytes "error") e
     ]
@@ -91,10 +93,17 @@ within c a =
     && (leb (typeWidth * c .types) (length (a .types))
     && (leb (c .cells) (length (a .lists))
     && (leb (c .roots) (length (a .roots))
-    && leb (5 * c .diagnostics) (length (a .diagnostics)))))
+    && leb (diagnosticWidth * c .diagnostics) (length (a .diagnostics)))))
 
 abbrev pub diagnosticAt : List ℕ → ℕ → Diagnostic
-diagnosticAt xs i = record { number = getD xs (5 * i) 0; start = getD xs (5 * i + 1) 0; len = getD xs (5 * i + 2) 0; wanted = getD xs (5 * i + 3) 0; seen = getD xs (5 * i + 4) 0 }
+diagnosticAt xs i =
+    record {
+      number = getD xs (diagnosticWidth * i) 0;
+      start = getD xs (diagnosticWidth * i + 1) 0;
+      len = getD xs (diagnosticWidth * i + 2) 0;
+      wanted = getD xs (diagnosticWidth * i + 3) 0;
+      seen = getD xs (diagnosticWidth * i + 4) 0;
+    }
 
 -- what is listed of an answer and of arrays whoever filled them; of a refusal without a place its number
 unfoldable pub textOf : Parsed → Arrays → List ℕ
@@ -112,12 +121,12 @@ textOf (P.Refused n) a = line (bytes "refused") (number n ∷ [])
 unfoldable pub written : List ℕ → List ℕ → Result
 written text buffer =
     elim (plain text && ltb (length text) 18446744073709551615) [
-      | true ↦ elim (leb (length text) (length buffer)) [ true ↦ inFront text buffer | false ↦ refuse 2 buffer ]
-      | false ↦ refuse 4 buffer
+      | true ↦ elim (leb (length text) (length buffer)) [ true ↦ inFront text buffer | false ↦ refuse rTooShort buffer ]
+      | false ↦ refuse rMalformed buffer
     ]
 
 -- document 01's number, or the length, for each case of an answer
 unfoldable pub listingAnswer : Listing → Answer
 listingAnswer (L.Written n) = T.written n
-listingAnswer L.Short = T.refused 2
-listingAnswer L.Malformed = T.refused 4
+listingAnswer L.Short = T.refused rTooShort
+listingAnswer L.Malformed = T.refused rMalformed

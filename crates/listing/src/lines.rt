@@ -202,7 +202,7 @@ fn write_error(e: Diagnostic, out: &mut [u8], at: usize) -> usize
     ensures { λ r. ⌜ Emits (errorLine e) (now (out .entry)) at (now (out .exit)) r ⌝ }
 {
     let number = e.number;
-    if number == 10 {
+    if number == Diagnostic::TOO_DEEP {
         let a = write_text(b"(refused", out, at);
         let b = write_number(1, number as usize, out, a);
         let c = write_number(1, e.start as usize, out, b);

@@ -18,6 +18,9 @@ use Rattle.lex.specs.Bytes.{if}
 use Rattle.ast.specs.Decode.{fits, low, tokenAt, nodeAt, typeAt}
 use Rattle.ast.specs.Tabulate.{entryAt}
 use Rattle.lex.specs.Answer.{Answer, refused, answer}
+use Rattle.lex.specs.Refusals.{rOutside, rMalformed}
+use Rattle.rules.specs.Schema as Sc
+use Rattle.rules.specs.Schema.{memberWidth}
 use Rattle.ast.specs.Answer.{unless, Lent, refusal, cellsOf}
 use Rattle.lookups.specs.declared.Start.{Start}
 use Rattle.lookups.specs.declared.Start.the-variants as S
@@ -28,12 +31,12 @@ use Rattle.lookups.specs.declared.TypeToken.the-variants as TT
 
 -- refused with 4 where something visited is malformed
 unfoldable pub unlessMalformed : {A : Type 0} → Option A → Answer A
-unlessMalformed none = refused 4
+unlessMalformed none = refused rMalformed
 unlessMalformed (some a) = answer a
 
 -- record `i` of an array is asked about: 1 and 2 are tested first, then 3, whether it lies at or past the count or past the array's last whole record
 unfoldable pub recordAsked : {A : Type 0} → Lent → (count size : ℕ) → List ℕ → ℕ → Answer A → Answer A
-recordAsked l count size xs i a = unless (refusal l) (if (ltb i count) (if (fits size xs i) a (refused 3)) (refused 3))
+recordAsked l count size xs i a = unless (refusal l) (if (ltb i count) (if (fits size xs i) a (refused rOutside)) (refused rOutside))
 
 -- a run of members lies in the cells, `size` cells a member
 abbrev pub inside : ℕ → List ℕ → Run → Bool
@@ -53,7 +56,7 @@ orElse other (some (some p)) = some (some p)
 
 -- the token of the first case, or that of the default
 unfoldable pub matchStart : List ℕ → List ℕ → Run → Token → Option (Option ℕ)
-matchStart script cells cases t = if (inside 6 cells cases) (if (eqb (cases .len) 0) (tokenStart script t) (tokenStart script (tokenAt cells (cases .start)))) none
+matchStart script cells cases t = if (inside (memberWidth Sc.cases) cells cases) (if (eqb (cases .len) 0) (tokenStart script t) (tokenStart script (tokenAt cells (cases .start)))) none
 
 module _ (script cells : List ℕ) where
   -- by the starts of the records before it, as `node_start`
@@ -71,7 +74,7 @@ module _ (script cells : List ℕ) where
   startOf start (N.Import id src pkgs) = tokenStart script src
   startOf start (N.Extern id src docs name fns) = tokenStart script src
   startOf start (N.Record id src fields) = tokenStart script src
-  startOf start (N.Array id src members) = if (inside 1 cells members) (if (eqb (members .len) 0) (some none) (start (getD cells (members .start) 0))) none
+  startOf start (N.Array id src members) = if (inside (memberWidth Sc.nodes) cells members) (if (eqb (members .len) 0) (some none) (start (getD cells (members .start) 0))) none
 
   abbrev pub startRow : (ℕ → Option (Option ℕ)) → Option Node → Option (Option ℕ)
   startRow start o = andThen o (startOf start)

@@ -4,6 +4,8 @@ use ast::layout::TypeRead;
 use ast::layout::token_at;
 use ast::lent::refusal;
 use ast::lent::used;
+use ast::schema::CASE_WIDTH;
+use lex::Refusal;
 use lex::Token;
 use lex::as_str_len;
 use lex::well_formed;
@@ -40,13 +42,16 @@ enum Step {
 // One more than any start.
 const NOTHING: u64 = 4294967296;
 
+// What is added to it for a refusal with 4.
+const MALFORMED_CODE: u64 = 1 + Refusal::MALFORMED as u64;
+
 fn token_start(script: &[u8], t: Token) -> Start
     ensures { λ r. ⌜ r ≡ asStart (tokenStart (now (script .entry)) t) ⌝ }
 {
     if well_formed(script, t) {
         Start::At((t.start % 4294967296) as u32)
     } else {
-        Start::Refused(4)
+        Start::Refused(Refusal::MALFORMED)
     }
 }
 
@@ -55,8 +60,8 @@ fn match_start(script: &[u8], cells: &[u32], cases: Run, t: Token) -> Start
 {
     let at = cases.start as usize;
     let len = cases.len as usize;
-    if cells.len() < at + len * 6 {
-        return Start::Refused(4);
+    if cells.len() < at + len * CASE_WIDTH {
+        return Start::Refused(Refusal::MALFORMED);
     }
     if len == 0 {
         return token_start(script, t);
@@ -70,7 +75,7 @@ fn array_step(cells: &[u32], members: Run, other: Start) -> Step
     let at = members.start as usize;
     let len = members.len as usize;
     if cells.len() < at + len {
-        return Step::Done(Start::Refused(4));
+        return Step::Done(Start::Refused(Refusal::MALFORMED));
     }
     if len == 0 {
         return Step::Done(other);
@@ -83,7 +88,7 @@ fn start_step(script: &[u8], nodes: &[u32], cells: &[u32], id: NodeId, other: St
 {
     let read = ast::layout::node(nodes, id);
     match read {
-        NodeRead::Unknown => Step::Done(Start::Refused(4)),
+        NodeRead::Unknown => Step::Done(Start::Refused(Refusal::MALFORMED)),
         NodeRead::Known(n) => match n {
             Node::Atom { id: _, raw } => Step::Done(token_start(script, raw)),
             Node::Ident { id: _, name } => Step::Done(token_start(script, name)),
@@ -191,7 +196,7 @@ fn start_from(script: &&[u8], nodes: &&[u32], cells: &&[u32], id: NodeId, other:
             if j.0 < id.0 {
                 start_from(script, nodes, cells, j, o)
             } else {
-                NOTHING + 5
+                NOTHING + MALFORMED_CODE
             }
         }
     }
@@ -215,10 +220,10 @@ pub fn node_start(
     }
     let i = id.0;
     if counts.nodes <= i {
-        return Start::Refused(3);
+        return Start::Refused(Refusal::OUTSIDE);
     }
     if nodes.len() < Node::WIDTH * i as usize + Node::WIDTH {
-        return Start::Refused(3);
+        return Start::Refused(Refusal::OUTSIDE);
     }
     let cells = used(lists, counts.cells);
     decode_start(start_from(&script, &nodes, &cells, id, Start::Nothing))
@@ -234,7 +239,7 @@ fn check_token(script: &[u8], t: Token) -> TypeToken
             len: as_str_len(t),
         })
     } else {
-        TypeToken::Refused(4)
+        TypeToken::Refused(Refusal::MALFORMED)
     }
 }
 
@@ -276,12 +281,12 @@ fn token_here(script: &[u8], types: &[u32], id: TypeExprId) -> TypeToken
 {
     let read = ast::layout::type_expr(types, id);
     match read {
-        TypeRead::Unknown => TypeToken::Refused(4),
+        TypeRead::Unknown => TypeToken::Refused(Refusal::MALFORMED),
         TypeRead::Known(t) => match t {
             TypeExpr::Atom(src) => check_token(script, src),
             TypeExpr::Foreign(src) => check_token(script, src),
-            TypeExpr::Option(_) => TypeToken::Refused(4),
-            TypeExpr::Array(_) => TypeToken::Refused(4),
+            TypeExpr::Option(_) => TypeToken::Refused(Refusal::MALFORMED),
+            TypeExpr::Array(_) => TypeToken::Refused(Refusal::MALFORMED),
             TypeExpr::Record { src, fields: _ } => check_token(script, src),
         },
     }
@@ -305,10 +310,10 @@ pub fn type_token(
     }
     let i = id.0;
     if counts.types <= i {
-        return TypeToken::Refused(3);
+        return TypeToken::Refused(Refusal::OUTSIDE);
     }
     if types.len() < TypeExpr::WIDTH * i as usize + TypeExpr::WIDTH {
-        return TypeToken::Refused(3);
+        return TypeToken::Refused(Refusal::OUTSIDE);
     }
     token_here(script, types, TypeExprId(innermost(&types, id)))
 }
