@@ -73,8 +73,8 @@ unfoldable pub typeAt : List ℕ → ℕ → Option TypeExpr
 typeAt types i = if (fits typeWidth types i) (typeOf (take typeWidth (drop (typeWidth * i) types))) none
 
 -- 32 bits: what an array holds of a number
-abbrev pub low : ℕ → ℕ
-low n = n % 4294967296
+abbrev pub low32 : ℕ → ℕ
+low32 n = n % 4294967296
 
 -- ---- what an answer of the code says
 

@@ -118,8 +118,8 @@ textOf (P.Refused n) a = line (bytes "refused") (number n ∷ [])
 -- ---- into a buffer
 
 -- the text in front; refused, with the buffer as it was, where that is too short (2), and where the text has what is no byte, or 2^64 - 1 bytes or more (4)
-unfoldable pub written : List ℕ → List ℕ → Result
-written text buffer =
+unfoldable pub intoBuffer : List ℕ → List ℕ → Result
+intoBuffer text buffer =
     elim (plain text && ltb (length text) 18446744073709551615) [
       | true ↦ elim (leb (length text) (length buffer)) [ true ↦ inFront text buffer | false ↦ refuse rTooShort buffer ]
       | false ↦ refuse rMalformed buffer

@@ -10,7 +10,7 @@ use text::LAST;
 ghost use mathlib.Core.Path.{_≡_};
 ghost use Rattle.text.specs.Answer.{Result};
 ghost use Rattle.rules.specs.Promise.{arraysOf};
-ghost use Rattle.listing.specs.Listing.{textOf, written, listingAnswer};
+ghost use Rattle.listing.specs.Listing.{textOf, intoBuffer, listingAnswer};
 
 // How many bytes were written; or that the buffer is too short, or that the arrays hold no tree. The buffer is unchanged then.
 pub enum Listing {
@@ -29,7 +29,7 @@ pub fn write_listing(
     diagnostics: &[u32],
     out: &mut [u8],
 ) -> Listing
-    ensures { λ r. ⌜ _≡_ {A = Result} (record { answer = listingAnswer r; buffer = now (out .exit) }) (written (textOf answer (arraysOf (now (nodes .entry)) (now (types .entry)) (now (lists .entry)) (now (roots .entry)) (now (diagnostics .entry)))) (now (out .entry))) ⌝ }
+    ensures { λ r. ⌜ _≡_ {A = Result} (record { answer = listingAnswer r; buffer = now (out .exit) }) (intoBuffer (textOf answer (arraysOf (now (nodes .entry)) (now (types .entry)) (now (lists .entry)) (now (roots .entry)) (now (diagnostics .entry)))) (now (out .entry))) ⌝ }
 {
     let n = write_answer(
         answer,

@@ -15,7 +15,7 @@ use Rattle.rules.specs.declared.Node.the-variants as N
 use Rattle.rules.specs.declared.TypeExpr.{TypeExpr}
 use Rattle.rules.specs.declared.TypeExpr.the-variants as T
 use Rattle.lex.specs.Bytes.{if}
-use Rattle.ast.specs.Decode.{fits, low, tokenAt, nodeAt, typeAt}
+use Rattle.ast.specs.Decode.{fits, low32, tokenAt, nodeAt, typeAt}
 use Rattle.ast.specs.Tabulate.{entryAt}
 use Rattle.lex.specs.Answer.{Answer, refused, answer}
 use Rattle.lex.specs.Refusals.{rOutside, rMalformed}
@@ -46,7 +46,7 @@ inside size cells r = leb (r .start + r .len * size) (length cells)
 
 -- an array holds 32 bits of a start, and `node_start` gives them. none: something visited is malformed. A record, run or token is visited if the answer is read from it
 unfoldable pub tokenStart : List ℕ → Token → Option (Option ℕ)
-tokenStart script t = if (wellFormed script t) (some (some (low (t .start)))) none
+tokenStart script t = if (wellFormed script t) (some (some (low32 (t .start)))) none
 
 -- the other where there is no start
 unfoldable pub orElse : Option (Option ℕ) → Option (Option ℕ) → Option (Option ℕ)
