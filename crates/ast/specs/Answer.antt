@@ -25,13 +25,21 @@ pub record Lent : Type 0 where
   pub counts : Counts
 
 abbrev pub lent : List ℕ → List ℕ → List ℕ → List ℕ → List ℕ → Counts → Lent
-lent script nodes types lists roots counts = record { script = script; nodes = nodes; types = types; lists = lists; roots = roots; counts = counts }
+lent script nodes types lists roots counts =
+    record {
+      script = script;
+      nodes = nodes;
+      types = types;
+      lists = lists;
+      roots = roots;
+      counts = counts;
+    }
 
 -- the list cells that are lent at least for each byte of the script
 abbrev pub cellsPerByte : ℕ
 cellsPerByte = 8
 
--- 1: the script is too long; 2: an array has fewer cells than it needs for each byte of it; 0: neither
+-- 1: the script is too long; 2: an array has fewer cells than each byte of it needs; 0: neither
 unfoldable pub refusal : Lent → ℕ
 refusal l =
     let n = length (l .script) in

@@ -36,4 +36,9 @@ sortOf S.node = 9
 
 -- the members of a list, by the number of its sort; tokens for any other number
 unfoldable pub membersOf : ℕ → Members
-membersOf k = if (eqb k 3) S.params (if (eqb k 5) S.fns (if (eqb k 6) S.nodes (if (eqb k 7) S.fields (if (eqb k 8) S.cases S.tokens))))
+membersOf k =
+    if (eqb k 3) S.params
+    (if (eqb k 5) S.fns
+    (if (eqb k 6) S.nodes
+    (if (eqb k 7) S.fields
+    (if (eqb k 8) S.cases S.tokens))))

@@ -1,4 +1,5 @@
--- A table whose entries are made from those before them, as `rules` makes shapes: what stands at a place of it.
+-- A table whose entries are made from those before them, as `rules` makes shapes: what stands at a
+-- place of it.
 use mathlib.Core.Option.{Option}
 use mathlib.Core.List.{List, [], _∷_, _++_}
 use Prim.Native.Nat.{ℕ, zero, suc}

@@ -11,7 +11,8 @@ ghost use mathlib.Core.Path.{_≡_};
 ghost use Prim.Native.Nat.{_+_, _≤_};
 ghost use lib.ListN.{length, getD, take, drop};
 ghost use Rattle.rules.specs.Layout.{nodeWidth, typeWidth};
-ghost use Rattle.ast.specs.Decode.{tokenAt, runAt, nodeOf, typeOf, nodeAt, typeAt, nodeRead, typeRead};
+ghost use Rattle.ast.specs.Decode.{tokenAt, runAt, nodeOf, typeOf, nodeAt, typeAt, nodeRead};
+ghost use Rattle.ast.specs.Decode.{typeRead};
 
 pub enum NodeRead {
     Known(Node),

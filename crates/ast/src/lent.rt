@@ -20,7 +20,12 @@ pub fn refusal(
     roots: &[u32],
     counts: Counts,
 ) -> u32
-    ensures { λ r. ⌜ r ≡ refusalOf (lent (now (script .entry)) (now (nodes .entry)) (now (types .entry)) (now (lists .entry)) (now (roots .entry)) counts) ⌝ }
+    ensures { λ r.
+        let tree =
+        lent (now (script .entry)) (now (nodes .entry)) (now (types .entry))
+        (now (lists .entry)) (now (roots .entry)) counts
+        in
+        ⌜ r ≡ refusalOf tree ⌝ }
 {
     let n = script.len();
     if MAX_BYTES < n {

@@ -20,8 +20,8 @@ refusals a b =
     (if (eqb (refusal b) rTooLong) rTooLong
     (if (eqb (refusal a) 0) (refusal b) (refusal a)))
 
--- 4 where anything that the roots of either tree reach is malformed, else whether the shapes are the
--- same
+-- 4 where anything that the roots of either tree reach is malformed, else whether the shapes are
+-- the same
 unfoldable pub compareShapes : Option Shapes → Option Shapes → Answer Bool
 compareShapes none y = refused rMalformed
 compareShapes (some σ) none = refused rMalformed

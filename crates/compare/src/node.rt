@@ -1,4 +1,5 @@
-// When two nodes, or two lists that hold nodes, agree. The number of a node falls from call to call.
+// When two nodes, or two lists that hold nodes, agree. The number of a node falls from call to
+// call.
 use crate::kind::kind_at;
 use crate::type_expr::agree_fns;
 use crate::type_expr::agree_params;
@@ -36,8 +37,9 @@ impl Order {
     const ARGUMENTS_LAST: u32 = 16;
 }
 
-// The order for node `i`. Its kind's own one has the left side of an operator and the target of a call last; where that is a name or an
-// atom, it is compared first. Either order decides the same, and so chains on the right and in arguments take no stack either.
+// The order for node `i`. Its kind's own one has the left side of an operator and the target of a
+// call last; where that is a name or an atom, it is compared first. Either order decides the same,
+// and so chains on the right and in arguments take no stack either.
 fn order_of(nodes: &&[u32], kind: u32, i: u32) -> u32
     ensures { λ r. ⌜ Ordered kind r ⌝ }
 {
@@ -56,8 +58,9 @@ fn order_of(nodes: &&[u32], kind: u32, i: u32) -> u32
     kind
 }
 
-// The six parts of a node in an order, eight bits each from the lowest on; the last is the child or the list that is compared
-// last. Of the eight bits the upper four are the part's sort, 0 where there is none, and the lower four its cell in the record.
+// The six parts of a node in an order, eight bits each from the lowest on; the last is the child or
+// the list that is compared last. Of the eight bits the upper four are the part's sort, 0 where
+// there is none, and the lower four its cell in the record.
 fn parts_of(order: u32) -> u64
     requires { ⌜ order < 17 ⌝ }
     ensures { λ r. ⌜ r ≡ restOf order 0 ⌝ }
@@ -118,8 +121,9 @@ const LAST: usize = 5;
 
 const BEFORE_LAST: u64 = 0x10000000000;
 
-// Node `i`, below `n`, and node `j`, below `m`. The last child, or the last member of the last list, is the last thing done, and is passed
-// nothing that lies in this function's frame: so a long chain takes no stack.
+// Node `i`, below `n`, and node `j`, below `m`. The last child, or the last member of the last
+// list, is the last thing done, and is passed nothing that lies in this function's frame: so a long
+// chain takes no stack.
 pub(crate) fn agree_node(
     s: &&[u8],
     nodes: &&[u32],
@@ -136,7 +140,16 @@ pub(crate) fn agree_node(
     m: u32,
     j: NodeId,
 ) -> bool
-    ensures { λ r. ⌜ Decides r (Agree (nodesBelow (view (now (now (s .entry))) (now (now (nodes .entry))) (now (now (types .entry))) (now (now (cells .entry))) k) n (i .0)) (nodesBelow (view (now (now (s2 .entry))) (now (now (nodes2 .entry))) (now (now (types2 .entry))) (now (now (cells2 .entry))) k2) m (j .0))) ⌝ }
+    ensures { λ r.
+        let left =
+        view (now (now (s .entry))) (now (now (nodes .entry))) (now (now (types .entry)))
+        (now (now (cells .entry))) k
+        in
+        let right =
+        view (now (now (s2 .entry))) (now (now (nodes2 .entry))) (now (now (types2 .entry)))
+        (now (now (cells2 .entry))) k2
+        in
+        ⌜ Decides r (Agree (nodesBelow left n (i .0)) (nodesBelow right m (j .0))) ⌝ }
 {
     if n <= i.0 {
         return false;
@@ -330,7 +343,20 @@ fn agree_parts(
     order: u32,
 ) -> bool
     requires { ⌜ order < 17 ⌝ }
-    ensures { λ r. ⌜ Decides r ((x : ℕ) → x < 5 → PartsAgree (envBelow (view (now (now (s .entry))) (now (now (nodes .entry))) (now (now (types .entry))) (now (now (cells .entry))) k) i) (envBelow (view (now (now (s2 .entry))) (now (now (nodes2 .entry))) (now (now (types2 .entry))) (now (now (cells2 .entry))) k2) j) order (now (now (nodes .entry))) (nodeWidth * i) (now (now (nodes2 .entry))) (nodeWidth * j) x) ⌝ }
+    ensures { λ r.
+        let left =
+        view (now (now (s .entry))) (now (now (nodes .entry))) (now (now (types .entry)))
+        (now (now (cells .entry))) k
+        in
+        let right =
+        view (now (now (s2 .entry))) (now (now (nodes2 .entry))) (now (now (types2 .entry)))
+        (now (now (cells2 .entry))) k2
+        in
+        let agrees =
+        PartsAgree (envBelow left i) (envBelow right j) order
+        (now (now (nodes .entry))) (nodeWidth * i) (now (now (nodes2 .entry))) (nodeWidth * j)
+        in
+        ⌜ Decides r ((x : ℕ) → x < 5 → agrees x) ⌝ }
 {
     let mut rest = parts_of(order);
     let mut x = 0;
@@ -380,7 +406,17 @@ fn agree_part(
     at2: usize,
     sort: u64,
 ) -> bool
-    ensures { λ r. ⌜ Decides r (PartAgrees (envBelow (view (now (now (s .entry))) (now (now (nodes .entry))) (now (now (types .entry))) (now (now (cells .entry))) k) i) (envBelow (view (now (now (s2 .entry))) (now (now (nodes2 .entry))) (now (now (types2 .entry))) (now (now (cells2 .entry))) k2) j) (partOf sort) (now (now (nodes .entry))) at (now (now (nodes2 .entry))) at2) ⌝ }
+    ensures { λ r.
+        let left =
+        view (now (now (s .entry))) (now (now (nodes .entry))) (now (now (types .entry)))
+        (now (now (cells .entry))) k
+        in
+        let right =
+        view (now (now (s2 .entry))) (now (now (nodes2 .entry))) (now (now (types2 .entry)))
+        (now (now (cells2 .entry))) k2
+        in
+        ⌜ Decides r (PartAgrees (envBelow left i) (envBelow right j) (partOf sort)
+        (now (now (nodes .entry))) at (now (now (nodes2 .entry))) at2) ⌝ }
 {
     if sort == Sort::TOKEN {
         return agree_token_at(s, nodes, at, s2, nodes2, at2);
@@ -529,7 +565,16 @@ fn agree_nodes(
     j: u32,
     r2: Run,
 ) -> bool
-    ensures { λ b. ⌜ Decides b (Agree (shapes (envBelow (view (now (now (s .entry))) (now (now (nodes .entry))) (now (now (types .entry))) (now (now (cells .entry))) k) i) r) (shapes (envBelow (view (now (now (s2 .entry))) (now (now (nodes2 .entry))) (now (now (types2 .entry))) (now (now (cells2 .entry))) k2) j) r2)) ⌝ }
+    ensures { λ b.
+        let left =
+        view (now (now (s .entry))) (now (now (nodes .entry))) (now (now (types .entry)))
+        (now (now (cells .entry))) k
+        in
+        let right =
+        view (now (now (s2 .entry))) (now (now (nodes2 .entry))) (now (now (types2 .entry)))
+        (now (now (cells2 .entry))) k2
+        in
+        ⌜ Decides b (Agree (shapes (envBelow left i) r) (shapes (envBelow right j) r2)) ⌝ }
 {
     if r.len != r2.len {
         return false;
@@ -586,7 +631,16 @@ fn agree_fields(
     j: u32,
     r2: Run,
 ) -> bool
-    ensures { λ b. ⌜ Decides b (Agree (fields (envBelow (view (now (now (s .entry))) (now (now (nodes .entry))) (now (now (types .entry))) (now (now (cells .entry))) k) i) r) (fields (envBelow (view (now (now (s2 .entry))) (now (now (nodes2 .entry))) (now (now (types2 .entry))) (now (now (cells2 .entry))) k2) j) r2)) ⌝ }
+    ensures { λ b.
+        let left =
+        view (now (now (s .entry))) (now (now (nodes .entry))) (now (now (types .entry)))
+        (now (now (cells .entry))) k
+        in
+        let right =
+        view (now (now (s2 .entry))) (now (now (nodes2 .entry))) (now (now (types2 .entry)))
+        (now (now (cells2 .entry))) k2
+        in
+        ⌜ Decides b (Agree (fields (envBelow left i) r) (fields (envBelow right j) r2)) ⌝ }
 {
     if r.len != r2.len {
         return false;
@@ -646,7 +700,16 @@ fn agree_cases(
     j: u32,
     r2: Run,
 ) -> bool
-    ensures { λ b. ⌜ Decides b (Agree (cases (envBelow (view (now (now (s .entry))) (now (now (nodes .entry))) (now (now (types .entry))) (now (now (cells .entry))) k) i) r) (cases (envBelow (view (now (now (s2 .entry))) (now (now (nodes2 .entry))) (now (now (types2 .entry))) (now (now (cells2 .entry))) k2) j) r2)) ⌝ }
+    ensures { λ b.
+        let left =
+        view (now (now (s .entry))) (now (now (nodes .entry))) (now (now (types .entry)))
+        (now (now (cells .entry))) k
+        in
+        let right =
+        view (now (now (s2 .entry))) (now (now (nodes2 .entry))) (now (now (types2 .entry)))
+        (now (now (cells2 .entry))) k2
+        in
+        ⌜ Decides b (Agree (cases (envBelow left i) r) (cases (envBelow right j) r2)) ⌝ }
 {
     if r.len != r2.len {
         return false;

@@ -1,4 +1,5 @@
-// When two types, or two lists of arguments or of fns, agree. The number of a type falls from call to call.
+// When two types, or two lists of arguments or of fns, agree. The number of a type falls from call
+// to call.
 use crate::kind::kind_at;
 use crate::word::agree_token_at;
 use crate::word::agree_words;
@@ -14,8 +15,8 @@ ghost use Rattle.rules.specs.Shape.{params, fns};
 ghost use Rattle.compare.specs.Agree.{Agree, Decides};
 ghost use Rattle.compare.specs.Shapes.{typesBelow, typeEnv};
 
-// Type `i`, below `n`, and type `j`, below `m`. The last call is the last thing done, and passes nothing that lies in this function's
-// frame, so that a long chain takes no stack.
+// Type `i`, below `n`, and type `j`, below `m`. The last call is the last thing done, and passes
+// nothing that lies in this function's frame, so that a long chain takes no stack.
 pub(crate) fn agree_type(
     s: &&[u8],
     types: &&[u32],
@@ -28,7 +29,13 @@ pub(crate) fn agree_type(
     m: u32,
     j: TypeExprId,
 ) -> bool
-    ensures { λ r. ⌜ Decides r (Agree (typesBelow (now (now (s .entry))) (now (now (cells .entry))) (now (now (types .entry))) n (i .0)) (typesBelow (now (now (s2 .entry))) (now (now (cells2 .entry))) (now (now (types2 .entry))) m (j .0))) ⌝ }
+    ensures { λ r.
+        let left =
+        typesBelow (now (now (s .entry))) (now (now (cells .entry))) (now (now (types .entry))) in
+        let right =
+        typesBelow (now (now (s2 .entry))) (now (now (cells2 .entry))) (now (now (types2 .entry)))
+        in
+        ⌜ Decides r (Agree (left n (i .0)) (right m (j .0))) ⌝ }
 {
     if n <= i.0 {
         return false;
@@ -106,7 +113,12 @@ pub(crate) fn agree_params(
     m: u32,
     r2: Run,
 ) -> bool
-    ensures { λ b. ⌜ Decides b (Agree (params (typeEnv (now (now (s .entry))) (now (now (cells .entry))) (now (now (types .entry))) n) r) (params (typeEnv (now (now (s2 .entry))) (now (now (cells2 .entry))) (now (now (types2 .entry))) m) r2)) ⌝ }
+    ensures { λ b.
+        let left =
+        typeEnv (now (now (s .entry))) (now (now (cells .entry))) (now (now (types .entry))) n in
+        let right =
+        typeEnv (now (now (s2 .entry))) (now (now (cells2 .entry))) (now (now (types2 .entry))) m in
+        ⌜ Decides b (Agree (params left r) (params right r2)) ⌝ }
 {
     if r.len != r2.len {
         return false;
@@ -158,7 +170,12 @@ pub(crate) fn agree_fns(
     m: u32,
     r2: Run,
 ) -> bool
-    ensures { λ b. ⌜ Decides b (Agree (fns (typeEnv (now (now (s .entry))) (now (now (cells .entry))) (now (now (types .entry))) n) r) (fns (typeEnv (now (now (s2 .entry))) (now (now (cells2 .entry))) (now (now (types2 .entry))) m) r2)) ⌝ }
+    ensures { λ b.
+        let left =
+        typeEnv (now (now (s .entry))) (now (now (cells .entry))) (now (now (types .entry))) n in
+        let right =
+        typeEnv (now (now (s2 .entry))) (now (now (cells2 .entry))) (now (now (types2 .entry))) m in
+        ⌜ Decides b (Agree (fns left r) (fns right r2)) ⌝ }
 {
     if r.len != r2.len {
         return false;

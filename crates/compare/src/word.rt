@@ -41,7 +41,10 @@ pub(crate) fn agree_token_at(
     b: &&[u32],
     at2: usize,
 ) -> bool
-    ensures { λ r. ⌜ Decides r (Agree (word (now (now (s .entry))) (tokenAt (now (now (a .entry))) at)) (word (now (now (s2 .entry))) (tokenAt (now (now (b .entry))) at2))) ⌝ }
+    ensures { λ r.
+        let left = word (now (now (s .entry))) (tokenAt (now (now (a .entry))) at) in
+        let right = word (now (now (s2 .entry))) (tokenAt (now (now (b .entry))) at2) in
+        ⌜ Decides r (Agree left right) ⌝ }
 {
     let t = token_at(*a, at);
     let t2 = token_at(*b, at2);
@@ -68,7 +71,10 @@ pub(crate) fn agree_words(
     cells2: &&[u32],
     r2: Run,
 ) -> bool
-    ensures { λ b. ⌜ Decides b (Agree (words (wordEnv (now (now (s .entry))) (now (now (cells .entry)))) r) (words (wordEnv (now (now (s2 .entry))) (now (now (cells2 .entry)))) r2)) ⌝ }
+    ensures { λ b.
+        let left = wordEnv (now (now (s .entry))) (now (now (cells .entry))) in
+        let right = wordEnv (now (now (s2 .entry))) (now (now (cells2 .entry))) in
+        ⌜ Decides b (Agree (words left r) (words right r2)) ⌝ }
 {
     if r.len != r2.len {
         return false;

@@ -48,25 +48,34 @@ typeLine cells types i = line (bytes "type") (number i ∷ typeText cells (types
 
 unfoldable pub countsLine : ℕ → ℕ → ℕ → List ℕ
 countsLine nodes types values =
-    line (bytes "tree") (form (bytes "nodes") (number nodes ∷ []) ∷ form (bytes "types") (number types ∷ []) ∷ form (bytes "values") (number values ∷ []) ∷ [])
+    line (bytes "tree")
+    (form (bytes "nodes") (number nodes ∷ []) ∷
+    form (bytes "types") (number types ∷ []) ∷
+    form (bytes "values") (number values ∷ []) ∷ [])
 
 unfoldable pub rootsLine : (ℕ → ℕ) → ℕ → List ℕ
-rootsLine root n = (40 ∷ bytes "roots") ++ (each (λ i. gap 1 ++ number (root i)) n ++ (41 ∷ 10 ∷ []))
+rootsLine root n =
+    (40 ∷ bytes "roots") ++ (each (λ i. gap 1 ++ number (root i)) n ++ (41 ∷ 10 ∷ []))
 
 -- an error's five numbers under a name
 unfoldable pub numbersLine : List ℕ → Diagnostic → List ℕ
-numbersLine name e = line name (number (e .number) ∷ number (e .start) ∷ number (e .len) ∷ number (e .wanted) ∷ number (e .seen) ∷ [])
+numbersLine name e =
+    line name
+    (number (e .number) ∷ number (e .start) ∷ number (e .len) ∷
+    number (e .wanted) ∷ number (e .seen) ∷ [])
 
 -- 10 is a refusal, and has no kinds
 unfoldable pub errorLine : Diagnostic → List ℕ
 errorLine e =
     elim (eqb (e .number) eTooDeep) [
-      | true ↦ line (bytes "refused") (number (e .number) ∷ number (e .start) ∷ number (e .len) ∷ [])
+      | true ↦
+          line (bytes "refused") (number (e .number) ∷ number (e .start) ∷ number (e .len) ∷ [])
       | false ↦ numbersLine (bytes "error") e
     ]
 
 -- a tree by its counts and its records, wherever they are taken from
-unfoldable pub treeText : Counts → List ℕ → (ℕ → Option Node) → (ℕ → Option TypeExpr) → (ℕ → ℕ) → (ℕ → Diagnostic) → List ℕ
+unfoldable pub treeText : Counts → List ℕ → (ℕ → Option Node) → (ℕ → Option TypeExpr)
+    → (ℕ → ℕ) → (ℕ → Diagnostic) → List ℕ
 treeText c cells nodes types root error =
     countsLine (c .nodes) (c .types) (c .values)
     ++ (each (nodeLine cells nodes) (c .nodes)
@@ -77,11 +86,21 @@ treeText c cells nodes types root error =
 -- ---- the listing of a reading
 
 abbrev pub countsOf : Tree → List Diagnostic → Counts
-countsOf t es = record { nodes = length (t .arena .nodes); types = length (t .arena .types); cells = length (t .arena .cells); roots = length (t .roots); values = t .arena .values; diagnostics = length es }
+countsOf t es =
+    record {
+      nodes = length (t .arena .nodes);
+      types = length (t .arena .types);
+      cells = length (t .arena .cells);
+      roots = length (t .roots);
+      values = t .arena .values;
+      diagnostics = length es;
+    }
 
 unfoldable pub listingOf : Reading → List ℕ
 listingOf (read t es) =
-    treeText (countsOf t es) (t .arena .cells) (getElem? (t .arena .nodes)) (getElem? (t .arena .types)) (λ i. getD (t .roots) i 0) (λ i. getD es i noError)
+    treeText (countsOf t es) (t .arena .cells)
+    (getElem? (t .arena .nodes)) (getElem? (t .arena .types))
+    (λ i. getD (t .roots) i 0) (λ i. getD es i noError)
 listingOf (ended e) = errorLine e
 
 -- ---- the listing of arrays
@@ -105,11 +124,14 @@ diagnosticAt xs i =
       seen = getD xs (diagnosticWidth * i + 4) 0;
     }
 
--- what is listed of an answer and of arrays whoever filled them; of a refusal without a place its number
+-- what is listed of an answer and of arrays whoever filled them; of a refusal without a place its
+-- number
 unfoldable pub textOf : Parsed → Arrays → List ℕ
 textOf (P.Tree c) a =
     elim (within c a) [
-      | true ↦ treeText c (take (c .cells) (a .lists)) (nodeAt (a .nodes)) (typeAt (a .types)) (λ i. getD (a .roots) i 0) (diagnosticAt (a .diagnostics))
+      | true ↦
+          treeText c (take (c .cells) (a .lists)) (nodeAt (a .nodes)) (typeAt (a .types))
+          (λ i. getD (a .roots) i 0) (diagnosticAt (a .diagnostics))
       | false ↦ malformed
     ]
 textOf (P.Error e) a = errorLine e
@@ -117,11 +139,16 @@ textOf (P.Refused n) a = line (bytes "refused") (number n ∷ [])
 
 -- ---- into a buffer
 
--- the text in front; refused, with the buffer as it was, where that is too short (2), and where the text has what is no byte, or 2^64 - 1 bytes or more (4)
+-- the text in front; refused, with the buffer as it was, where that is too short (2), and where the
+-- text has what is no byte, or 2^64 - 1 bytes or more (4)
 unfoldable pub intoBuffer : List ℕ → List ℕ → Result
 intoBuffer text buffer =
     elim (plain text && ltb (length text) 18446744073709551615) [
-      | true ↦ elim (leb (length text) (length buffer)) [ true ↦ inFront text buffer | false ↦ refuse rTooShort buffer ]
+      | true ↦
+          elim (leb (length text) (length buffer)) [
+            | true ↦ inFront text buffer
+            | false ↦ refuse rTooShort buffer
+          ]
       | false ↦ refuse rMalformed buffer
     ]
 

@@ -36,9 +36,14 @@ startOr other S.Nothing = other
 startOr other (S.Refused n) = S.Refused n
 
 unfoldable pub arrayStep : List ℕ → Run → Start → Step
-arrayStep cells members other = if (inside (memberWidth Sc.nodes) cells members) (if (eqb (members .len) 0) (St.Done other) (St.Descend (record { 0 = getD cells (members .start) 0 }) other)) (St.Done (S.Refused rMalformed))
+arrayStep cells members other =
+    if (inside (memberWidth Sc.nodes) cells members)
+    (if (eqb (members .len) 0) (St.Done other)
+    (St.Descend (record { 0 = getD cells (members .start) 0 }) other))
+    (St.Done (S.Refused rMalformed))
 
--- one record of it: an answer, or the child to go on with and what is answered where that has no start
+-- one record of it: an answer, or the child to go on with and what is answered where that has no
+-- start
 module _ (script cells : List ℕ) (other : Start) where
   unfoldable pub stepOf : Option Node → Step
   stepOf none = St.Done (S.Refused rMalformed)
@@ -59,7 +64,10 @@ module _ (script cells : List ℕ) (other : Start) where
 
 -- the start that a number stands for
 unfoldable pub decodeStart : ℕ → Start
-decodeStart c = if (ltb c 4294967296) (S.At c) (if (eqb c 4294967296) S.Nothing (S.Refused ((c - 4294967296 - 1) % 4294967296)))
+decodeStart c =
+    if (ltb c 4294967296) (S.At c)
+    (if (eqb c 4294967296) S.Nothing
+    (S.Refused ((c - 4294967296 - 1) % 4294967296)))
 
 -- what an Option or an Array holds; the other types hold none, and have their own number `i` here
 unfoldable pub innerOf : Option TypeExpr → ℕ → ℕ

@@ -19,8 +19,11 @@ ghost use mathlib.Core.Path.{_≡_};
 ghost use Prim.Native.Nat.{_≤_};
 ghost use Rattle.ast.specs.Decode.{nodeAt, typeAt};
 ghost use Rattle.ast.specs.Answer.{lent};
-ghost use Rattle.lookups.specs.Lookup.{tokenStart, matchStart, wellFormedToken, startAt, typeTokenAt, nodeStart, typeToken, startAnswer, typeTokenAnswer};
-ghost use Rattle.lookups.specs.Descent.{startOr, asStart, decodeStart, asTypeToken, Innermost, arrayStep, stepOf, innerOf};
+ghost use Rattle.lookups.specs.Lookup.{tokenStart, matchStart, wellFormedToken, startAt};
+ghost use Rattle.lookups.specs.Lookup.{typeTokenAt, nodeStart, typeToken, startAnswer};
+ghost use Rattle.lookups.specs.Lookup.{typeTokenAnswer};
+ghost use Rattle.lookups.specs.Descent.{startOr, asStart, decodeStart, asTypeToken};
+ghost use Rattle.lookups.specs.Descent.{Innermost, arrayStep, stepOf, innerOf};
 
 pub enum Start {
     At(u32),
@@ -33,7 +36,8 @@ pub enum TypeToken {
     Refused(u32),
 }
 
-// A record of the start lookup: its answer, or the child to go on with, and what is answered where that has none.
+// A record of the start lookup: its answer, or the child to go on with, and what is answered where
+// that has none.
 enum Step {
     Done(Start),
     Descend(NodeId, Start),
@@ -84,7 +88,9 @@ fn array_step(cells: &[u32], members: Run, other: Start) -> Step
 }
 
 fn start_step(script: &[u8], nodes: &[u32], cells: &[u32], id: NodeId, other: Start) -> Step
-    ensures { λ r. ⌜ r ≡ stepOf (now (script .entry)) (now (cells .entry)) other (nodeAt (now (nodes .entry)) (id .0)) ⌝ }
+    ensures { λ r.
+        let read = nodeAt (now (nodes .entry)) (id .0) in
+        ⌜ r ≡ stepOf (now (script .entry)) (now (cells .entry)) other read ⌝ }
 {
     let read = ast::layout::node(nodes, id);
     match read {
@@ -184,10 +190,13 @@ fn decode_start(code: u64) -> Start
     Start::Refused(((code - NOTHING - 1) % NOTHING) as u32)
 }
 
-// Where node `id` starts, and `other` where it has no start. The call is the last thing done, and passes nothing that lies in
-// this function's frame, so that a long chain takes no stack.
+// Where node `id` starts, and `other` where it has no start. The call is the last thing done, and
+// passes nothing that lies in this function's frame, so that a long chain takes no stack.
 fn start_from(script: &&[u8], nodes: &&[u32], cells: &&[u32], id: NodeId, other: Start) -> u64
-    ensures { λ r. ⌜ decodeStart r ≡ startOr other (asStart (startAt (now (now (script .entry))) (now (now (cells .entry))) (now (now (nodes .entry))) (id .0))) ⌝ }
+    ensures { λ r.
+        let bytes = now (now (script .entry)) in
+        let start = startAt bytes (now (now (cells .entry))) (now (now (nodes .entry))) (id .0) in
+        ⌜ decodeStart r ≡ startOr other (asStart start) ⌝ }
 {
     let step = start_step(*script, *nodes, *cells, id, other);
     match step {
@@ -212,7 +221,12 @@ pub fn node_start(
     counts: Counts,
     id: NodeId,
 ) -> Start
-    ensures { λ r. ⌜ startAnswer r ≡ nodeStart (lent (now (script .entry)) (now (nodes .entry)) (now (types .entry)) (now (lists .entry)) (now (roots .entry)) counts) (id .0) ⌝ }
+    ensures { λ r.
+        let tree =
+        lent (now (script .entry)) (now (nodes .entry)) (now (types .entry))
+        (now (lists .entry)) (now (roots .entry)) counts
+        in
+        ⌜ startAnswer r ≡ nodeStart tree (id .0) ⌝ }
 {
     let refused = refusal(script, nodes, types, lists, roots, counts);
     if refused != 0 {
@@ -260,9 +274,9 @@ fn inner_of(types: &[u32], id: TypeExprId) -> TypeExprId
     }
 }
 
-// The number of the type whose token type `id` has: the first on the way down that holds none below its own number. The call is the
-// last thing done, and passes nothing that lies in this function's frame, so that a long chain takes no stack; a struct that is
-// returned would lie there.
+// The number of the type whose token type `id` has: the first on the way down that holds none below
+// its own number. The call is the last thing done, and passes nothing that lies in this function's
+// frame, so that a long chain takes no stack; a struct that is returned would lie there.
 fn innermost(types: &&[u32], id: TypeExprId) -> u32
     ensures { λ r. ⌜ Innermost (now (now (types .entry))) (id .0) r ⌝ }
 {
@@ -277,7 +291,9 @@ fn innermost(types: &&[u32], id: TypeExprId) -> u32
 // The token of a type that holds none below its own number.
 fn token_here(script: &[u8], types: &[u32], id: TypeExprId) -> TypeToken
     requires { ⌜ id .0 ≤ innerOf (typeAt (now types) (id .0)) (id .0) ⌝ }
-    ensures { λ r. ⌜ r ≡ asTypeToken (typeTokenAt (now (script .entry)) (now (types .entry)) (id .0)) ⌝ }
+    ensures { λ r.
+        let token = typeTokenAt (now (script .entry)) (now (types .entry)) (id .0) in
+        ⌜ r ≡ asTypeToken token ⌝ }
 {
     let read = ast::layout::type_expr(types, id);
     match read {
@@ -302,7 +318,12 @@ pub fn type_token(
     counts: Counts,
     id: TypeExprId,
 ) -> TypeToken
-    ensures { λ r. ⌜ typeTokenAnswer r ≡ typeToken (lent (now (script .entry)) (now (nodes .entry)) (now (types .entry)) (now (lists .entry)) (now (roots .entry)) counts) (id .0) ⌝ }
+    ensures { λ r.
+        let tree =
+        lent (now (script .entry)) (now (nodes .entry)) (now (types .entry))
+        (now (lists .entry)) (now (roots .entry)) counts
+        in
+        ⌜ typeTokenAnswer r ≡ typeToken tree (id .0) ⌝ }
 {
     let refused = refusal(script, nodes, types, lists, roots, counts);
     if refused != 0 {

@@ -239,7 +239,8 @@ fn fill(script: &[u8], positions: &[u32], places: &mut [u32])
 pub fn line_columns(script: &[u8], positions: &[u32], places: &mut [u32]) -> Filled
     ensures { λ r.
         let left = outcome r (now (places .exit)) in
-        ⌜ left ≡ lineColumns (now (script .entry)) (now (positions .entry)) (now (places .entry)) ⌝ }
+        let bytes = now (script .entry) in
+        ⌜ left ≡ lineColumns bytes (now (positions .entry)) (now (places .entry)) ⌝ }
 {
     if MAX_BYTES < script.len() {
         return Filled::Refused(Refusal::TOO_LONG);

@@ -39,7 +39,8 @@ each text (suc n) = each text n ++ text n
 
 -- the lines of all errors; nothing for one that is refused
 abbrev pub textsOf : List ℕ → List ℕ → List ℕ
-textsOf script cells = each (λ i. textIn (entry script (errorAt cells i))) (length cells / diagnosticWidth)
+textsOf script cells =
+    each (λ i. textIn (entry script (errorAt cells i))) (length cells / diagnosticWidth)
 
 -- the lines of an error at a place; nothing where it has no words
 unfoldable pub linesAt : Place → Diagnostic → List ℕ
