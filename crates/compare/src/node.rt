@@ -10,9 +10,9 @@ use crate::word::formed_at;
 use ast::layout::cell;
 use ast::layout::run_at;
 use ast::schema::CASE_WIDTH;
-use ast::schema::FIELD_WIDTH;
 use ast::schema::NODE_WIDTH;
 use ast::schema::Sort;
+use ast::schema::member_width;
 use rules::Node;
 use rules::NodeId;
 use rules::NodeKind;
@@ -21,7 +21,8 @@ use rules::TypeExprId;
 ghost use mathlib.Core.Path.{_≡_};
 ghost use Prim.Native.Nat.{ℕ, _*_, _<_};
 ghost use Rattle.rules.specs.Layout.{nodeWidth};
-ghost use Rattle.rules.specs.Shape.{shapes, fields, cases};
+ghost use Rattle.rules.specs.Shape.{word, shapes, cases};
+ghost use Rattle.ast.specs.Decode.{tokenAt};
 ghost use Rattle.compare.specs.Agree.{Agree, Decides};
 ghost use Rattle.compare.specs.Shapes.{view, nodesBelow, envBelow};
 ghost use Rattle.compare.specs.Parts.{partOf, PartAgrees, PartsAgree, Ordered, restOf};
@@ -182,6 +183,78 @@ pub(crate) fn agree_node(
     ) {
         return false;
     }
+    agree_last(
+        s,
+        nodes,
+        types,
+        cells,
+        k,
+        i.0,
+        s2,
+        nodes2,
+        types2,
+        cells2,
+        k2,
+        j.0,
+        order,
+    )
+}
+
+// The names of two members of a list, where its members have one.
+fn agree_name(
+    s: &&[u8],
+    cells: &&[u32],
+    at: usize,
+    s2: &&[u8],
+    cells2: &&[u32],
+    at2: usize,
+    sort: u64,
+) -> bool
+    ensures { λ r.
+        let left = word (now (now (s .entry))) (tokenAt (now (now (cells .entry))) at) in
+        let right = word (now (now (s2 .entry))) (tokenAt (now (now (cells2 .entry))) at2) in
+        ⌜ Decides r (sort ≡ 7 → Agree left right) ⌝ }
+{
+    if sort == Sort::FIELDS {
+        return agree_token_at(s, cells, at, s2, cells2, at2);
+    }
+    true
+}
+
+// The last part of two nodes in one order: nothing, a node, or a list of fields or of nodes. Only
+// `agree_node` calls this, and as the last thing done: so it is put into its frame, and the last
+// node or member is a turn of its loop.
+fn agree_last(
+    s: &&[u8],
+    nodes: &&[u32],
+    types: &&[u32],
+    cells: &&[u32],
+    k: u32,
+    i: u32,
+    s2: &&[u8],
+    nodes2: &&[u32],
+    types2: &&[u32],
+    cells2: &&[u32],
+    k2: u32,
+    j: u32,
+    order: u32,
+) -> bool
+    requires { ⌜ order < 17 ⌝ }
+    ensures { λ r.
+        let left =
+        view (now (now (s .entry))) (now (now (nodes .entry))) (now (now (types .entry)))
+        (now (now (cells .entry))) k
+        in
+        let right =
+        view (now (now (s2 .entry))) (now (now (nodes2 .entry))) (now (now (types2 .entry)))
+        (now (now (cells2 .entry))) k2
+        in
+        let agrees =
+        PartsAgree (envBelow left i) (envBelow right j) order
+        (now (now (nodes .entry))) (nodeWidth * i) (now (now (nodes2 .entry))) (nodeWidth * j)
+        in
+        ⌜ Decides r (agrees 5) ⌝ }
+{
     let last = parts_of(order) / BEFORE_LAST;
     let sort = last / 16;
     if sort == 0 {
@@ -195,118 +268,63 @@ pub(crate) fn agree_node(
             types,
             cells,
             k,
-            i.0,
-            NodeId(cell(*nodes, Node::WIDTH * i.0 as usize, o)),
+            i,
+            NodeId(cell(*nodes, Node::WIDTH * i as usize, o)),
             s2,
             nodes2,
             types2,
             cells2,
             k2,
-            j.0,
-            NodeId(cell(*nodes2, Node::WIDTH * j.0 as usize, o)),
+            j,
+            NodeId(cell(*nodes2, Node::WIDTH * j as usize, o)),
         );
     }
-    let r = run_at(*nodes, Node::WIDTH * i.0 as usize + o);
-    let r2 = run_at(*nodes2, Node::WIDTH * j.0 as usize + o);
-    if sort == Sort::FIELDS {
-        if r.len != r2.len {
-            return false;
-        }
-        let mut at = r.start as usize;
-        let mut at2 = r2.start as usize;
-        let mut left = r.len as usize;
-        if cells.len() < at + left * FIELD_WIDTH {
-            return false;
-        }
-        if cells2.len() < at2 + left * FIELD_WIDTH {
-            return false;
-        }
-        if left == 0 {
-            return true;
-        }
-        while 1 < left {
-            if !agree_token_at(s, cells, at, s2, cells2, at2) {
-                return false;
-            }
-            if !agree_node(
-                s,
-                nodes,
-                types,
-                cells,
-                k,
-                i.0,
-                NodeId(cell(*cells, at, 3)),
-                s2,
-                nodes2,
-                types2,
-                cells2,
-                k2,
-                j.0,
-                NodeId(cell(*cells2, at2, 3)),
-            ) {
-                return false;
-            }
-            at += FIELD_WIDTH;
-            at2 += FIELD_WIDTH;
-            left -= 1;
-        }
-        if !agree_token_at(s, cells, at, s2, cells2, at2) {
-            return false;
-        }
-        return agree_node(
-            s,
-            nodes,
-            types,
-            cells,
-            k,
-            i.0,
-            NodeId(cell(*cells, at, 3)),
-            s2,
-            nodes2,
-            types2,
-            cells2,
-            k2,
-            j.0,
-            NodeId(cell(*cells2, at2, 3)),
-        );
-    }
+    let r = run_at(*nodes, Node::WIDTH * i as usize + o);
+    let r2 = run_at(*nodes2, Node::WIDTH * j as usize + o);
     if r.len != r2.len {
         return false;
     }
     let mut at = r.start as usize;
     let mut at2 = r2.start as usize;
     let mut left = r.len as usize;
-    if cells.len() < at + left * NODE_WIDTH {
+    let width = member_width(sort);
+    if cells.len() < at + left * width {
         return false;
     }
-    if cells2.len() < at2 + left * NODE_WIDTH {
+    if cells2.len() < at2 + left * width {
         return false;
     }
     if left == 0 {
         return true;
     }
     while 1 < left {
+        if !agree_name(s, cells, at, s2, cells2, at2, sort) {
+            return false;
+        }
         if !agree_node(
             s,
             nodes,
             types,
             cells,
             k,
-            i.0,
-            NodeId(cell(*cells, at, 0)),
+            i,
+            NodeId(cell(*cells, at, width - 1)),
             s2,
             nodes2,
             types2,
             cells2,
             k2,
-            j.0,
-            NodeId(cell(*cells2, at2, 0)),
+            j,
+            NodeId(cell(*cells2, at2, width - 1)),
         ) {
             return false;
         }
-        at += NODE_WIDTH;
-        at2 += NODE_WIDTH;
+        at += width;
+        at2 += width;
         left -= 1;
+    }
+    if !agree_name(s, cells, at, s2, cells2, at2, sort) {
+        return false;
     }
     agree_node(
         s,
@@ -314,15 +332,15 @@ pub(crate) fn agree_node(
         types,
         cells,
         k,
-        i.0,
-        NodeId(cell(*cells, at, 0)),
+        i,
+        NodeId(cell(*cells, at, width - 1)),
         s2,
         nodes2,
         types2,
         cells2,
         k2,
-        j.0,
-        NodeId(cell(*cells2, at2, 0)),
+        j,
+        NodeId(cell(*cells2, at2, width - 1)),
     )
 }
 
@@ -388,7 +406,7 @@ fn agree_parts(
     true
 }
 
-// Two parts of one sort.
+// Two parts of one sort. A list of fields stands last in its record, and is not among these.
 fn agree_part(
     s: &&[u8],
     nodes: &&[u32],
@@ -406,6 +424,7 @@ fn agree_part(
     at2: usize,
     sort: u64,
 ) -> bool
+    requires { ⌜ (sort ≡ 7 → ⊥) ⌝ }
     ensures { λ r.
         let left =
         view (now (now (s .entry))) (now (now (nodes .entry))) (now (now (types .entry)))
@@ -475,24 +494,6 @@ fn agree_part(
     }
     if sort == Sort::NODES {
         return agree_nodes(
-            s,
-            nodes,
-            types,
-            cells,
-            k,
-            i,
-            run_at(*nodes, at),
-            s2,
-            nodes2,
-            types2,
-            cells2,
-            k2,
-            j,
-            run_at(*nodes2, at2),
-        );
-    }
-    if sort == Sort::FIELDS {
-        return agree_fields(
             s,
             nodes,
             types,
@@ -609,75 +610,6 @@ fn agree_nodes(
         }
         at += NODE_WIDTH;
         at2 += NODE_WIDTH;
-        left -= 1;
-    }
-    true
-}
-
-// Two lists of names with their values.
-fn agree_fields(
-    s: &&[u8],
-    nodes: &&[u32],
-    types: &&[u32],
-    cells: &&[u32],
-    k: u32,
-    i: u32,
-    r: Run,
-    s2: &&[u8],
-    nodes2: &&[u32],
-    types2: &&[u32],
-    cells2: &&[u32],
-    k2: u32,
-    j: u32,
-    r2: Run,
-) -> bool
-    ensures { λ b.
-        let left =
-        view (now (now (s .entry))) (now (now (nodes .entry))) (now (now (types .entry)))
-        (now (now (cells .entry))) k
-        in
-        let right =
-        view (now (now (s2 .entry))) (now (now (nodes2 .entry))) (now (now (types2 .entry)))
-        (now (now (cells2 .entry))) k2
-        in
-        ⌜ Decides b (Agree (fields (envBelow left i) r) (fields (envBelow right j) r2)) ⌝ }
-{
-    if r.len != r2.len {
-        return false;
-    }
-    let mut at = r.start as usize;
-    let mut at2 = r2.start as usize;
-    let mut left = r.len as usize;
-    if cells.len() < at + left * FIELD_WIDTH {
-        return false;
-    }
-    if cells2.len() < at2 + left * FIELD_WIDTH {
-        return false;
-    }
-    while 0 < left {
-        if !agree_token_at(s, cells, at, s2, cells2, at2) {
-            return false;
-        }
-        if !agree_node(
-            s,
-            nodes,
-            types,
-            cells,
-            k,
-            i,
-            NodeId(cell(*cells, at, 3)),
-            s2,
-            nodes2,
-            types2,
-            cells2,
-            k2,
-            j,
-            NodeId(cell(*cells2, at2, 3)),
-        ) {
-            return false;
-        }
-        at += FIELD_WIDTH;
-        at2 += FIELD_WIDTH;
         left -= 1;
     }
     true
