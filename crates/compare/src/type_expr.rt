@@ -15,8 +15,10 @@ ghost use Rattle.rules.specs.Shape.{params, fns};
 ghost use Rattle.compare.specs.Agree.{Agree, Decides};
 ghost use Rattle.compare.specs.Shapes.{typesBelow, typeEnv};
 
-// Type `i`, below `n`, and type `j`, below `m`. The last call is the last thing done, and passes
-// nothing that lies in this function's frame, so that a long chain takes no stack.
+// Type `i`, below `n`, and type `j`, below `m`. What a type holds, or the last field of a record, is
+// the last thing done, and is passed nothing that lies in this function's frame, so that a long
+// chain takes no stack. The loop over a record's fields is not that of `agree_params`: a call of it
+// would lie between two levels.
 pub(crate) fn agree_type(
     s: &&[u8],
     types: &&[u32],
@@ -86,17 +88,59 @@ pub(crate) fn agree_type(
     if kind != TypeExprKind::RECORD {
         return true;
     }
-    agree_params(
+    let r = run_at(*types, at + 4);
+    let r2 = run_at(*types2, at2 + 4);
+    if r.len != r2.len {
+        return false;
+    }
+    let mut at = r.start as usize;
+    let mut at2 = r2.start as usize;
+    let mut left = r.len as usize;
+    if cells.len() < at + left * PARAM_WIDTH {
+        return false;
+    }
+    if cells2.len() < at2 + left * PARAM_WIDTH {
+        return false;
+    }
+    if left == 0 {
+        return true;
+    }
+    while 1 < left {
+        if !agree_token_at(s, cells, at, s2, cells2, at2) {
+            return false;
+        }
+        if !agree_type(
+            s,
+            types,
+            cells,
+            i.0,
+            TypeExprId(cell(*cells, at, 3)),
+            s2,
+            types2,
+            cells2,
+            j.0,
+            TypeExprId(cell(*cells2, at2, 3)),
+        ) {
+            return false;
+        }
+        at += PARAM_WIDTH;
+        at2 += PARAM_WIDTH;
+        left -= 1;
+    }
+    if !agree_token_at(s, cells, at, s2, cells2, at2) {
+        return false;
+    }
+    agree_type(
         s,
         types,
         cells,
         i.0,
-        run_at(*types, at + 4),
+        TypeExprId(cell(*cells, at, 3)),
         s2,
         types2,
         cells2,
         j.0,
-        run_at(*types2, at2 + 4),
+        TypeExprId(cell(*cells2, at2, 3)),
     )
 }
 
