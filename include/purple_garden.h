@@ -13,7 +13,7 @@
  * - There is stack enough. A reading takes up to 110 KB (the deepest nests measured took 105 KB), a
  *   lookup 16 KB on arrays of any depth, and a comparison of trees that readings returned 64 KB. A
  *   comparison of arrays that no reading made goes as deep as they do: nests in the last member of
- *   the last list take no more, any other 320 bytes a level, record types in one another 290. With
+ *   the last list take no more, any other 320 bytes a level, record types in one another 144. With
  *   8 MB it compares 26,000 such levels; arrays of 65,536 bytes hold up to 65,535. Bound the depth,
  *   or read the script anew.
  *

@@ -5,6 +5,7 @@ use lib.Dec.{ltb}
 use lib.ListN.{length, take}
 use Rattle.ast.specs.Layout.{nodeWidth, typeWidth}
 use Rattle.lex.specs.Answer.{maxBytes, Answer, refused}
+use Rattle.lex.specs.Refusals.{rTooLong, rTooShort}
 use Rattle.ast.specs.declared.Counts.{Counts}
 use Rattle.lex.specs.Bytes.{if}
 
@@ -24,17 +25,29 @@ pub record Lent : Type 0 where
   pub counts : Counts
 
 abbrev pub lent : List ℕ → List ℕ → List ℕ → List ℕ → List ℕ → Counts → Lent
-lent script nodes types lists roots counts = record { script = script; nodes = nodes; types = types; lists = lists; roots = roots; counts = counts }
+lent script nodes types lists roots counts =
+    record {
+      script = script;
+      nodes = nodes;
+      types = types;
+      lists = lists;
+      roots = roots;
+      counts = counts;
+    }
 
--- 1: the script is too long; 2: an array has fewer than 16, 8, 8 or 1 cells for each byte of it; 0: neither
+-- the list cells that are lent at least for each byte of the script
+abbrev pub cellsPerByte : ℕ
+cellsPerByte = 8
+
+-- 1: the script is too long; 2: an array has fewer cells than each byte of it needs; 0: neither
 unfoldable pub refusal : Lent → ℕ
 refusal l =
     let n = length (l .script) in
-    if (ltb maxBytes n) 1
-    (if (ltb (length (l .nodes)) (nodeWidth * n)) 2
-    (if (ltb (length (l .types)) (typeWidth * n)) 2
-    (if (ltb (length (l .lists)) (8 * n)) 2
-    (if (ltb (length (l .roots)) n) 2 0))))
+    if (ltb maxBytes n) rTooLong
+    (if (ltb (length (l .nodes)) (nodeWidth * n)) rTooShort
+    (if (ltb (length (l .types)) (typeWidth * n)) rTooShort
+    (if (ltb (length (l .lists)) (cellsPerByte * n)) rTooShort
+    (if (ltb (length (l .roots)) n) rTooShort 0))))
 
 -- the list cells in use
 abbrev pub cellsOf : Lent → List ℕ

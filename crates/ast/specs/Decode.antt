@@ -1,4 +1,5 @@
--- Reading the records that `Layout` lays out: `node-trip` and `type-trip` have that what is read is what was laid out.
+-- Reading the records that `Layout` lays out: `node-trip` and `type-trip` have that what is read is
+-- what was laid out.
 use mathlib.Core.Bool.{Bool, true, false}
 use mathlib.Core.Option.{Option, none, some}
 use mathlib.Core.List.{List, [], _∷_}
@@ -31,14 +32,19 @@ unfoldable pub nodesByKind : List ℕ → List (Option Node)
 nodesByKind cs =
     some (N.Atom (getD cs 1 0) (tokenAt cs 2)) ∷
     some (N.Ident (getD cs 1 0) (tokenAt cs 2)) ∷
-    some (N.Bin (getD cs 1 0) (tokenAt cs 2) (record { 0 = getD cs 5 0 }) (record { 0 = getD cs 6 0 })) ∷
+    some
+    (N.Bin (getD cs 1 0) (tokenAt cs 2) (record { 0 = getD cs 5 0 }) (record { 0 = getD cs 6 0 })) ∷
     some (N.Unary (getD cs 1 0) (tokenAt cs 2) (record { 0 = getD cs 5 0 })) ∷
     some (N.Let (getD cs 1 0) (runAt cs 2) (tokenAt cs 4) (record { 0 = getD cs 7 0 })) ∷
-    some (N.Fn (getD cs 1 0) (runAt cs 2) (tokenAt cs 4) (runAt cs 7) (record { 0 = getD cs 9 0 }) (runAt cs 10)) ∷
+    some
+    (N.Fn (getD cs 1 0) (runAt cs 2) (tokenAt cs 4) (runAt cs 7) (record { 0 = getD cs 9 0 })
+    (runAt cs 10)) ∷
     some (N.Match (getD cs 1 0) (runAt cs 2) (tokenAt cs 4) (runAt cs 7)) ∷
     some (N.Call (getD cs 1 0) (record { 0 = getD cs 2 0 }) (runAt cs 3)) ∷
     some (N.Field (getD cs 1 0) (record { 0 = getD cs 2 0 }) (tokenAt cs 3)) ∷
-    some (N.Cast (getD cs 1 0) (tokenAt cs 2) (record { 0 = getD cs 5 0 }) (record { 0 = getD cs 6 0 })) ∷
+    some
+    (N.Cast (getD cs 1 0) (tokenAt cs 2) (record { 0 = getD cs 5 0 })
+    (record { 0 = getD cs 6 0 })) ∷
     some (N.Import (getD cs 1 0) (tokenAt cs 2) (runAt cs 5)) ∷
     some (N.Extern (getD cs 1 0) (tokenAt cs 2) (runAt cs 5) (tokenAt cs 7) (runAt cs 10)) ∷
     some (N.Record (getD cs 1 0) (tokenAt cs 2) (runAt cs 5)) ∷
@@ -67,14 +73,16 @@ fits size xs i = leb (size * i + size) (length xs)
 
 -- record `i`; none where it lies outside or its kind is unknown
 unfoldable pub nodeAt : List ℕ → ℕ → Option Node
-nodeAt nodes i = if (fits nodeWidth nodes i) (nodeOf (take nodeWidth (drop (nodeWidth * i) nodes))) none
+nodeAt nodes i =
+    if (fits nodeWidth nodes i) (nodeOf (take nodeWidth (drop (nodeWidth * i) nodes))) none
 
 unfoldable pub typeAt : List ℕ → ℕ → Option TypeExpr
-typeAt types i = if (fits typeWidth types i) (typeOf (take typeWidth (drop (typeWidth * i) types))) none
+typeAt types i =
+    if (fits typeWidth types i) (typeOf (take typeWidth (drop (typeWidth * i) types))) none
 
 -- 32 bits: what an array holds of a number
-abbrev pub low : ℕ → ℕ
-low n = n % 4294967296
+abbrev pub low32 : ℕ → ℕ
+low32 n = n % 4294967296
 
 -- ---- what an answer of the code says
 

@@ -179,4 +179,9 @@ sortOf node = 9
 
 -- the members of a list, by the number of its sort; tokens for any other number
 unfoldable pub membersOf : ℕ → Members
-membersOf k = if (eqb k 3) params (if (eqb k 5) fns (if (eqb k 6) nodes (if (eqb k 7) fields (if (eqb k 8) cases tokens))))
+membersOf k =
+    if (eqb k 3) params
+    (if (eqb k 5) fns
+    (if (eqb k 6) nodes
+    (if (eqb k 7) fields
+    (if (eqb k 8) cases tokens))))

@@ -10,7 +10,9 @@ use lex::Token;
 ghost use mathlib.Core.Path.{_≡_};
 ghost use Prim.Native.Nat.{_+_, _≤_};
 ghost use lib.ListN.{length, getD, take, drop};
-ghost use Rattle.ast.specs.Decode.{tokenAt, runAt, nodeOf, typeOf, nodeAt, typeAt, nodeRead, typeRead};
+ghost use Rattle.ast.specs.Layout.{nodeWidth, typeWidth};
+ghost use Rattle.ast.specs.Decode.{tokenAt, runAt, nodeOf, typeOf, nodeAt, typeAt, nodeRead};
+ghost use Rattle.ast.specs.Decode.{typeRead};
 
 pub enum NodeRead {
     Known(Node),
@@ -57,10 +59,10 @@ pub fn run_at(a: &[u32], at: usize) -> Run
     Run { start, len }
 }
 
-// The 16 cells from `at` on.
+// A node's cells, from `at` on.
 fn cells16(a: &[u32], at: usize) -> [u32; Node::WIDTH]
-    requires { ⌜ at + 16 ≤ length (now a) ⌝ }
-    ensures { λ r. ⌜ r ≡ take 16 (drop at (now (a .entry))) ⌝ }
+    requires { ⌜ at + nodeWidth ≤ length (now a) ⌝ }
+    ensures { λ r. ⌜ r ≡ take nodeWidth (drop at (now (a .entry))) ⌝ }
 {
     let mut cells = [0u32; Node::WIDTH];
     let mut i = 0;
@@ -71,10 +73,10 @@ fn cells16(a: &[u32], at: usize) -> [u32; Node::WIDTH]
     cells
 }
 
-// The 8 cells from `at` on.
+// A type's cells, from `at` on.
 fn cells8(a: &[u32], at: usize) -> [u32; TypeExpr::WIDTH]
-    requires { ⌜ at + 8 ≤ length (now a) ⌝ }
-    ensures { λ r. ⌜ r ≡ take 8 (drop at (now (a .entry))) ⌝ }
+    requires { ⌜ at + typeWidth ≤ length (now a) ⌝ }
+    ensures { λ r. ⌜ r ≡ take typeWidth (drop at (now (a .entry))) ⌝ }
 {
     let mut cells = [0u32; TypeExpr::WIDTH];
     let mut i = 0;

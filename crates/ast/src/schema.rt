@@ -26,24 +26,37 @@ impl Sort {
     pub const NODE: u64 = 9;
 }
 
+// The cells of a member of each list.
+pub const TOKEN_WIDTH: usize = 3;
+
+pub const PARAM_WIDTH: usize = 4;
+
+pub const FN_WIDTH: usize = 8;
+
+pub const NODE_WIDTH: usize = 1;
+
+pub const FIELD_WIDTH: usize = 4;
+
+pub const CASE_WIDTH: usize = 6;
+
 // The cells of a member, by the sort of its list.
 pub fn member_width(sort: u64) -> usize
     ensures { λ r. ⌜ r ≡ memberWidth (membersOf sort) ⌝ }
 {
     if sort == Sort::PARAMS {
-        return 4;
+        return PARAM_WIDTH;
     }
     if sort == Sort::FNS {
-        return 8;
+        return FN_WIDTH;
     }
     if sort == Sort::NODES {
-        return 1;
+        return NODE_WIDTH;
     }
     if sort == Sort::FIELDS {
-        return 4;
+        return FIELD_WIDTH;
     }
     if sort == Sort::CASES {
-        return 6;
+        return CASE_WIDTH;
     }
-    3
+    TOKEN_WIDTH
 }

@@ -6,18 +6,18 @@ use Prim.Native.Nat.{ℕ}
 use Rattle.rules.specs.Promise.{Arrays, Outcome, numbersOf}
 use Rattle.ast.specs.declared.Parsed.{Parsed}
 use Rattle.lex.specs.Answer.{Answer}
-use Rattle.c_api.specs.Numbers.{written, asNumbers, numberOf, stored, Answers}
+use Rattle.c_api.specs.Numbers.{readingCells, asNumbers, numberOf, answerCells, Answers}
 
-pub answers : {A : Type 0} (cells : A → List ℕ) (out : List ℕ) {a b : Answer A} → b ≡ a → Answers cells a (numberOf b) out (stored cells b out)
-answers cells out e = (ap numberOf e, ap (λ x. stored cells x out) e)
+pub answers : {A : Type 0} (cells : A → List ℕ) (out : List ℕ) {a b : Answer A} → b ≡ a → Answers cells a (numberOf b) out (answerCells cells b out)
+answers cells out e = (ap numberOf e, ap (λ x. answerCells cells x out) e)
 
 pub answers-same : {A : Type 0} (cells : A → List ℕ) (out : List ℕ) {a b : Answer A} {r : ℕ} {out′ : List ℕ} → a ≡ b → Answers cells a r out out′ → Answers cells b r out out′
 answers-same {A} cells out {r = r} {out′ = out′} e h = subst (λ (x : Answer A). Answers cells x r out out′) e h
 
-pub answers-reading : (out : List ℕ) {o : Outcome} {p : Parsed} {l : Arrays} {r : ℕ} {out′ : List ℕ} → o ≡ record { answer = p; arrays = l } → (r ≡ numbersOf p .number) × (out′ ≡ written p out)
+pub answers-reading : (out : List ℕ) {o : Outcome} {p : Parsed} {l : Arrays} {r : ℕ} {out′ : List ℕ} → o ≡ record { answer = p; arrays = l } → (r ≡ numbersOf p .number) × (out′ ≡ readingCells p out)
     → asNumbers o out ≡ record { number = r; numbers = out′; arrays = l }
 unfolding asNumbers
 answers-reading out {p = p} {l = l} {r = r} e h =
     ap (λ (x : Outcome). asNumbers x out) e
-    ∙ ap (λ (x : ℕ). record { number = x; numbers = written p out; arrays = l }) (sym (h .0))
+    ∙ ap (λ (x : ℕ). record { number = x; numbers = readingCells p out; arrays = l }) (sym (h .0))
     ∙ ap (λ (x : List ℕ). record { number = r; numbers = x; arrays = l }) (sym (h .1))

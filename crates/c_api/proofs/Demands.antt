@@ -32,7 +32,7 @@ use Rattle.ast.proofs.LayoutLaws.{node-length, type-length}
 use Rattle.compare.specs.Compare.{compare}
 use Rattle.compare.specs.Returned.{Mode, strict, collecting, reading, YesOrNo, yes, no}
 use Rattle.compare.proofs.Held.{or-false, no-eof, strict-read, strict-errors}
-use Rattle.c_api.specs.Numbers.{countsAt, numberCells, written, Returned, asNumbers, stored, Answers, yesCells}
+use Rattle.c_api.specs.Numbers.{countsAt, numberCells, readingCells, Returned, asNumbers, answerCells, Answers, yesCells}
 use Rattle.c_api.proofs.UniqueReading.{Read, lentBy, compared-trees, same-tokens}
 
 -- a call of `purple_garden_parse` (strict) or `purple_garden_parse_collect` (collecting) with what
@@ -50,7 +50,7 @@ pub record ReadingCall (mode : Mode) (script : List ℕ) : Type 0 where
 
 pub record Demand2 (mode : Mode) (script : List ℕ) (c : ReadingCall mode script) : Type 0 where
   pub number : c .number ≡ numbersOf (promised (reading mode) script (c .lent) .answer) .number
-  pub numbers : c .numbers ≡ written (promised (reading mode) script (c .lent) .answer) (c .numbersLent)
+  pub numbers : c .numbers ≡ readingCells (promised (reading mode) script (c .lent) .answer) (c .numbersLent)
   pub arrays : c .left ≡ promised (reading mode) script (c .lent) .arrays
 
 pub demand2 : (mode : Mode) (script : List ℕ) (c : ReadingCall mode script) → Demand2 mode script c
@@ -189,19 +189,19 @@ ends-numbered collecting script e p = parseCollect-error stageOne script e p
 module _ (mode : Mode) (script : List ℕ) (c : ReadingCall mode script) where
   -- number 0: a tree was read, and its counts are among the numbers
   tree-read : c .number ≡ 0 → Read mode script (c .left) (countsIn (c .numbers))
-  unfolding outcome numbersOf written numberCells diagnosticCells
+  unfolding outcome numbersOf readingCells numberCells diagnosticCells
   tree-read zero′ =
       let d = demand2 mode script c in
       go (promised (reading mode) script (c .lent)) (comes mode script (c .lent)) refl (sym (d .number) ∙ zero′) (d .numbers) (d .arrays)
     where
       go : (o : Outcome) → Out mode script (c .lent) o → promised (reading mode) script (c .lent) ≡ o → numbersOf (promised (reading mode) script (c .lent) .answer) .number ≡ 0
-          → c .numbers ≡ written (promised (reading mode) script (c .lent) .answer) (c .numbersLent) → c .left ≡ promised (reading mode) script (c .lent) .arrays → Read mode script (c .left) (countsIn (c .numbers))
+          → c .numbers ≡ readingCells (promised (reading mode) script (c .lent) .answer) (c .numbersLent) → c .left ≡ promised (reading mode) script (c .lent) .arrays → Read mode script (c .left) (countsIn (c .numbers))
       go o (outLong h) e n w a = absurd (let z : _≡_ {A = ℕ} 1 0 = ap (λ (x : Outcome). numbersOf (x .answer) .number) (sym e) ∙ n in omega arith)
       go o (outShort h k) e n w a = absurd (let z : _≡_ {A = ℕ} 2 0 = ap (λ (x : Outcome). numbersOf (x .answer) .number) (sym e) ∙ n in omega arith)
       go o (outError h k x p) e n w a = absurd (let z : x .number ≡ 0 = ap (λ (y : Outcome). numbersOf (y .answer) .number) (sym e) ∙ n in omega (arith, ends-numbered mode script x p .0))
       go o (outTree h k t es p) e n w a =
           let counts : Counts = record { nodes = length (t .arena .nodes); types = length (t .arena .types); cells = length (t .arena .cells); roots = length (t .roots); values = t .arena .values; diagnostics = length es } in
-          let m : countsIn (c .numbers) ≡ counts = ap countsIn (w ∙ ap (λ (x : Outcome). written (x .answer) (c .numbersLent)) e) in
+          let m : countsIn (c .numbers) ≡ counts = ap countsIn (w ∙ ap (λ (x : Outcome). readingCells (x .answer) (c .numbersLent)) e) in
           let q : promised (reading mode) script (c .lent) ≡ record { answer = P.Tree counts; arrays = c .left } = e ∙ ap (λ (x : Arrays). record { answer = P.Tree counts; arrays = x }) (sym (a ∙ ap (λ (x : Outcome). x .arrays) e)) in
           record { lent = c .lent; ensured = q ∙ ap (λ (x : Counts). record { answer = P.Tree x; arrays = c .left }) (sym m) }
 
@@ -240,7 +240,7 @@ module _ (s₁ s₂ : List ℕ) (a : ReadingCall strict s₁) (b : ReadingCall s
   -- two strict readings answer 0, the comparison of what they left answers 0 with 1 in its cell:
   -- then striking leaves the same tokens of both scripts
   pub demand3 : a .number ≡ 0 → b .number ≡ 0 → x .number ≡ 0 → x .after ≡ 1 ∷ [] → Conditions s₁ → Conditions s₂ → SameTokens (strike stageOne s₁) (strike stageOne s₂)
-  unfolding stored yesCells
+  unfolding answerCells yesCells
   demand3 a₀ b₀ x₀ one p q =
       let first = tree-read strict s₁ a a₀ in
       let second = tree-read strict s₂ b b₀ in

@@ -21,7 +21,7 @@ use Rattle.text.proofs.EmitLaws.{and-left}
 use Rattle.words.specs.Words.{isScriptError, isWanted, isSeen, hasWords, errorOf}
 use Rattle.words.proofs.Forms.{script-error-two-digits}
 use Rattle.words.proofs.Readings.{errorIn, Described, strict-described, collecting-described}
-use Rattle.c_api.specs.Numbers.{numberCells, written, Returned, asNumbers}
+use Rattle.c_api.specs.Numbers.{numberCells, readingCells, Returned, asNumbers}
 
 -- a reading is refused with 1 or 2 alone
 pub record Small (o : Outcome) : Type 0 where
@@ -62,15 +62,15 @@ pub record Told (r : Returned) : Type 0 where
   pub gathered : r .number ≡ 0 → (i : ℕ) → i < getD (r .numbers) 11 0 → hasWords (errorIn i (r .arrays .diagnostics)) ≡ true
 
 told : (o : Outcome) (out : List ℕ) → Described o → Small o → Told (asNumbers o out)
-unfolding asNumbers written numbersOf numberCells diagnosticCells
+unfolding asNumbers readingCells numbersOf numberCells diagnosticCells
 told o out d s = record { error = error (o .answer) refl; gathered = gathered (o .answer) refl }
   where
-    error : (a : Parsed) → o .answer ≡ a → 10 ≤ numbersOf a .number → hasWords (errorOf (drop 1 (written a out))) ≡ true
+    error : (a : Parsed) → o .answer ≡ a → 10 ≤ numbersOf a .number → hasWords (errorOf (drop 1 (readingCells a out))) ≡ true
     error (P.Tree c) e h = absurd (omega arith)
     error (P.Error x) e h = d .error x e
     error (P.Refused n) e h = absurd (let k = s .refusal n e in omega arith)
 
-    gathered : (a : Parsed) → o .answer ≡ a → numbersOf a .number ≡ 0 → (i : ℕ) → i < getD (written a out) 11 0 → hasWords (errorIn i (o .arrays .diagnostics)) ≡ true
+    gathered : (a : Parsed) → o .answer ≡ a → numbersOf a .number ≡ 0 → (i : ℕ) → i < getD (readingCells a out) 11 0 → hasWords (errorIn i (o .arrays .diagnostics)) ≡ true
     gathered (P.Tree c) e z i h = d .gathered c e i h
     gathered (P.Error x) e z i h = absurd (let k = number-large x (d .error x e) in omega arith)
     gathered (P.Refused n) e z i h = absurd (let k = s .refusal n e in omega arith)

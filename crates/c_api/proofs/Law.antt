@@ -13,7 +13,7 @@ use Rattle.rules.specs.Promise.{Arrays, holding, Outcome, promised, numbersOf}
 use Rattle.rules.specs.Law.{resynchronisings, Law}
 use Rattle.ast.specs.declared.Parsed.{Parsed}
 use Rattle.rules.proofs.Law.Whole.{treeLaw-stageOne, Delivered, strict-delivered, collecting-delivered}
-use Rattle.c_api.specs.Numbers.{numberCells, written, Returned, asNumbers}
+use Rattle.c_api.specs.Numbers.{numberCells, readingCells, Returned, asNumbers}
 
 -- The twelve numbers and the five arrays that a call leaves hold a tree, and the law holds for it.
 -- `lent` are the arrays before the call; `begun` has the resynchronisings of the reading.
@@ -30,14 +30,14 @@ module _ (script : List ℕ) (lent left : Arrays) (before numbers : List ℕ) wh
   Returned0 o = asNumbers o before ≡ record { number = 0; numbers = numbers; arrays = left }
 
   lawful : (begun : List ℕ) (o : Outcome) → Returned0 o → (numbersOf (o .answer) .number ≡ 0 → Delivered script begun lent o) → Lawful script begun lent numbers left
-  unfolding asNumbers written numberCells numbersOf diagnosticCells
+  unfolding asNumbers readingCells numberCells numbersOf diagnosticCells
   lawful begun o e h = go (h (ap (λ (r : Returned). r .number) e))
     where
       go : Delivered script begun lent o → Lawful script begun lent numbers left
       go d = record {
         tree = d .tree;
         errors = d .errors;
-        counts = sym (ap (λ (r : Returned). r .numbers) e) ∙ ap (λ (p : Parsed). written p before) (d .answer);
+        counts = sym (ap (λ (r : Returned). r .numbers) e) ∙ ap (λ (p : Parsed). readingCells p before) (d .answer);
         arrays = sym (ap (λ (r : Returned). r .arrays) e) ∙ d .arrays;
         law = d .law;
       }

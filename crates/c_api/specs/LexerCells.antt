@@ -16,8 +16,8 @@ cellsOf (Step.Fault e next) = 1 ∷ e .number ∷ e .start ∷ e .len ∷ e .see
 cellsOf (Step.End at) = 2 ∷ 0 ∷ at ∷ 0 ∷ 0 ∷ at ∷ []
 
 -- six cells stored at the front, if there is room
-unfoldable pub stored : List ℕ → List ℕ → List ℕ
-stored cells out = elim (leb 6 (length out)) [ true ↦ cells ++ drop 6 out | false ↦ out ]
+unfoldable pub putCells : List ℕ → List ℕ → List ℕ
+putCells cells out = elim (leb 6 (length out)) [ true ↦ cells ++ drop 6 out | false ↦ out ]
 
 abbrev pub isAt : Found → Bool
 isAt (At i) = true

@@ -35,10 +35,10 @@ unfoldable pub numberCells : Numbers → List ℕ
 numberCells n = n .number ∷ diagnosticCells (n .error) ++ countCells (n .counts)
 
 -- a refusal changes nothing that is lent
-unfoldable pub written : Parsed → List ℕ → List ℕ
-written (P.Tree c) out = numberCells (numbersOf (P.Tree c))
-written (P.Error e) out = numberCells (numbersOf (P.Error e))
-written (P.Refused n) out = out
+unfoldable pub readingCells : Parsed → List ℕ → List ℕ
+readingCells (P.Tree c) out = numberCells (numbersOf (P.Tree c))
+readingCells (P.Error e) out = numberCells (numbersOf (P.Error e))
+readingCells (P.Refused n) out = out
 
 pub record Returned : Type 0 where
   pub number : ℕ
@@ -49,7 +49,7 @@ unfoldable pub asNumbers : Outcome → List ℕ → Returned
 asNumbers o out =
     record {
       number = numbersOf (o .answer) .number;
-      numbers = written (o .answer) out;
+      numbers = readingCells (o .answer) out;
       arrays = o .arrays;
     }
 
@@ -61,13 +61,13 @@ numberOf (refused n) = n
 numberOf (answer a) = 0
 
 -- the cells of the answer; a refusal changes nothing that is lent
-unfoldable pub stored : {A : Type 0} → (A → List ℕ) → Answer A → List ℕ → List ℕ
-stored cells (refused n) out = out
-stored cells (answer a) out = cells a
+unfoldable pub answerCells : {A : Type 0} → (A → List ℕ) → Answer A → List ℕ → List ℕ
+answerCells cells (refused n) out = out
+answerCells cells (answer a) out = cells a
 
 -- the number that is returned, and what is lent for the answer before and after
 abbrev pub Answers : {A : Type 0} → (A → List ℕ) → Answer A → ℕ → List ℕ → List ℕ → Type 0
-Answers cells a r out out′ = (r ≡ numberOf a) × (out′ ≡ stored cells a out)
+Answers cells a r out out′ = (r ≡ numberOf a) × (out′ ≡ answerCells cells a out)
 
 -- whether there is a start, and the start
 unfoldable pub startCells : Option ℕ → List ℕ

@@ -10,7 +10,7 @@ ghost use lib.ListN.{length, drop};
 ghost use Rattle.lex.specs.Utf8.{utf8};
 ghost use Rattle.lex.specs.Lex.{stepAt};
 ghost use Rattle.lex.specs.Spelling.{spelling};
-ghost use Rattle.c_api.specs.LexerCells.{cellsOf, stored, isAt, placeOr};
+ghost use Rattle.c_api.specs.LexerCells.{cellsOf, putCells, isAt, placeOr};
 
 // Whether the bytes are well-formed UTF-8.
 #[no_mangle]
@@ -44,7 +44,7 @@ pub extern "C" fn lex_step(script: &[u8], pos: usize, out: &mut [u64]) -> bool
     ensures { λ r.
         let cells = cellsOf (stepAt (now (script .entry)) pos) in
         let before = now (out .entry) in
-        ⌜ (r ≡ leb 6 (length before)) × (now (out .exit) ≡ stored cells before) ⌝ }
+        ⌜ (r ≡ leb 6 (length before)) × (now (out .exit) ≡ putCells cells before) ⌝ }
 {
     if out.len() < 6 {
         return false;

@@ -34,7 +34,7 @@ ghost use Rattle.lookups.specs.Lookup.{nodeStart, typeToken, startAnswer, typeT
 ghost use Rattle.positions.specs.Span.{tokenSpan};
 ghost use Rattle.positions.specs.Position.{placeAt};
 ghost use Rattle.compare.specs.Compare.{compare, comparisonAnswer};
-ghost use Rattle.c_api.specs.Numbers.{countsAt, written, asNumbers, startCells};
+ghost use Rattle.c_api.specs.Numbers.{countsAt, readingCells, asNumbers, startCells};
 ghost use Rattle.c_api.specs.Numbers.{spanCells, placeCells, yesCells, Answers};
 
 // ---- readings
@@ -43,7 +43,7 @@ ghost use Rattle.c_api.specs.Numbers.{spanCells, placeCells, yesCells, A
 // lent for them stays as it is where the call was refused.
 fn put_numbers(numbers: &mut [u32; 12], answer: Parsed) -> u32
     ensures { λ r.
-        let after = written answer (now (numbers .entry)) in
+        let after = readingCells answer (now (numbers .entry)) in
         ⌜ (r ≡ numbersOf answer .number) × (now (numbers .exit) ≡ after) ⌝ }
 {
     match answer {

@@ -12,7 +12,8 @@ pub extern "C" fn purple_garden_line_columns(
     places: &mut [u32],
 ) -> u32
     ensures { λ r.
-        let due = lineColumns (now (script .entry)) (now (positions .entry)) (now (places .entry)) in
+        let bytes = now (script .entry) in
+        let due = lineColumns bytes (now (positions .entry)) (now (places .entry)) in
         ⌜ (r ≡ numberOf (due .answer)) × (now (places .exit) ≡ due .places) ⌝ }
 {
     match line_columns(script, positions, places) {

@@ -7,6 +7,7 @@ mod Listing
 mod RecordCells
 mod Types
 mod Nodes
+mod Last
 mod Roots
 pub mod Compare
 pub mod Held

@@ -8,9 +8,9 @@ use native.Mathlib.Omega.{arith}
 use mathlib.Core.Logic.{⊎-elim}
 use native.Mathlib.Numerals.{add-one}
 use native.Mathlib.Nat.{add-zero, zero-add, eq-or-lt-of-le}
-use lib.Dec.{ltb, leb}
+use lib.Dec.{ltb, leb, eqb}
 use lib.ListN.{length, getD, List·getD-eq-default}
-use borrow.Author.Tests.{leb-true, leb-false, ltb-true, ltb-false, ne-eqb}
+use borrow.Author.Tests.{leb-true, leb-false, ltb-true, ltb-false, lt-ltb, eqb-false, ne-eqb}
 use Rattle.lex.proofs.Laws.{agree}
 use Rattle.ast.specs.Layout.{nodeWidth}
 use Rattle.ast.specs.Schema.{nodeSchema}
@@ -300,9 +300,9 @@ module _ (e e′ : Env) (xs xs′ : List ℕ) (p p′ g x : ℕ) where
   outof b = let o = cellAt (6 * g + x) in let κ = partOf (sortAt (6 * g + x)) in move (sym (read-in e κ xs p o (cell-small (6 * g + x)))) (sym (read-in e′ κ xs′ p′ o (cell-small (6 * g + x)))) b
 
 -- the last part is a node, or a list of fields or of nodes, where there is one
-last-kind : (g : ℕ) → g < 17 → (sortAt (6 * g + 5) ≡ 0 → ⊥) → (sortAt (6 * g + 5) ≡ 9 → ⊥) → (sortAt (6 * g + 5) ≡ 7 → ⊥) → partOf (sortAt (6 * g + 5)) ≡ someNodes
-unfolding sortAt parts partOf nodeSchema
-last-kind g l = upTo16 (λ (n : ℕ). (sortAt (6 * n + 5) ≡ 0 → ⊥) → (sortAt (6 * n + 5) ≡ 9 → ⊥) → (sortAt (6 * n + 5) ≡ 7 → ⊥) → partOf (sortAt (6 * n + 5)) ≡ someNodes)
+pub last-six : (g : ℕ) → g < 17 → (sortAt (6 * g + 5) ≡ 0 → ⊥) → (sortAt (6 * g + 5) ≡ 9 → ⊥) → (sortAt (6 * g + 5) ≡ 7 → ⊥) → sortAt (6 * g + 5) ≡ 6
+unfolding sortAt parts nodeSchema
+last-six g l = upTo16 (λ (n : ℕ). (sortAt (6 * n + 5) ≡ 0 → ⊥) → (sortAt (6 * n + 5) ≡ 9 → ⊥) → (sortAt (6 * n + 5) ≡ 7 → ⊥) → sortAt (6 * n + 5) ≡ 6)
     (λ z y x. absurd (z refl)) (λ z y x. absurd (z refl)) (λ z y x. absurd (z refl)) (λ z y x. absurd (y refl)) (λ z y x. absurd (y refl)) (λ z y x. absurd (y refl)) (λ z y x. refl) (λ z y x. refl) (λ z y x. absurd (y refl)) (λ z y x. absurd (y refl)) (λ z y x. absurd (y refl)) (λ z y x. absurd (z refl)) (λ z y x. absurd (z refl)) (λ z y x. absurd (x refl)) (λ z y x. refl) (λ z y x. absurd (y refl)) (λ z y x. refl) g l
 
 -- what decides the last part, by its sort
@@ -321,8 +321,8 @@ module _ (e e′ : Env) (xs xs′ : List ℕ) (p p′ g : ℕ) where
 
   pub last-nodes : {b : Bool} {r r′ : Run} → g < 17 → (sortAt (6 * g + 5) ≡ 0 → ⊥) → (sortAt (6 * g + 5) ≡ 9 → ⊥) → (sortAt (6 * g + 5) ≡ 7 → ⊥) → r ≡ runAt xs (p + cellAt (6 * g + 5)) → r′ ≡ runAt xs′ (p′ + cellAt (6 * g + 5))
       → Decides b (Agree (S.shapes e r) (S.shapes e′ r′)) → Decides b (PartsAgree e e′ g xs p xs′ p′ 5)
-  unfolding PartAgrees
-  last-nodes l y z x q q′ d = by-sort someNodes (last-kind g l y z x) (rw (q, q′) at d)
+  unfolding partOf PartAgrees
+  last-nodes l y z x q q′ d = by-sort someNodes (ap partOf (last-six g l y z x)) (rw (q, q′) at d)
 
   pub last-fields : {b : Bool} {r r′ : Run} → sortAt (6 * g + 5) ≡ 7 → r ≡ runAt xs (p + cellAt (6 * g + 5)) → r′ ≡ runAt xs′ (p′ + cellAt (6 * g + 5))
       → Decides b (Agree (S.fields e r) (S.fields e′ r′)) → Decides b (PartsAgree e e′ g xs p xs′ p′ 5)
@@ -441,6 +441,18 @@ part-is g x h l =
     let q : (6 * g + x) / 6 ≡ g = omega arith in
     let r : (6 * g + x) % 6 ≡ x = omega arith in
     rw (q, r) at (part-in (6 * g + x) (omega arith))
+
+no-field-in : (k : ℕ) → k < 102 → if (ltb (k % 6) 5) (eqb (getD parts k 0 / 16) 7) false ≡ false
+unfolding parts nodeSchema
+no-field-in k h = agree (λ (n : ℕ). if (ltb (n % 6) 5) (eqb (getD parts n 0 / 16) 7) false) (λ (n : ℕ). false) false 102 k refl h
+
+-- a list of fields stands nowhere but last
+pub no-fields : (g x : ℕ) {r : ℕ} → r ≡ restOf g x → g < 17 → x < 5 → r % 256 / 16 ≡ 7 → ⊥
+no-fields g x {r} e h l s =
+    let p : r % 256 ≡ getD parts (6 * g + x) 0 = ap (λ (n : ℕ). n % 256) e ∙ part-is g x h (omega arith) in
+    let m : (6 * g + x) % 6 ≡ x = omega arith in
+    let q = rw (m, lt-ltb x 5 l) at (no-field-in (6 * g + x) (omega arith)) in
+    eqb-false _ _ q (ap (λ (n : ℕ). n / 16) (sym p) ∙ s)
 
 -- the last stands alone
 pub last-alone : (g : ℕ) → g < 17 → restOf g 0 / 1099511627776 ≡ getD parts (6 * g + 5) 0

@@ -13,6 +13,7 @@ use Rattle.ast.specs.Layout.{typeWidth}
 use Rattle.rules.specs.Shape.{TypeShape, atomT, foreignT, optionT, arrayT, recordT, Env, word, w, params, typeShape}
 use Rattle.ast.specs.Lists.{map₁, map₂, andThen}
 use Rattle.lex.specs.Bytes.{if}
+use Rattle.ast.specs.declared.Run.{Run}
 use Rattle.ast.specs.Decode.{fits, tokenAt, runAt, typeOf, typesByKind, typeAt}
 use Rattle.ast.specs.Tabulate.{entryAt}
 use Rattle.ast.proofs.Tabulate.{entries-below, entries-past}
@@ -193,6 +194,7 @@ module _ (s c t s′ c′ t′ : List ℕ) (n i m j : ℕ) where
         unfolding w
         token-agrees a₅ x = whole g refl f (decides-yes (token-whole (typeEnv s c t i) (typeEnv s′ c′ t′ j) t t′ (typeWidth * i) (typeWidth * j) g (rw k (kind-bound 5 t typeWidth i)) a₀ a₃ a₄ a₅ x))
 
-      pub record-agrees : {r : Bool} → g ≡ 5 → Agree (word s (tokenAt t (typeWidth * i + 1))) (word s′ (tokenAt t′ (typeWidth * j + 1))) → Decides r (Agree (params (typeEnv s c t i) (runAt t (typeWidth * i + 4))) (params (typeEnv s′ c′ t′ j) (runAt t′ (typeWidth * j + 4)))) → Decides r (Agree (typesBelow s c t n i) (typesBelow s′ c′ t′ m j))
+      pub record-agrees : {b : Bool} {r r′ : Run} → g ≡ 5 → Agree (word s (tokenAt t (typeWidth * i + 1))) (word s′ (tokenAt t′ (typeWidth * j + 1))) → r ≡ runAt t (typeWidth * i + 4) → r′ ≡ runAt t′ (typeWidth * j + 4)
+          → Decides b (Agree (params (typeEnv s c t i) r) (params (typeEnv s′ c′ t′ j) r′)) → Decides b (Agree (typesBelow s c t n i) (typesBelow s′ c′ t′ m j))
       unfolding w
-      record-agrees e x d = whole 5 e f (record-whole (typeEnv s c t i) (typeEnv s′ c′ t′ j) t t′ (typeWidth * i) (typeWidth * j) x d)
+      record-agrees e x q q′ d = whole 5 e f (record-whole (typeEnv s c t i) (typeEnv s′ c′ t′ j) t t′ (typeWidth * i) (typeWidth * j) x (rw (q, q′) at d))

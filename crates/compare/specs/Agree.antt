@@ -1,4 +1,5 @@
--- Two things that may be missing agree: both are there, and are the same. A tree is well formed if it agrees with itself, and two well-formed trees have the same shape if they agree.
+-- Two things that may be missing agree: both are there, and are the same. A tree is well formed if
+-- it agrees with itself, and two well-formed trees have the same shape if they agree.
 use mathlib.Core.Path.{_≡_}
 use mathlib.Core.Bool.{Bool, true}
 use mathlib.Core.Option.{Option, some}

@@ -6,6 +6,7 @@ use lib.Dec.{eqb}
 use Rattle.rules.specs.Shape.{Shapes}
 use Rattle.lex.specs.Bytes.{if}
 use Rattle.lex.specs.Answer.{Answer, refused, answer}
+use Rattle.lex.specs.Refusals.{rTooLong, rMalformed}
 use Rattle.ast.specs.Answer.{unless, Lent, refusal}
 use Rattle.compare.specs.Shapes.{shapeIn}
 use Rattle.compare.specs.Same.{sameShapes}
@@ -14,12 +15,16 @@ use Rattle.compare.specs.declared.Comparison.the-variants as C
 
 -- 1 for either tree, then 2 for either; 0 where there is neither
 unfoldable pub refusals : Lent → Lent → ℕ
-refusals a b = if (eqb (refusal a) 1) 1 (if (eqb (refusal b) 1) 1 (if (eqb (refusal a) 0) (refusal b) (refusal a)))
+refusals a b =
+    if (eqb (refusal a) rTooLong) rTooLong
+    (if (eqb (refusal b) rTooLong) rTooLong
+    (if (eqb (refusal a) 0) (refusal b) (refusal a)))
 
--- 4 where anything that the roots of either tree reach is malformed, else whether the shapes are the same
+-- 4 where anything that the roots of either tree reach is malformed, else whether the shapes are
+-- the same
 unfoldable pub compareShapes : Option Shapes → Option Shapes → Answer Bool
-compareShapes none y = refused 4
-compareShapes (some σ) none = refused 4
+compareShapes none y = refused rMalformed
+compareShapes (some σ) none = refused rMalformed
 compareShapes (some σ) (some τ) = answer (sameShapes σ τ)
 
 unfoldable pub compare : Lent → Lent → Answer Bool

@@ -1,11 +1,13 @@
--- The parts of a node's record, in the order in which they are compared: what each is, and in which cell it stands.
+-- The parts of a node's record, in the order in which they are compared: what each is, and in which
+-- cell it stands.
 use mathlib.Core.Option.{Option, some}
 use mathlib.Core.List.{List, [], _∷_, _++_, map}
 use Prim.Native.Nat.{ℕ, zero, suc, _+_, _*_, _/_, _%_}
 use lib.Dec.{eqb}
 use lib.ListN.{getD}
 use Rattle.ast.specs.Schema.{Field, cellCount, nodeSchema}
-use Rattle.rules.specs.Shape.{Word, TypeShape, Params, FnShape, Shape, Shapes, FieldShapes, CaseShapes, Env, w, words, params, shapes, fields, cases, fns}
+use Rattle.rules.specs.Shape.{Word, TypeShape, Params, FnShape, Shape, Shapes, FieldShapes}
+use Rattle.rules.specs.Shape.{CaseShapes, Env, w, words, params, shapes, fields, cases, fns}
 use Rattle.lex.specs.Bytes.{if}
 use Rattle.ast.specs.Decode.{tokenAt, runAt}
 use Rattle.ast.specs.Schema.{sortOf}
@@ -56,10 +58,18 @@ PartAgrees e e′ p xs o xs′ o′ = Agree (read e p xs o) (read e′ p xs′ o
 -- the sorts by number
 unfoldable pub partOf : ℕ → Part
 partOf k =
-    if (eqb k 1) aWord (if (eqb k 2) someWords (if (eqb k 3) someParams (if (eqb k 4) aType (if (eqb k 5) someFns
-    (if (eqb k 6) someNodes (if (eqb k 7) someFields (if (eqb k 8) someCases (if (eqb k 9) aNode nothing))))))))
+    if (eqb k 1) aWord
+    (if (eqb k 2) someWords
+    (if (eqb k 3) someParams
+    (if (eqb k 4) aType
+    (if (eqb k 5) someFns
+    (if (eqb k 6) someNodes
+    (if (eqb k 7) someFields
+    (if (eqb k 8) someCases
+    (if (eqb k 9) aNode nothing))))))))
 
--- the fields of a record as numbers, from cell `i` on: the sort and the cell, and 0 for what is not compared
+-- the fields of a record as numbers, from cell `i` on: the sort and the cell, and 0 for what is not
+-- compared
 abbrev codes : ℕ → List Field → List ℕ
 codes i [] = []
 codes i (f ∷ fs) = if (eqb (sortOf f) 0) 0 (16 * sortOf f + i) ∷ codes (i + cellCount f) fs
@@ -68,7 +78,9 @@ codes i (f ∷ fs) = if (eqb (sortOf f) 0) 0 (16 * sortOf f + i) ∷ codes (i + 
 abbrev fieldsOf : ℕ → List ℕ → List ℕ
 fieldsOf kind places = map (λ x. getD (codes 1 (getD nodeSchema kind [])) x 0) places
 
--- six parts for each kind from 0 on, the last being the child, or the list of nodes or of fields, that is compared last; behind them another order for an operator, its right side last, and for a call, its arguments last
+-- six parts for each kind from 0 on, the last being the child, or the list of nodes or of fields,
+-- that is compared last; behind them another order for an operator, its right side last, and for a
+-- call, its arguments last
 unfoldable pub parts : List ℕ
 parts =
     fieldsOf 0 (0 ∷ 0 ∷ 0 ∷ 0 ∷ 0 ∷ 0 ∷ []) ++
@@ -115,4 +127,6 @@ restOf order (suc x) = restOf order x / 256
 
 -- part `k` of two records in one order, from the cells `p` and `p′` on
 unfoldable pub PartsAgree : Env → Env → ℕ → List ℕ → ℕ → List ℕ → ℕ → ℕ → Type 0
-PartsAgree e e′ order xs p xs′ p′ k = PartAgrees e e′ (partOf (sortAt (6 * order + k))) xs (p + cellAt (6 * order + k)) xs′ (p′ + cellAt (6 * order + k))
+PartsAgree e e′ order xs p xs′ p′ k =
+    PartAgrees e e′ (partOf (sortAt (6 * order + k)))
+    xs (p + cellAt (6 * order + k)) xs′ (p′ + cellAt (6 * order + k))

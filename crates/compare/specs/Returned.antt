@@ -1,4 +1,5 @@
--- What a reading returns, as it is lent to a comparison; and what the comparison of two such trees answers.
+-- What a reading returns, as it is lent to a comparison; and what the comparison of two such trees
+-- answers.
 use mathlib.Core.Path.{_≡_}
 use mathlib.Core.Bool.{Bool, true, false}
 use mathlib.Core.List.{List}
@@ -24,7 +25,9 @@ reading collecting = parseCollect stageOne
 
 -- the script with the arrays as a reading leaves them, and its counts
 abbrev pub returned : Mode → List ℕ → Arrays → Counts → Lent
-returned mode script l c = let o = promised (reading mode) script l .arrays in lent script (o .nodes) (o .types) (o .lists) (o .roots) c
+returned mode script l c =
+    let o = promised (reading mode) script l .arrays in
+    lent script (o .nodes) (o .types) (o .lists) (o .roots) c
 
 -- a reading of the script into these arrays returns a tree, with these counts
 abbrev pub Returns : Mode → List ℕ → Arrays → Counts → Type 0

@@ -9,6 +9,7 @@ use ast::NodeId;
 use ast::decode::cell;
 use ast::lent::refusal;
 use ast::lent::used;
+use lex::Refusal;
 use node::agree_node;
 ghost use mathlib.Core.Path.{_≡_};
 ghost use Rattle.ast.specs.Answer.{lent};
@@ -41,7 +42,17 @@ fn agree_roots(
     roots2: &[u32],
     count2: u32,
 ) -> bool
-    ensures { λ r. ⌜ Decides r (Agree (rootShapes (view (now (now (s .entry))) (now (now (nodes .entry))) (now (now (types .entry))) (now (now (cells .entry))) k) n (now (roots .entry)) count) (rootShapes (view (now (now (s2 .entry))) (now (now (nodes2 .entry))) (now (now (types2 .entry))) (now (now (cells2 .entry))) k2) m (now (roots2 .entry)) count2)) ⌝ }
+    ensures { λ r.
+        let left =
+        view (now (now (s .entry))) (now (now (nodes .entry))) (now (now (types .entry)))
+        (now (now (cells .entry))) k
+        in
+        let right =
+        view (now (now (s2 .entry))) (now (now (nodes2 .entry))) (now (now (types2 .entry)))
+        (now (now (cells2 .entry))) k2
+        in
+        ⌜ Decides r (Agree (rootShapes left n (now (roots .entry)) count)
+        (rootShapes right m (now (roots2 .entry)) count2)) ⌝ }
 {
     if count != count2 {
         return false;
@@ -94,15 +105,24 @@ pub fn same_shape(
     roots2: &[u32],
     counts2: Counts,
 ) -> Comparison
-    ensures { λ r. ⌜ comparisonAnswer r ≡ compare (lent (now (script .entry)) (now (nodes .entry)) (now (types .entry)) (now (lists .entry)) (now (roots .entry)) counts) (lent (now (script2 .entry)) (now (nodes2 .entry)) (now (types2 .entry)) (now (lists2 .entry)) (now (roots2 .entry)) counts2) ⌝ }
+    ensures { λ r.
+        let left =
+        lent (now (script .entry)) (now (nodes .entry)) (now (types .entry))
+        (now (lists .entry)) (now (roots .entry)) counts
+        in
+        let right =
+        lent (now (script2 .entry)) (now (nodes2 .entry)) (now (types2 .entry))
+        (now (lists2 .entry)) (now (roots2 .entry)) counts2
+        in
+        ⌜ comparisonAnswer r ≡ compare left right ⌝ }
 {
     let a = refusal(script, nodes, types, lists, roots, counts);
     let b = refusal(script2, nodes2, types2, lists2, roots2, counts2);
-    if a == 1 {
-        return Comparison::Refused(1);
+    if a == Refusal::TOO_LONG {
+        return Comparison::Refused(Refusal::TOO_LONG);
     }
-    if b == 1 {
-        return Comparison::Refused(1);
+    if b == Refusal::TOO_LONG {
+        return Comparison::Refused(Refusal::TOO_LONG);
     }
     if a != 0 {
         return Comparison::Refused(a);
@@ -130,7 +150,7 @@ pub fn same_shape(
         roots,
         counts.roots,
     ) {
-        return Comparison::Refused(4);
+        return Comparison::Refused(Refusal::MALFORMED);
     }
     if !agree_roots(
         &script2,
@@ -150,7 +170,7 @@ pub fn same_shape(
         roots2,
         counts2.roots,
     ) {
-        return Comparison::Refused(4);
+        return Comparison::Refused(Refusal::MALFORMED);
     }
     if agree_roots(
         &script,

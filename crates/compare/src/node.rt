@@ -1,4 +1,5 @@
-// When two nodes, or two lists that hold nodes, agree. The number of a node falls from call to call.
+// When two nodes, or two lists that hold nodes, agree. The number of a node falls from call to
+// call.
 use crate::kind::kind_at;
 use crate::type_expr::agree_fns;
 use crate::type_expr::agree_params;
@@ -13,10 +14,15 @@ use ast::Run;
 use ast::TypeExprId;
 use ast::decode::cell;
 use ast::decode::run_at;
+use ast::schema::CASE_WIDTH;
+use ast::schema::NODE_WIDTH;
 use ast::schema::Sort;
+use ast::schema::member_width;
 ghost use mathlib.Core.Path.{_≡_};
 ghost use Prim.Native.Nat.{ℕ, _*_, _<_};
-ghost use Rattle.rules.specs.Shape.{shapes, fields, cases};
+ghost use Rattle.ast.specs.Layout.{nodeWidth};
+ghost use Rattle.rules.specs.Shape.{word, shapes, cases};
+ghost use Rattle.ast.specs.Decode.{tokenAt};
 ghost use Rattle.compare.specs.Agree.{Agree, Decides};
 ghost use Rattle.compare.specs.Shapes.{view, nodesBelow, envBelow};
 ghost use Rattle.compare.specs.Parts.{partOf, PartAgrees, PartsAgree, Ordered, restOf};
@@ -32,8 +38,9 @@ impl Order {
     const ARGUMENTS_LAST: u32 = 16;
 }
 
-// The order for node `i`. Its kind's own one has the left side of an operator and the target of a call last; where that is a name or an
-// atom, it is compared first. Either order decides the same, and so chains on the right and in arguments take no stack either.
+// The order for node `i`. Its kind's own one has the left side of an operator and the target of a
+// call last; where that is a name or an atom, it is compared first. Either order decides the same,
+// and so chains on the right and in arguments take no stack either.
 fn order_of(nodes: &&[u32], kind: u32, i: u32) -> u32
     ensures { λ r. ⌜ Ordered kind r ⌝ }
 {
@@ -52,8 +59,9 @@ fn order_of(nodes: &&[u32], kind: u32, i: u32) -> u32
     kind
 }
 
-// The six parts of a node in an order, eight bits each from the lowest on; the last is the child or the list that is compared
-// last. Of the eight bits the upper four are the part's sort, 0 where there is none, and the lower four its cell in the record.
+// The six parts of a node in an order, eight bits each from the lowest on; the last is the child or
+// the list that is compared last. Of the eight bits the upper four are the part's sort, 0 where
+// there is none, and the lower four its cell in the record.
 fn parts_of(order: u32) -> u64
     requires { ⌜ order < 17 ⌝ }
     ensures { λ r. ⌜ r ≡ restOf order 0 ⌝ }
@@ -114,8 +122,9 @@ const LAST: usize = 5;
 
 const BEFORE_LAST: u64 = 0x10000000000;
 
-// Node `i`, below `n`, and node `j`, below `m`. The last child, or the last member of the last list, is the last thing done, and is passed
-// nothing that lies in this function's frame: so a long chain takes no stack.
+// Node `i`, below `n`, and node `j`, below `m`. The last child, or the last member of the last
+// list, is the last thing done, and is passed nothing that lies in this function's frame: so a long
+// chain takes no stack.
 pub(crate) fn agree_node(
     s: &&[u8],
     nodes: &&[u32],
@@ -132,7 +141,16 @@ pub(crate) fn agree_node(
     m: u32,
     j: NodeId,
 ) -> bool
-    ensures { λ r. ⌜ Decides r (Agree (nodesBelow (view (now (now (s .entry))) (now (now (nodes .entry))) (now (now (types .entry))) (now (now (cells .entry))) k) n (i .0)) (nodesBelow (view (now (now (s2 .entry))) (now (now (nodes2 .entry))) (now (now (types2 .entry))) (now (now (cells2 .entry))) k2) m (j .0))) ⌝ }
+    ensures { λ r.
+        let left =
+        view (now (now (s .entry))) (now (now (nodes .entry))) (now (now (types .entry)))
+        (now (now (cells .entry))) k
+        in
+        let right =
+        view (now (now (s2 .entry))) (now (now (nodes2 .entry))) (now (now (types2 .entry)))
+        (now (now (cells2 .entry))) k2
+        in
+        ⌜ Decides r (Agree (nodesBelow left n (i .0)) (nodesBelow right m (j .0))) ⌝ }
 {
     if n <= i.0 {
         return false;
@@ -165,6 +183,78 @@ pub(crate) fn agree_node(
     ) {
         return false;
     }
+    agree_last(
+        s,
+        nodes,
+        types,
+        cells,
+        k,
+        i.0,
+        s2,
+        nodes2,
+        types2,
+        cells2,
+        k2,
+        j.0,
+        order,
+    )
+}
+
+// The names of two members of a list, where its members have one.
+fn agree_name(
+    s: &&[u8],
+    cells: &&[u32],
+    at: usize,
+    s2: &&[u8],
+    cells2: &&[u32],
+    at2: usize,
+    sort: u64,
+) -> bool
+    ensures { λ r.
+        let left = word (now (now (s .entry))) (tokenAt (now (now (cells .entry))) at) in
+        let right = word (now (now (s2 .entry))) (tokenAt (now (now (cells2 .entry))) at2) in
+        ⌜ Decides r (sort ≡ 7 → Agree left right) ⌝ }
+{
+    if sort == Sort::FIELDS {
+        return agree_token_at(s, cells, at, s2, cells2, at2);
+    }
+    true
+}
+
+// The last part of two nodes in one order: nothing, a node, or a list of fields or of nodes. Only
+// `agree_node` calls this, and as the last thing done: so it is put into its frame, and the last
+// node or member is a turn of its loop.
+fn agree_last(
+    s: &&[u8],
+    nodes: &&[u32],
+    types: &&[u32],
+    cells: &&[u32],
+    k: u32,
+    i: u32,
+    s2: &&[u8],
+    nodes2: &&[u32],
+    types2: &&[u32],
+    cells2: &&[u32],
+    k2: u32,
+    j: u32,
+    order: u32,
+) -> bool
+    requires { ⌜ order < 17 ⌝ }
+    ensures { λ r.
+        let left =
+        view (now (now (s .entry))) (now (now (nodes .entry))) (now (now (types .entry)))
+        (now (now (cells .entry))) k
+        in
+        let right =
+        view (now (now (s2 .entry))) (now (now (nodes2 .entry))) (now (now (types2 .entry)))
+        (now (now (cells2 .entry))) k2
+        in
+        let agrees =
+        PartsAgree (envBelow left i) (envBelow right j) order
+        (now (now (nodes .entry))) (nodeWidth * i) (now (now (nodes2 .entry))) (nodeWidth * j)
+        in
+        ⌜ Decides r (agrees 5) ⌝ }
+{
     let last = parts_of(order) / BEFORE_LAST;
     let sort = last / 16;
     if sort == 0 {
@@ -178,118 +268,63 @@ pub(crate) fn agree_node(
             types,
             cells,
             k,
-            i.0,
-            NodeId(cell(*nodes, Node::WIDTH * i.0 as usize, o)),
+            i,
+            NodeId(cell(*nodes, Node::WIDTH * i as usize, o)),
             s2,
             nodes2,
             types2,
             cells2,
             k2,
-            j.0,
-            NodeId(cell(*nodes2, Node::WIDTH * j.0 as usize, o)),
+            j,
+            NodeId(cell(*nodes2, Node::WIDTH * j as usize, o)),
         );
     }
-    let r = run_at(*nodes, Node::WIDTH * i.0 as usize + o);
-    let r2 = run_at(*nodes2, Node::WIDTH * j.0 as usize + o);
-    if sort == Sort::FIELDS {
-        if r.len != r2.len {
-            return false;
-        }
-        let mut at = r.start as usize;
-        let mut at2 = r2.start as usize;
-        let mut left = r.len as usize;
-        if cells.len() < at + left * 4 {
-            return false;
-        }
-        if cells2.len() < at2 + left * 4 {
-            return false;
-        }
-        if left == 0 {
-            return true;
-        }
-        while 1 < left {
-            if !agree_token_at(s, cells, at, s2, cells2, at2) {
-                return false;
-            }
-            if !agree_node(
-                s,
-                nodes,
-                types,
-                cells,
-                k,
-                i.0,
-                NodeId(cell(*cells, at, 3)),
-                s2,
-                nodes2,
-                types2,
-                cells2,
-                k2,
-                j.0,
-                NodeId(cell(*cells2, at2, 3)),
-            ) {
-                return false;
-            }
-            at += 4;
-            at2 += 4;
-            left -= 1;
-        }
-        if !agree_token_at(s, cells, at, s2, cells2, at2) {
-            return false;
-        }
-        return agree_node(
-            s,
-            nodes,
-            types,
-            cells,
-            k,
-            i.0,
-            NodeId(cell(*cells, at, 3)),
-            s2,
-            nodes2,
-            types2,
-            cells2,
-            k2,
-            j.0,
-            NodeId(cell(*cells2, at2, 3)),
-        );
-    }
+    let r = run_at(*nodes, Node::WIDTH * i as usize + o);
+    let r2 = run_at(*nodes2, Node::WIDTH * j as usize + o);
     if r.len != r2.len {
         return false;
     }
     let mut at = r.start as usize;
     let mut at2 = r2.start as usize;
     let mut left = r.len as usize;
-    if cells.len() < at + left * 1 {
+    let width = member_width(sort);
+    if cells.len() < at + left * width {
         return false;
     }
-    if cells2.len() < at2 + left * 1 {
+    if cells2.len() < at2 + left * width {
         return false;
     }
     if left == 0 {
         return true;
     }
     while 1 < left {
+        if !agree_name(s, cells, at, s2, cells2, at2, sort) {
+            return false;
+        }
         if !agree_node(
             s,
             nodes,
             types,
             cells,
             k,
-            i.0,
-            NodeId(cell(*cells, at, 0)),
+            i,
+            NodeId(cell(*cells, at, width - 1)),
             s2,
             nodes2,
             types2,
             cells2,
             k2,
-            j.0,
-            NodeId(cell(*cells2, at2, 0)),
+            j,
+            NodeId(cell(*cells2, at2, width - 1)),
         ) {
             return false;
         }
-        at += 1;
-        at2 += 1;
+        at += width;
+        at2 += width;
         left -= 1;
+    }
+    if !agree_name(s, cells, at, s2, cells2, at2, sort) {
+        return false;
     }
     agree_node(
         s,
@@ -297,15 +332,15 @@ pub(crate) fn agree_node(
         types,
         cells,
         k,
-        i.0,
-        NodeId(cell(*cells, at, 0)),
+        i,
+        NodeId(cell(*cells, at, width - 1)),
         s2,
         nodes2,
         types2,
         cells2,
         k2,
-        j.0,
-        NodeId(cell(*cells2, at2, 0)),
+        j,
+        NodeId(cell(*cells2, at2, width - 1)),
     )
 }
 
@@ -326,7 +361,20 @@ fn agree_parts(
     order: u32,
 ) -> bool
     requires { ⌜ order < 17 ⌝ }
-    ensures { λ r. ⌜ Decides r ((x : ℕ) → x < 5 → PartsAgree (envBelow (view (now (now (s .entry))) (now (now (nodes .entry))) (now (now (types .entry))) (now (now (cells .entry))) k) i) (envBelow (view (now (now (s2 .entry))) (now (now (nodes2 .entry))) (now (now (types2 .entry))) (now (now (cells2 .entry))) k2) j) order (now (now (nodes .entry))) (16 * i) (now (now (nodes2 .entry))) (16 * j) x) ⌝ }
+    ensures { λ r.
+        let left =
+        view (now (now (s .entry))) (now (now (nodes .entry))) (now (now (types .entry)))
+        (now (now (cells .entry))) k
+        in
+        let right =
+        view (now (now (s2 .entry))) (now (now (nodes2 .entry))) (now (now (types2 .entry)))
+        (now (now (cells2 .entry))) k2
+        in
+        let agrees =
+        PartsAgree (envBelow left i) (envBelow right j) order
+        (now (now (nodes .entry))) (nodeWidth * i) (now (now (nodes2 .entry))) (nodeWidth * j)
+        in
+        ⌜ Decides r ((x : ℕ) → x < 5 → agrees x) ⌝ }
 {
     let mut rest = parts_of(order);
     let mut x = 0;
@@ -358,7 +406,7 @@ fn agree_parts(
     true
 }
 
-// Two parts of one sort.
+// Two parts of one sort. A list of fields stands last in its record, and is not among these.
 fn agree_part(
     s: &&[u8],
     nodes: &&[u32],
@@ -376,7 +424,18 @@ fn agree_part(
     at2: usize,
     sort: u64,
 ) -> bool
-    ensures { λ r. ⌜ Decides r (PartAgrees (envBelow (view (now (now (s .entry))) (now (now (nodes .entry))) (now (now (types .entry))) (now (now (cells .entry))) k) i) (envBelow (view (now (now (s2 .entry))) (now (now (nodes2 .entry))) (now (now (types2 .entry))) (now (now (cells2 .entry))) k2) j) (partOf sort) (now (now (nodes .entry))) at (now (now (nodes2 .entry))) at2) ⌝ }
+    requires { ⌜ (sort ≡ 7 → ⊥) ⌝ }
+    ensures { λ r.
+        let left =
+        view (now (now (s .entry))) (now (now (nodes .entry))) (now (now (types .entry)))
+        (now (now (cells .entry))) k
+        in
+        let right =
+        view (now (now (s2 .entry))) (now (now (nodes2 .entry))) (now (now (types2 .entry)))
+        (now (now (cells2 .entry))) k2
+        in
+        ⌜ Decides r (PartAgrees (envBelow left i) (envBelow right j) (partOf sort)
+        (now (now (nodes .entry))) at (now (now (nodes2 .entry))) at2) ⌝ }
 {
     if sort == Sort::TOKEN {
         return agree_token_at(s, nodes, at, s2, nodes2, at2);
@@ -451,24 +510,6 @@ fn agree_part(
             run_at(*nodes2, at2),
         );
     }
-    if sort == Sort::FIELDS {
-        return agree_fields(
-            s,
-            nodes,
-            types,
-            cells,
-            k,
-            i,
-            run_at(*nodes, at),
-            s2,
-            nodes2,
-            types2,
-            cells2,
-            k2,
-            j,
-            run_at(*nodes2, at2),
-        );
-    }
     if sort == Sort::CASES {
         return agree_cases(
             s,
@@ -525,7 +566,16 @@ fn agree_nodes(
     j: u32,
     r2: Run,
 ) -> bool
-    ensures { λ b. ⌜ Decides b (Agree (shapes (envBelow (view (now (now (s .entry))) (now (now (nodes .entry))) (now (now (types .entry))) (now (now (cells .entry))) k) i) r) (shapes (envBelow (view (now (now (s2 .entry))) (now (now (nodes2 .entry))) (now (now (types2 .entry))) (now (now (cells2 .entry))) k2) j) r2)) ⌝ }
+    ensures { λ b.
+        let left =
+        view (now (now (s .entry))) (now (now (nodes .entry))) (now (now (types .entry)))
+        (now (now (cells .entry))) k
+        in
+        let right =
+        view (now (now (s2 .entry))) (now (now (nodes2 .entry))) (now (now (types2 .entry)))
+        (now (now (cells2 .entry))) k2
+        in
+        ⌜ Decides b (Agree (shapes (envBelow left i) r) (shapes (envBelow right j) r2)) ⌝ }
 {
     if r.len != r2.len {
         return false;
@@ -533,10 +583,10 @@ fn agree_nodes(
     let mut at = r.start as usize;
     let mut at2 = r2.start as usize;
     let mut left = r.len as usize;
-    if cells.len() < at + left * 1 {
+    if cells.len() < at + left * NODE_WIDTH {
         return false;
     }
-    if cells2.len() < at2 + left * 1 {
+    if cells2.len() < at2 + left * NODE_WIDTH {
         return false;
     }
     while 0 < left {
@@ -558,68 +608,8 @@ fn agree_nodes(
         ) {
             return false;
         }
-        at += 1;
-        at2 += 1;
-        left -= 1;
-    }
-    true
-}
-
-// Two lists of names with their values.
-fn agree_fields(
-    s: &&[u8],
-    nodes: &&[u32],
-    types: &&[u32],
-    cells: &&[u32],
-    k: u32,
-    i: u32,
-    r: Run,
-    s2: &&[u8],
-    nodes2: &&[u32],
-    types2: &&[u32],
-    cells2: &&[u32],
-    k2: u32,
-    j: u32,
-    r2: Run,
-) -> bool
-    ensures { λ b. ⌜ Decides b (Agree (fields (envBelow (view (now (now (s .entry))) (now (now (nodes .entry))) (now (now (types .entry))) (now (now (cells .entry))) k) i) r) (fields (envBelow (view (now (now (s2 .entry))) (now (now (nodes2 .entry))) (now (now (types2 .entry))) (now (now (cells2 .entry))) k2) j) r2)) ⌝ }
-{
-    if r.len != r2.len {
-        return false;
-    }
-    let mut at = r.start as usize;
-    let mut at2 = r2.start as usize;
-    let mut left = r.len as usize;
-    if cells.len() < at + left * 4 {
-        return false;
-    }
-    if cells2.len() < at2 + left * 4 {
-        return false;
-    }
-    while 0 < left {
-        if !agree_token_at(s, cells, at, s2, cells2, at2) {
-            return false;
-        }
-        if !agree_node(
-            s,
-            nodes,
-            types,
-            cells,
-            k,
-            i,
-            NodeId(cell(*cells, at, 3)),
-            s2,
-            nodes2,
-            types2,
-            cells2,
-            k2,
-            j,
-            NodeId(cell(*cells2, at2, 3)),
-        ) {
-            return false;
-        }
-        at += 4;
-        at2 += 4;
+        at += NODE_WIDTH;
+        at2 += NODE_WIDTH;
         left -= 1;
     }
     true
@@ -642,7 +632,16 @@ fn agree_cases(
     j: u32,
     r2: Run,
 ) -> bool
-    ensures { λ b. ⌜ Decides b (Agree (cases (envBelow (view (now (now (s .entry))) (now (now (nodes .entry))) (now (now (types .entry))) (now (now (cells .entry))) k) i) r) (cases (envBelow (view (now (now (s2 .entry))) (now (now (nodes2 .entry))) (now (now (types2 .entry))) (now (now (cells2 .entry))) k2) j) r2)) ⌝ }
+    ensures { λ b.
+        let left =
+        view (now (now (s .entry))) (now (now (nodes .entry))) (now (now (types .entry)))
+        (now (now (cells .entry))) k
+        in
+        let right =
+        view (now (now (s2 .entry))) (now (now (nodes2 .entry))) (now (now (types2 .entry)))
+        (now (now (cells2 .entry))) k2
+        in
+        ⌜ Decides b (Agree (cases (envBelow left i) r) (cases (envBelow right j) r2)) ⌝ }
 {
     if r.len != r2.len {
         return false;
@@ -650,10 +649,10 @@ fn agree_cases(
     let mut at = r.start as usize;
     let mut at2 = r2.start as usize;
     let mut left = r.len as usize;
-    if cells.len() < at + left * 6 {
+    if cells.len() < at + left * CASE_WIDTH {
         return false;
     }
-    if cells2.len() < at2 + left * 6 {
+    if cells2.len() < at2 + left * CASE_WIDTH {
         return false;
     }
     while 0 < left {
@@ -699,8 +698,8 @@ fn agree_cases(
         ) {
             return false;
         }
-        at += 6;
-        at2 += 6;
+        at += CASE_WIDTH;
+        at2 += CASE_WIDTH;
         left -= 1;
     }
     true

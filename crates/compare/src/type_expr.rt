@@ -1,4 +1,5 @@
-// When two types, or two lists of arguments or of fns, agree. The number of a type falls from call to call.
+// When two types, or two lists of arguments or of fns, agree. The number of a type falls from call
+// to call.
 use crate::kind::kind_at;
 use crate::word::agree_token_at;
 use crate::word::agree_words;
@@ -8,12 +9,16 @@ use ast::TypeExprId;
 use ast::TypeExprKind;
 use ast::decode::cell;
 use ast::decode::run_at;
+use ast::schema::FN_WIDTH;
+use ast::schema::PARAM_WIDTH;
 ghost use Rattle.rules.specs.Shape.{params, fns};
 ghost use Rattle.compare.specs.Agree.{Agree, Decides};
 ghost use Rattle.compare.specs.Shapes.{typesBelow, typeEnv};
 
-// Type `i`, below `n`, and type `j`, below `m`. The last call is the last thing done, and passes nothing that lies in this function's
-// frame, so that a long chain takes no stack.
+// Type `i`, below `n`, and type `j`, below `m`. What a type holds, or the last field of a record, is
+// the last thing done, and is passed nothing that lies in this function's frame, so that a long
+// chain takes no stack. The loop over a record's fields is not that of `agree_params`: a call of it
+// would lie between two levels.
 pub(crate) fn agree_type(
     s: &&[u8],
     types: &&[u32],
@@ -26,7 +31,13 @@ pub(crate) fn agree_type(
     m: u32,
     j: TypeExprId,
 ) -> bool
-    ensures { λ r. ⌜ Decides r (Agree (typesBelow (now (now (s .entry))) (now (now (cells .entry))) (now (now (types .entry))) n (i .0)) (typesBelow (now (now (s2 .entry))) (now (now (cells2 .entry))) (now (now (types2 .entry))) m (j .0))) ⌝ }
+    ensures { λ r.
+        let left =
+        typesBelow (now (now (s .entry))) (now (now (cells .entry))) (now (now (types .entry))) in
+        let right =
+        typesBelow (now (now (s2 .entry))) (now (now (cells2 .entry))) (now (now (types2 .entry)))
+        in
+        ⌜ Decides r (Agree (left n (i .0)) (right m (j .0))) ⌝ }
 {
     if n <= i.0 {
         return false;
@@ -77,17 +88,59 @@ pub(crate) fn agree_type(
     if kind != TypeExprKind::RECORD {
         return true;
     }
-    agree_params(
+    let r = run_at(*types, at + 4);
+    let r2 = run_at(*types2, at2 + 4);
+    if r.len != r2.len {
+        return false;
+    }
+    let mut at = r.start as usize;
+    let mut at2 = r2.start as usize;
+    let mut left = r.len as usize;
+    if cells.len() < at + left * PARAM_WIDTH {
+        return false;
+    }
+    if cells2.len() < at2 + left * PARAM_WIDTH {
+        return false;
+    }
+    if left == 0 {
+        return true;
+    }
+    while 1 < left {
+        if !agree_token_at(s, cells, at, s2, cells2, at2) {
+            return false;
+        }
+        if !agree_type(
+            s,
+            types,
+            cells,
+            i.0,
+            TypeExprId(cell(*cells, at, 3)),
+            s2,
+            types2,
+            cells2,
+            j.0,
+            TypeExprId(cell(*cells2, at2, 3)),
+        ) {
+            return false;
+        }
+        at += PARAM_WIDTH;
+        at2 += PARAM_WIDTH;
+        left -= 1;
+    }
+    if !agree_token_at(s, cells, at, s2, cells2, at2) {
+        return false;
+    }
+    agree_type(
         s,
         types,
         cells,
         i.0,
-        run_at(*types, at + 4),
+        TypeExprId(cell(*cells, at, 3)),
         s2,
         types2,
         cells2,
         j.0,
-        run_at(*types2, at2 + 4),
+        TypeExprId(cell(*cells2, at2, 3)),
     )
 }
 
@@ -104,7 +157,12 @@ pub(crate) fn agree_params(
     m: u32,
     r2: Run,
 ) -> bool
-    ensures { λ b. ⌜ Decides b (Agree (params (typeEnv (now (now (s .entry))) (now (now (cells .entry))) (now (now (types .entry))) n) r) (params (typeEnv (now (now (s2 .entry))) (now (now (cells2 .entry))) (now (now (types2 .entry))) m) r2)) ⌝ }
+    ensures { λ b.
+        let left =
+        typeEnv (now (now (s .entry))) (now (now (cells .entry))) (now (now (types .entry))) n in
+        let right =
+        typeEnv (now (now (s2 .entry))) (now (now (cells2 .entry))) (now (now (types2 .entry))) m in
+        ⌜ Decides b (Agree (params left r) (params right r2)) ⌝ }
 {
     if r.len != r2.len {
         return false;
@@ -112,10 +170,10 @@ pub(crate) fn agree_params(
     let mut at = r.start as usize;
     let mut at2 = r2.start as usize;
     let mut left = r.len as usize;
-    if cells.len() < at + left * 4 {
+    if cells.len() < at + left * PARAM_WIDTH {
         return false;
     }
-    if cells2.len() < at2 + left * 4 {
+    if cells2.len() < at2 + left * PARAM_WIDTH {
         return false;
     }
     while 0 < left {
@@ -136,8 +194,8 @@ pub(crate) fn agree_params(
         ) {
             return false;
         }
-        at += 4;
-        at2 += 4;
+        at += PARAM_WIDTH;
+        at2 += PARAM_WIDTH;
         left -= 1;
     }
     true
@@ -156,7 +214,12 @@ pub(crate) fn agree_fns(
     m: u32,
     r2: Run,
 ) -> bool
-    ensures { λ b. ⌜ Decides b (Agree (fns (typeEnv (now (now (s .entry))) (now (now (cells .entry))) (now (now (types .entry))) n) r) (fns (typeEnv (now (now (s2 .entry))) (now (now (cells2 .entry))) (now (now (types2 .entry))) m) r2)) ⌝ }
+    ensures { λ b.
+        let left =
+        typeEnv (now (now (s .entry))) (now (now (cells .entry))) (now (now (types .entry))) n in
+        let right =
+        typeEnv (now (now (s2 .entry))) (now (now (cells2 .entry))) (now (now (types2 .entry))) m in
+        ⌜ Decides b (Agree (fns left r) (fns right r2)) ⌝ }
 {
     if r.len != r2.len {
         return false;
@@ -164,10 +227,10 @@ pub(crate) fn agree_fns(
     let mut at = r.start as usize;
     let mut at2 = r2.start as usize;
     let mut left = r.len as usize;
-    if cells.len() < at + left * 8 {
+    if cells.len() < at + left * FN_WIDTH {
         return false;
     }
-    if cells2.len() < at2 + left * 8 {
+    if cells2.len() < at2 + left * FN_WIDTH {
         return false;
     }
     while 0 < left {
@@ -212,8 +275,8 @@ pub(crate) fn agree_fns(
         ) {
             return false;
         }
-        at += 8;
-        at2 += 8;
+        at += FN_WIDTH;
+        at2 += FN_WIDTH;
         left -= 1;
     }
     true

@@ -1,6 +1,7 @@
 // When two tokens, or two lists of tokens, say the same.
 use ast::Run;
 use ast::decode::token_at;
+use ast::schema::TOKEN_WIDTH;
 use lex::Found;
 use lex::Token;
 use lex::Type;
@@ -40,7 +41,10 @@ pub(crate) fn agree_token_at(
     b: &&[u32],
     at2: usize,
 ) -> bool
-    ensures { λ r. ⌜ Decides r (Agree (word (now (now (s .entry))) (tokenAt (now (now (a .entry))) at)) (word (now (now (s2 .entry))) (tokenAt (now (now (b .entry))) at2))) ⌝ }
+    ensures { λ r.
+        let left = word (now (now (s .entry))) (tokenAt (now (now (a .entry))) at) in
+        let right = word (now (now (s2 .entry))) (tokenAt (now (now (b .entry))) at2) in
+        ⌜ Decides r (Agree left right) ⌝ }
 {
     let t = token_at(*a, at);
     let t2 = token_at(*b, at2);
@@ -67,7 +71,10 @@ pub(crate) fn agree_words(
     cells2: &&[u32],
     r2: Run,
 ) -> bool
-    ensures { λ b. ⌜ Decides b (Agree (words (wordEnv (now (now (s .entry))) (now (now (cells .entry)))) r) (words (wordEnv (now (now (s2 .entry))) (now (now (cells2 .entry)))) r2)) ⌝ }
+    ensures { λ b.
+        let left = wordEnv (now (now (s .entry))) (now (now (cells .entry))) in
+        let right = wordEnv (now (now (s2 .entry))) (now (now (cells2 .entry))) in
+        ⌜ Decides b (Agree (words left r) (words right r2)) ⌝ }
 {
     if r.len != r2.len {
         return false;
@@ -75,18 +82,18 @@ pub(crate) fn agree_words(
     let mut at = r.start as usize;
     let mut at2 = r2.start as usize;
     let mut left = r.len as usize;
-    if cells.len() < at + left * 3 {
+    if cells.len() < at + left * TOKEN_WIDTH {
         return false;
     }
-    if cells2.len() < at2 + left * 3 {
+    if cells2.len() < at2 + left * TOKEN_WIDTH {
         return false;
     }
     while 0 < left {
         if !agree_token_at(s, cells, at, s2, cells2, at2) {
             return false;
         }
-        at += 3;
-        at2 += 3;
+        at += TOKEN_WIDTH;
+        at2 += TOKEN_WIDTH;
         left -= 1;
     }
     true

@@ -36,3 +36,11 @@ rTooManyLines = 47
 -- the buffer for a practice sheet is too short
 abbrev pub rPracticeTooShort : ℕ
 rPracticeTooShort = 48
+
+-- a position is below the one before it
+abbrev pub rPositionsFall : ℕ
+rPositionsFall = 49
+
+-- the list for lines and columns is too short
+abbrev pub rPlacesTooShort : ℕ
+rPlacesTooShort = 50

@@ -71,4 +71,8 @@ impl Refusal {
     pub const TOO_MANY_LINES: u32 = 47; // a practice sheet has at most 16 lines
 
     pub const PRACTICE_TOO_SHORT: u32 = 48; // the buffer for a practice sheet is too short
+
+    pub const POSITIONS_FALL: u32 = 49; // a position is below the one before it
+
+    pub const PLACES_TOO_SHORT: u32 = 50; // the list for lines and columns is too short
 }

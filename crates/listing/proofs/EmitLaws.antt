@@ -40,19 +40,19 @@ use Rattle.text.specs.Emit.{last, put, emit, Emits}
 -- of `n` members those before `i` are written
 pub record Members (text : ℕ → List ℕ) (n : ℕ) (x : List ℕ) (p : ℕ) (y : List ℕ) (q i : ℕ) : Type 0 where
   pub bound : i ≤ n
-  pub written : Emits (each text i) x p y q
+  pub emitted : Emits (each text i) x p y q
 
 module _ {text : ℕ → List ℕ} {n : ℕ} {x : List ℕ} {p : ℕ} where
   pub members-none : Members text n x p x p 0
   unfolding each
-  members-none = record { bound = omega arith; written = nothing }
+  members-none = record { bound = omega arith; emitted = nothing }
 
   pub members-next : {y z : List ℕ} {q r i : ℕ} → Members text n x p y q i → Emits (text i) y q z r → i < n → Members text n x p z r (i + 1)
   unfolding each
-  members-next m f h = record { bound = omega arith; written = rw add-one (then (m .written) f) }
+  members-next m f h = record { bound = omega arith; emitted = rw add-one (then (m .emitted) f) }
 
   pub members-all : {y : List ℕ} {q i : ℕ} → Members text n x p y q i → n ≤ i → Emits (each text n) x p y q
-  members-all m h = by (ap (each text) (omega arith)) (m .written)
+  members-all m h = by (ap (each text) (omega arith)) (m .emitted)
 
 -- ---- what is no byte
 

@@ -12,7 +12,7 @@ use borrow.Author.Tests.{lt-ltb, le-ltb, le-leb, lt-leb, leb-true}
 use Rattle.listing.specs.declared.Listing.{Listing}
 use Rattle.listing.specs.declared.Listing.the-variants as L
 use Rattle.text.specs.Emit.{plain}
-use Rattle.listing.specs.Listing.{written, listingAnswer}
+use Rattle.listing.specs.Listing.{intoBuffer, listingAnswer}
 use Rattle.text.specs.Answer as T
 use Rattle.text.specs.Answer.{Result, refuse, inFront}
 use Rattle.text.specs.Emit.{Output, last, put, emit, Emits}
@@ -69,23 +69,23 @@ module _ {text y : List ℕ} (x : List ℕ) {n : ℕ} (measured : Emits text [] 
   length-is : plain text ≡ true → n ≡ min (length text) last
   length-is e = sym counted ∙ bytes-count text (record { buffer = []; at = 0 }) e (omega arith) ∙ omega arith
 
-  pub no-tree : n ≡ last → _≡_ {A = Result} (record { answer = T.refused 4; buffer = y ++ x }) (written text x)
-  unfolding written
+  pub no-tree : n ≡ last → _≡_ {A = Result} (record { answer = T.refused 4; buffer = y ++ x }) (intoBuffer text x)
+  unfolding intoBuffer
   no-tree h = rw kept (go (plain text) refl)
     where
-      go : (t : Bool) → plain text ≡ t → _≡_ {A = Result} (record { answer = T.refused 4; buffer = x }) (written text x)
-      go true e = let l : last ≤ length text = omega (arith, length-is e) in rw (e, le-ltb (length text) last l, written)
-      go false e = rw (e, written)
+      go : (t : Bool) → plain text ≡ t → _≡_ {A = Result} (record { answer = T.refused 4; buffer = x }) (intoBuffer text x)
+      go true e = let l : last ≤ length text = omega (arith, length-is e) in rw (e, le-ltb (length text) last l, intoBuffer)
+      go false e = rw (e, intoBuffer)
 
-  pub no-room : (n ≡ last → ⊥) → length x < n → _≡_ {A = Result} (record { answer = T.refused 2; buffer = y ++ x }) (written text x)
-  unfolding written
+  pub no-room : (n ≡ last → ⊥) → length x < n → _≡_ {A = Result} (record { answer = T.refused 2; buffer = y ++ x }) (intoBuffer text x)
+  unfolding intoBuffer
   no-room h l =
       let e : plain text ≡ true = all-bytes h in
       let m : n ≡ min (length text) last = length-is e in
-      rw (kept, e, lt-ltb (length text) last (omega arith), lt-leb (length text) (length x) (omega arith), written)
+      rw (kept, e, lt-ltb (length text) last (omega arith), lt-leb (length text) (length x) (omega arith), intoBuffer)
 
-  pub whole : {z : List ℕ} {m : ℕ} → (n ≡ last → ⊥) → n ≤ length x → Emits text (y ++ x) 0 z m → _≡_ {A = Result} (record { answer = T.written m; buffer = z }) (written text x)
-  unfolding written
+  pub whole : {z : List ℕ} {m : ℕ} → (n ≡ last → ⊥) → n ≤ length x → Emits text (y ++ x) 0 z m → _≡_ {A = Result} (record { answer = T.written m; buffer = z }) (intoBuffer text x)
+  unfolding intoBuffer
   whole {z} {m} h l f =
       let e : plain text ≡ true = all-bytes h in
       let k : n ≡ min (length text) last = length-is e in
@@ -93,11 +93,11 @@ module _ {text y : List ℕ} (x : List ℕ) {n : ℕ} (measured : Emits text [] 
       let g : _≡_ {A = Output} (record { buffer = z; at = m }) (emit text o) = f .emitted ∙ ap (λ (b : List ℕ). emit text (record { buffer = b; at = 0 })) kept in
       let to : m ≡ length text = ap (λ (o : Output). o .at) g ∙ bytes-count text o e (omega arith) ∙ omega arith in
       let out : z ≡ text ++ drop (length text) x = ap (λ (o : Output). o .buffer) g ∙ bytes-in text o e (omega arith) ∙ sets-eq text x 0 (omega arith) ∙ ap (λ (i : ℕ). text ++ drop i x) (zero-add (length text)) in
-      rw (e, lt-ltb (length text) last (omega arith), le-leb (length text) (length x) (omega arith), to, out, written)
+      rw (e, lt-ltb (length text) last (omega arith), le-leb (length text) (length x) (omega arith), to, out, intoBuffer)
 
 -- a text that was written lies in its buffer
-pub inside-buffer : (text buffer : List ℕ) (n : ℕ) {r : Listing} {out : List ℕ} → _≡_ {A = Result} (record { answer = listingAnswer r; buffer = out }) (written text buffer) → r ≡ L.Written n → n ≤ length buffer
-unfolding written listingAnswer
+pub inside-buffer : (text buffer : List ℕ) (n : ℕ) {r : Listing} {out : List ℕ} → _≡_ {A = Result} (record { answer = listingAnswer r; buffer = out }) (intoBuffer text buffer) → r ≡ L.Written n → n ≤ length buffer
+unfolding intoBuffer listingAnswer
 inside-buffer text buffer n h k = go (plain text && ltb (length text) last) (leb (length text) (length buffer)) refl (ap listingAnswer (sym k) ∙ ap (λ (x : Result). x .answer) h)
   where
     go : (t u : Bool) → leb (length text) (length buffer) ≡ u

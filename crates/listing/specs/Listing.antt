@@ -11,7 +11,9 @@ use Rattle.ast.specs.declared.Node.{Node}
 use Rattle.ast.specs.declared.TypeExpr.{TypeExpr}
 use Rattle.ast.specs.declared.Parsed.{Parsed}
 use Rattle.ast.specs.declared.Parsed.the-variants as P
-use Rattle.ast.specs.Layout.{nodeWidth, typeWidth}
+use Rattle.lex.specs.Errors.{eTooDeep}
+use Rattle.lex.specs.Refusals.{rTooShort, rMalformed}
+use Rattle.ast.specs.Layout.{nodeWidth, typeWidth, diagnosticWidth}
 use Rattle.rules.specs.Tree.{Tree}
 use Rattle.rules.specs.Parse.{Reading, read, ended}
 use Rattle.rules.specs.Promise.{Arrays, noError}
@@ -46,25 +48,34 @@ typeLine cells types i = line (bytes "type") (number i ∷ typeText cells (types
 
 unfoldable pub countsLine : ℕ → ℕ → ℕ → List ℕ
 countsLine nodes types values =
-    line (bytes "tree") (form (bytes "nodes") (number nodes ∷ []) ∷ form (bytes "types") (number types ∷ []) ∷ form (bytes "values") (number values ∷ []) ∷ [])
+    line (bytes "tree")
+    (form (bytes "nodes") (number nodes ∷ []) ∷
+    form (bytes "types") (number types ∷ []) ∷
+    form (bytes "values") (number values ∷ []) ∷ [])
 
 unfoldable pub rootsLine : (ℕ → ℕ) → ℕ → List ℕ
-rootsLine root n = (40 ∷ bytes "roots") ++ (each (λ i. gap 1 ++ number (root i)) n ++ (41 ∷ 10 ∷ []))
+rootsLine root n =
+    (40 ∷ bytes "roots") ++ (each (λ i. gap 1 ++ number (root i)) n ++ (41 ∷ 10 ∷ []))
 
 -- an error's five numbers under a name
 unfoldable pub numbersLine : List ℕ → Diagnostic → List ℕ
-numbersLine name e = line name (number (e .number) ∷ number (e .start) ∷ number (e .len) ∷ number (e .wanted) ∷ number (e .seen) ∷ [])
+numbersLine name e =
+    line name
+    (number (e .number) ∷ number (e .start) ∷ number (e .len) ∷
+    number (e .wanted) ∷ number (e .seen) ∷ [])
 
 -- 10 is a refusal, and has no kinds
 unfoldable pub errorLine : Diagnostic → List ℕ
 errorLine e =
-    elim (eqb (e .number) 10) [
-      | true ↦ line (bytes "refused") (number (e .number) ∷ number (e .start) ∷ number (e .len) ∷ [])
+    elim (eqb (e .number) eTooDeep) [
+      | true ↦
+          line (bytes "refused") (number (e .number) ∷ number (e .start) ∷ number (e .len) ∷ [])
       | false ↦ numbersLine (bytes "error") e
     ]
 
 -- a tree by its counts and its records, wherever they are taken from
-unfoldable pub treeText : Counts → List ℕ → (ℕ → Option Node) → (ℕ → Option TypeExpr) → (ℕ → ℕ) → (ℕ → Diagnostic) → List ℕ
+unfoldable pub treeText : Counts → List ℕ → (ℕ → Option Node) → (ℕ → Option TypeExpr)
+    → (ℕ → ℕ) → (ℕ → Diagnostic) → List ℕ
 treeText c cells nodes types root error =
     countsLine (c .nodes) (c .types) (c .values)
     ++ (each (nodeLine cells nodes) (c .nodes)
@@ -75,11 +86,21 @@ treeText c cells nodes types root error =
 -- ---- the listing of a reading
 
 abbrev pub countsOf : Tree → List Diagnostic → Counts
-countsOf t es = record { nodes = length (t .arena .nodes); types = length (t .arena .types); cells = length (t .arena .cells); roots = length (t .roots); values = t .arena .values; diagnostics = length es }
+countsOf t es =
+    record {
+      nodes = length (t .arena .nodes);
+      types = length (t .arena .types);
+      cells = length (t .arena .cells);
+      roots = length (t .roots);
+      values = t .arena .values;
+      diagnostics = length es;
+    }
 
 unfoldable pub listingOf : Reading → List ℕ
 listingOf (read t es) =
-    treeText (countsOf t es) (t .arena .cells) (getElem? (t .arena .nodes)) (getElem? (t .arena .types)) (λ i. getD (t .roots) i 0) (λ i. getD es i noError)
+    treeText (countsOf t es) (t .arena .cells)
+    (getElem? (t .arena .nodes)) (getElem? (t .arena .types))
+    (λ i. getD (t .roots) i 0) (λ i. getD es i noError)
 listingOf (ended e) = errorLine e
 
 -- ---- the listing of arrays
@@ -91,16 +112,26 @@ within c a =
     && (leb (typeWidth * c .types) (length (a .types))
     && (leb (c .cells) (length (a .lists))
     && (leb (c .roots) (length (a .roots))
-    && leb (5 * c .diagnostics) (length (a .diagnostics)))))
+    && leb (diagnosticWidth * c .diagnostics) (length (a .diagnostics)))))
 
 abbrev pub diagnosticAt : List ℕ → ℕ → Diagnostic
-diagnosticAt xs i = record { number = getD xs (5 * i) 0; start = getD xs (5 * i + 1) 0; len = getD xs (5 * i + 2) 0; wanted = getD xs (5 * i + 3) 0; seen = getD xs (5 * i + 4) 0 }
+diagnosticAt xs i =
+    record {
+      number = getD xs (diagnosticWidth * i) 0;
+      start = getD xs (diagnosticWidth * i + 1) 0;
+      len = getD xs (diagnosticWidth * i + 2) 0;
+      wanted = getD xs (diagnosticWidth * i + 3) 0;
+      seen = getD xs (diagnosticWidth * i + 4) 0;
+    }
 
--- what is listed of an answer and of arrays whoever filled them; of a refusal without a place its number
+-- what is listed of an answer and of arrays whoever filled them; of a refusal without a place its
+-- number
 unfoldable pub textOf : Parsed → Arrays → List ℕ
 textOf (P.Tree c) a =
     elim (within c a) [
-      | true ↦ treeText c (take (c .cells) (a .lists)) (nodeAt (a .nodes)) (typeAt (a .types)) (λ i. getD (a .roots) i 0) (diagnosticAt (a .diagnostics))
+      | true ↦
+          treeText c (take (c .cells) (a .lists)) (nodeAt (a .nodes)) (typeAt (a .types))
+          (λ i. getD (a .roots) i 0) (diagnosticAt (a .diagnostics))
       | false ↦ malformed
     ]
 textOf (P.Error e) a = errorLine e
@@ -108,16 +139,21 @@ textOf (P.Refused n) a = line (bytes "refused") (number n ∷ [])
 
 -- ---- into a buffer
 
--- the text in front; refused, with the buffer as it was, where that is too short (2), and where the text has what is no byte, or 2^64 - 1 bytes or more (4)
-unfoldable pub written : List ℕ → List ℕ → Result
-written text buffer =
+-- the text in front; refused, with the buffer as it was, where that is too short (2), and where the
+-- text has what is no byte, or 2^64 - 1 bytes or more (4)
+unfoldable pub intoBuffer : List ℕ → List ℕ → Result
+intoBuffer text buffer =
     elim (plain text && ltb (length text) 18446744073709551615) [
-      | true ↦ elim (leb (length text) (length buffer)) [ true ↦ inFront text buffer | false ↦ refuse 2 buffer ]
-      | false ↦ refuse 4 buffer
+      | true ↦
+          elim (leb (length text) (length buffer)) [
+            | true ↦ inFront text buffer
+            | false ↦ refuse rTooShort buffer
+          ]
+      | false ↦ refuse rMalformed buffer
     ]
 
 -- document 01's number, or the length, for each case of an answer
 unfoldable pub listingAnswer : Listing → Answer
 listingAnswer (L.Written n) = T.written n
-listingAnswer L.Short = T.refused 2
-listingAnswer L.Malformed = T.refused 4
+listingAnswer L.Short = T.refused rTooShort
+listingAnswer L.Malformed = T.refused rMalformed

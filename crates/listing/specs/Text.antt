@@ -15,7 +15,8 @@ use Rattle.ast.specs.Schema.{Members, memberWidth}
 use Rattle.ast.specs.Decode.{tokenAt, runAt}
 use Rattle.text.specs.Text.{bytes, number}
 
--- stands in a text, where it is no byte, for what cannot be listed: a kind that there is not, a run outside the list cells
+-- stands in a text, where it is no byte, for what cannot be listed: a kind that there is not, a run
+-- outside the list cells
 abbrev pub malformed : List ℕ
 malformed = 256 ∷ []
 
@@ -48,7 +49,9 @@ each text (suc n) = each text n ++ text n
 unfoldable pub listed : ℕ → List ℕ → (ℕ → List ℕ) → Run → List ℕ
 listed width cells member r =
     elim (leb (r .start + width * r .len) (length cells)) [
-      | true ↦ (40 ∷ []) ++ (each (λ i. gap i ++ member (r .start + width * i)) (r .len) ++ (41 ∷ []))
+      | true ↦
+          (40 ∷ [])
+          ++ (each (λ i. gap i ++ member (r .start + width * i)) (r .len) ++ (41 ∷ []))
       | false ↦ malformed
     ]
 
@@ -57,11 +60,15 @@ listed width cells member r =
 -- the names of `Type` in its order, from 1 on
 unfoldable pub kindNames : List (List ℕ)
 kindNames =
-    malformed ∷ bytes "Eof" ∷ bytes "BraceLeft" ∷ bytes "BraceRight" ∷ bytes "Plus" ∷ bytes "Minus" ∷ bytes "Asteriks" ∷ bytes "Slash" ∷ bytes "Percent" ∷
-    bytes "Equal" ∷ bytes "DoubleEqual" ∷ bytes "LessThan" ∷ bytes "GreaterThan" ∷ bytes "Exclaim" ∷ bytes "NotEqual" ∷ bytes "Question" ∷ bytes "Colon" ∷
-    bytes "Dot" ∷ bytes "BraketLeft" ∷ bytes "BraketRight" ∷ bytes "CurlyLeft" ∷ bytes "CurlyRight" ∷ bytes "S" ∷ bytes "D" ∷ bytes "I" ∷ bytes "Ident" ∷
-    bytes "Doc" ∷ bytes "Import" ∷ bytes "Extern" ∷ bytes "Let" ∷ bytes "Fn" ∷ bytes "Match" ∷ bytes "As" ∷ bytes "True" ∷ bytes "False" ∷ bytes "Str" ∷
-    bytes "Int" ∷ bytes "Double" ∷ bytes "Bool" ∷ bytes "Void" ∷ bytes "Option" ∷ bytes "Array" ∷ bytes "Foreign" ∷ bytes "Record" ∷ []
+    malformed ∷ bytes "Eof" ∷ bytes "BraceLeft" ∷ bytes "BraceRight" ∷ bytes "Plus" ∷
+    bytes "Minus" ∷ bytes "Asteriks" ∷ bytes "Slash" ∷ bytes "Percent" ∷ bytes "Equal" ∷
+    bytes "DoubleEqual" ∷ bytes "LessThan" ∷ bytes "GreaterThan" ∷ bytes "Exclaim" ∷
+    bytes "NotEqual" ∷ bytes "Question" ∷ bytes "Colon" ∷ bytes "Dot" ∷ bytes "BraketLeft" ∷
+    bytes "BraketRight" ∷ bytes "CurlyLeft" ∷ bytes "CurlyRight" ∷ bytes "S" ∷ bytes "D" ∷
+    bytes "I" ∷ bytes "Ident" ∷ bytes "Doc" ∷ bytes "Import" ∷ bytes "Extern" ∷ bytes "Let" ∷
+    bytes "Fn" ∷ bytes "Match" ∷ bytes "As" ∷ bytes "True" ∷ bytes "False" ∷ bytes "Str" ∷
+    bytes "Int" ∷ bytes "Double" ∷ bytes "Bool" ∷ bytes "Void" ∷ bytes "Option" ∷ bytes "Array" ∷
+    bytes "Foreign" ∷ bytes "Record" ∷ []
 
 unfoldable pub kindName : ℕ → List ℕ
 kindName k = getD kindNames k malformed
@@ -96,7 +103,10 @@ module _ (cells : List ℕ) where
 
   -- `(docs name args type)`
   unfoldable pub externFn : ℕ → List ℕ
-  externFn j = tuple (tokens (runAt cells j)) (token (tokenAt cells (j + 2)) ∷ pairs (runAt cells (j + 5)) ∷ number (getD cells (j + 7) 0) ∷ [])
+  externFn j =
+      tuple (tokens (runAt cells j))
+      (token (tokenAt cells (j + 2)) ∷ pairs (runAt cells (j + 5)) ∷
+      number (getD cells (j + 7) 0) ∷ [])
 
   unfoldable pub externFns : Run → List ℕ
   externFns = listed (memberWidth S.fns) cells externFn
@@ -123,17 +133,27 @@ module _ (cells : List ℕ) where
   unfoldable pub node : Node → List ℕ
   node (N.Atom id raw) = form (bytes "Atom") (number id ∷ token raw ∷ [])
   node (N.Ident id name) = form (bytes "Ident") (number id ∷ token name ∷ [])
-  node (N.Bin id op lhs rhs) = form (bytes "Bin") (number id ∷ token op ∷ number (lhs .0) ∷ number (rhs .0) ∷ [])
+  node (N.Bin id op lhs rhs) =
+      form (bytes "Bin") (number id ∷ token op ∷ number (lhs .0) ∷ number (rhs .0) ∷ [])
   node (N.Unary id op rhs) = form (bytes "Unary") (number id ∷ token op ∷ number (rhs .0) ∷ [])
-  node (N.Let id docs name rhs) = form (bytes "Let") (number id ∷ tokens docs ∷ token name ∷ number (rhs .0) ∷ [])
-  node (N.Fn id docs name args ret body) = form (bytes "Fn") (number id ∷ tokens docs ∷ token name ∷ pairs args ∷ number (ret .0) ∷ ids body ∷ [])
-  node (N.Match id cases t body) = form (bytes "Match") (number id ∷ branches cases ∷ tuple (token t) (ids body ∷ []) ∷ [])
-  node (N.Call id target args) = form (bytes "Call") (number id ∷ number (target .0) ∷ ids args ∷ [])
-  node (N.Field id target name) = form (bytes "Field") (number id ∷ number (target .0) ∷ token name ∷ [])
-  node (N.Cast id src lhs rhs) = form (bytes "Cast") (number id ∷ token src ∷ number (lhs .0) ∷ number (rhs .0) ∷ [])
+  node (N.Let id docs name rhs) =
+      form (bytes "Let") (number id ∷ tokens docs ∷ token name ∷ number (rhs .0) ∷ [])
+  node (N.Fn id docs name args ret body) =
+      form (bytes "Fn")
+      (number id ∷ tokens docs ∷ token name ∷ pairs args ∷ number (ret .0) ∷ ids body ∷ [])
+  node (N.Match id cases t body) =
+      form (bytes "Match") (number id ∷ branches cases ∷ tuple (token t) (ids body ∷ []) ∷ [])
+  node (N.Call id target args) =
+      form (bytes "Call") (number id ∷ number (target .0) ∷ ids args ∷ [])
+  node (N.Field id target name) =
+      form (bytes "Field") (number id ∷ number (target .0) ∷ token name ∷ [])
+  node (N.Cast id src lhs rhs) =
+      form (bytes "Cast") (number id ∷ token src ∷ number (lhs .0) ∷ number (rhs .0) ∷ [])
   node (N.Import id src pkgs) = form (bytes "Import") (number id ∷ token src ∷ tokens pkgs ∷ [])
-  node (N.Extern id src docs name fns) = form (bytes "Extern") (number id ∷ token src ∷ tokens docs ∷ token name ∷ externFns fns ∷ [])
-  node (N.Record id src members) = form (bytes "Record") (number id ∷ token src ∷ pairs members ∷ [])
+  node (N.Extern id src docs name fns) =
+      form (bytes "Extern") (number id ∷ token src ∷ tokens docs ∷ token name ∷ externFns fns ∷ [])
+  node (N.Record id src members) =
+      form (bytes "Record") (number id ∷ token src ∷ pairs members ∷ [])
   node (N.Array id src members) = form (bytes "Array") (number id ∷ token src ∷ ids members ∷ [])
 
   unfoldable pub typeExpr : TypeExpr → List ℕ

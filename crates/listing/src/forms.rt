@@ -46,7 +46,9 @@ pub(crate) fn write_token(before: usize, t: Token, out: &mut [u8], at: usize) ->
 
 // A token and a number, from cell `j` on.
 fn write_pair(before: usize, lists: &[u32], j: usize, out: &mut [u8], at: usize) -> usize
-    ensures { λ r. ⌜ Emits (gap before ++ pair (now (lists .entry)) j) (now (out .entry)) at (now (out .exit)) r ⌝ }
+    ensures { λ r.
+        let text = gap before ++ pair (now (lists .entry)) j in
+        ⌜ Emits text (now (out .entry)) at (now (out .exit)) r ⌝ }
 {
     let a = write_gap(before, out, at);
     let b = write_byte(b'(', out, a);
@@ -55,8 +57,9 @@ fn write_pair(before: usize, lists: &[u32], j: usize, out: &mut [u8], at: usize)
     write_byte(b')', out, d)
 }
 
-// A member from cell `j` on, by the sort of its list. A case has `((token condition) body)`, a fn of an
-// extern `(docs name arguments type)`, and the lists that these name have members that name none.
+// A member from cell `j` on, by the sort of its list. A case has `((token condition) body)`, a fn
+// of an extern `(docs name arguments type)`, and the lists that these name have members that name
+// none.
 fn write_member(
     before: usize,
     lists: &[u32],
@@ -66,7 +69,9 @@ fn write_member(
     at: usize,
 ) -> usize
     requires { ⌜ j + 5 < 18446744073709551616 ⌝ }
-    ensures { λ r. ⌜ Emits (gap before ++ member (now (lists .entry)) (membersOf sort) j) (now (out .entry)) at (now (out .exit)) r ⌝ }
+    ensures { λ r.
+        let text = gap before ++ member (now (lists .entry)) (membersOf sort) j in
+        ⌜ Emits text (now (out .entry)) at (now (out .exit)) r ⌝ }
 {
     if sort == Sort::NODES {
         return write_number(before, cell(lists, j, 0) as usize, out, at);
@@ -105,7 +110,9 @@ pub(crate) fn write_list(
     out: &mut [u8],
     at: usize,
 ) -> usize
-    ensures { λ r. ⌜ Emits (gap before ++ list (now (lists .entry)) (membersOf sort) run) (now (out .entry)) at (now (out .exit)) r ⌝ }
+    ensures { λ r.
+        let text = gap before ++ list (now (lists .entry)) (membersOf sort) run in
+        ⌜ Emits text (now (out .entry)) at (now (out .exit)) r ⌝ }
 {
     let a = write_gap(before, out, at);
     let start = run.start as usize;

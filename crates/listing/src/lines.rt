@@ -25,12 +25,16 @@ ghost use Rattle.ast.specs.Decode.{nodeAt, typeAt};
 ghost use Rattle.text.specs.Text.{bytes, number};
 ghost use Rattle.listing.specs.Text.{gap, each, fields};
 ghost use Rattle.rules.specs.Promise.{arraysOf};
-ghost use Rattle.listing.specs.Listing.{line, nodeText, typeText, countsLine, rootsLine, numbersLine, errorLine, treeText, within, diagnosticAt, textOf, nodeLine, typeLine};
+ghost use Rattle.listing.specs.Listing.{line, nodeText, typeText, countsLine, rootsLine};
+ghost use Rattle.listing.specs.Listing.{numbersLine, errorLine, treeText, within};
+ghost use Rattle.listing.specs.Listing.{diagnosticAt, textOf, nodeLine, typeLine};
 ghost use Rattle.text.specs.Emit.{Emits};
 
 // How many nodes, types and values there are.
 fn write_counts(c: Counts, out: &mut [u8], at: usize) -> usize
-    ensures { λ r. ⌜ Emits (countsLine (c .nodes) (c .types) (c .values)) (now (out .entry)) at (now (out .exit)) r ⌝ }
+    ensures { λ r.
+        let text = countsLine (c .nodes) (c .types) (c .values) in
+        ⌜ Emits text (now (out .entry)) at (now (out .exit)) r ⌝ }
 {
     let a = write_text(b"(tree", out, at);
     let b = write_one_number(b" (nodes", c.nodes as usize, out, a);
@@ -42,7 +46,9 @@ fn write_counts(c: Counts, out: &mut [u8], at: usize) -> usize
 
 // Node `i`; its record is asked of the nodes.
 fn write_node_field(nodes: &[u32], lists: &[u32], i: u32, out: &mut [u8], at: usize) -> usize
-    ensures { λ r. ⌜ Emits (gap 1 ++ nodeText (now (lists .entry)) (nodeAt (now (nodes .entry)) i)) (now (out .entry)) at (now (out .exit)) r ⌝ }
+    ensures { λ r.
+        let text = gap 1 ++ nodeText (now (lists .entry)) (nodeAt (now (nodes .entry)) i) in
+        ⌜ Emits text (now (out .entry)) at (now (out .exit)) r ⌝ }
 {
     let a = write_byte(b' ', out, at);
     match ast::decode::node(nodes, NodeId(i)) {
@@ -52,7 +58,9 @@ fn write_node_field(nodes: &[u32], lists: &[u32], i: u32, out: &mut [u8], at: us
 }
 
 fn write_node_line(nodes: &[u32], lists: &[u32], i: u32, out: &mut [u8], at: usize) -> usize
-    ensures { λ r. ⌜ Emits (nodeLine (now (lists .entry)) (nodeAt (now (nodes .entry))) i) (now (out .entry)) at (now (out .exit)) r ⌝ }
+    ensures { λ r.
+        let text = nodeLine (now (lists .entry)) (nodeAt (now (nodes .entry))) i in
+        ⌜ Emits text (now (out .entry)) at (now (out .exit)) r ⌝ }
 {
     let a = write_text(b"(node", out, at);
     let b = write_number(1, i as usize, out, a);
@@ -62,7 +70,9 @@ fn write_node_line(nodes: &[u32], lists: &[u32], i: u32, out: &mut [u8], at: usi
 }
 
 fn write_nodes(nodes: &[u32], lists: &[u32], n: u32, out: &mut [u8], at: usize) -> usize
-    ensures { λ r. ⌜ Emits (each (nodeLine (now (lists .entry)) (nodeAt (now (nodes .entry)))) n) (now (out .entry)) at (now (out .exit)) r ⌝ }
+    ensures { λ r.
+        let text = each (nodeLine (now (lists .entry)) (nodeAt (now (nodes .entry)))) n in
+        ⌜ Emits text (now (out .entry)) at (now (out .exit)) r ⌝ }
 {
     let mut to = at;
     let mut i = 0;
@@ -75,7 +85,9 @@ fn write_nodes(nodes: &[u32], lists: &[u32], n: u32, out: &mut [u8], at: usize) 
 
 // Type `i`; its record is asked of the types.
 fn write_type_field(types: &[u32], lists: &[u32], i: u32, out: &mut [u8], at: usize) -> usize
-    ensures { λ r. ⌜ Emits (gap 1 ++ typeText (now (lists .entry)) (typeAt (now (types .entry)) i)) (now (out .entry)) at (now (out .exit)) r ⌝ }
+    ensures { λ r.
+        let text = gap 1 ++ typeText (now (lists .entry)) (typeAt (now (types .entry)) i) in
+        ⌜ Emits text (now (out .entry)) at (now (out .exit)) r ⌝ }
 {
     let a = write_byte(b' ', out, at);
     match ast::decode::type_expr(types, TypeExprId(i)) {
@@ -85,7 +97,9 @@ fn write_type_field(types: &[u32], lists: &[u32], i: u32, out: &mut [u8], at: us
 }
 
 fn write_type_line(types: &[u32], lists: &[u32], i: u32, out: &mut [u8], at: usize) -> usize
-    ensures { λ r. ⌜ Emits (typeLine (now (lists .entry)) (typeAt (now (types .entry))) i) (now (out .entry)) at (now (out .exit)) r ⌝ }
+    ensures { λ r.
+        let text = typeLine (now (lists .entry)) (typeAt (now (types .entry))) i in
+        ⌜ Emits text (now (out .entry)) at (now (out .exit)) r ⌝ }
 {
     let a = write_text(b"(type", out, at);
     let b = write_number(1, i as usize, out, a);
@@ -95,7 +109,9 @@ fn write_type_line(types: &[u32], lists: &[u32], i: u32, out: &mut [u8], at: usi
 }
 
 fn write_types(types: &[u32], lists: &[u32], n: u32, out: &mut [u8], at: usize) -> usize
-    ensures { λ r. ⌜ Emits (each (typeLine (now (lists .entry)) (typeAt (now (types .entry)))) n) (now (out .entry)) at (now (out .exit)) r ⌝ }
+    ensures { λ r.
+        let text = each (typeLine (now (lists .entry)) (typeAt (now (types .entry)))) n in
+        ⌜ Emits text (now (out .entry)) at (now (out .exit)) r ⌝ }
 {
     let mut to = at;
     let mut i = 0;
@@ -107,7 +123,9 @@ fn write_types(types: &[u32], lists: &[u32], n: u32, out: &mut [u8], at: usize) 
 }
 
 fn write_root_ids(roots: &[u32], n: usize, out: &mut [u8], at: usize) -> usize
-    ensures { λ r. ⌜ Emits (each (λ i. gap 1 ++ number (getD (now (roots .entry)) i 0)) n) (now (out .entry)) at (now (out .exit)) r ⌝ }
+    ensures { λ r.
+        let text = each (λ i. gap 1 ++ number (getD (now (roots .entry)) i 0)) n in
+        ⌜ Emits text (now (out .entry)) at (now (out .exit)) r ⌝ }
 {
     let mut to = at;
     let mut i = 0;
@@ -119,7 +137,9 @@ fn write_root_ids(roots: &[u32], n: usize, out: &mut [u8], at: usize) -> usize
 }
 
 fn write_roots(roots: &[u32], n: usize, out: &mut [u8], at: usize) -> usize
-    ensures { λ r. ⌜ Emits (rootsLine (λ i. getD (now (roots .entry)) i 0) n) (now (out .entry)) at (now (out .exit)) r ⌝ }
+    ensures { λ r.
+        let text = rootsLine (λ i. getD (now (roots .entry)) i 0) n in
+        ⌜ Emits text (now (out .entry)) at (now (out .exit)) r ⌝ }
 {
     let a = write_text(b"(roots", out, at);
     let b = write_root_ids(roots, n, out, a);
@@ -128,7 +148,13 @@ fn write_roots(roots: &[u32], n: usize, out: &mut [u8], at: usize) -> usize
 
 // The five numbers of an error.
 fn write_numbers(name: &[u8], e: Diagnostic, out: &mut [u8], at: usize) -> usize
-    ensures { λ r. ⌜ Emits ((now (name .entry) ++ fields (number (e .number) ∷ number (e .start) ∷ number (e .len) ∷ number (e .wanted) ∷ number (e .seen) ∷ [])) ++ (10 ∷ [])) (now (out .entry)) at (now (out .exit)) r ⌝ }
+    ensures { λ r.
+        let numbers =
+        number (e .number) ∷ number (e .start) ∷ number (e .len) ∷
+        number (e .wanted) ∷ number (e .seen) ∷ []
+        in
+        let text = (now (name .entry) ++ fields numbers) ++ (10 ∷ []) in
+        ⌜ Emits text (now (out .entry)) at (now (out .exit)) r ⌝ }
 {
     let a = write_text(name, out, at);
     let b = write_number(1, e.number as usize, out, a);
@@ -160,13 +186,18 @@ fn diagnostic_at(diagnostics: &[u32], i: u32) -> Diagnostic
 }
 
 fn write_diagnostic(diagnostics: &[u32], i: u32, out: &mut [u8], at: usize) -> usize
-    ensures { λ r. ⌜ Emits (numbersLine (bytes "diag") (diagnosticAt (now (diagnostics .entry)) i)) (now (out .entry)) at (now (out .exit)) r ⌝ }
+    ensures { λ r.
+        let text = numbersLine (bytes "diag") (diagnosticAt (now (diagnostics .entry)) i) in
+        ⌜ Emits text (now (out .entry)) at (now (out .exit)) r ⌝ }
 {
     write_numbers(b"(diag", diagnostic_at(diagnostics, i), out, at)
 }
 
 fn write_diagnostics(diagnostics: &[u32], n: u32, out: &mut [u8], at: usize) -> usize
-    ensures { λ r. ⌜ Emits (each (λ i. numbersLine (bytes "diag") (diagnosticAt (now (diagnostics .entry)) i)) n) (now (out .entry)) at (now (out .exit)) r ⌝ }
+    ensures { λ r.
+        let error = diagnosticAt (now (diagnostics .entry)) in
+        let text = each (λ i. numbersLine (bytes "diag") (error i)) n in
+        ⌜ Emits text (now (out .entry)) at (now (out .exit)) r ⌝ }
 {
     let mut to = at;
     let mut i = 0;
@@ -188,7 +219,13 @@ fn write_tree(
     out: &mut [u8],
     at: usize,
 ) -> usize
-    ensures { λ r. ⌜ Emits (treeText c (now (lists .entry)) (nodeAt (now (nodes .entry))) (typeAt (now (types .entry))) (λ i. getD (now (roots .entry)) i 0) (diagnosticAt (now (diagnostics .entry)))) (now (out .entry)) at (now (out .exit)) r ⌝ }
+    ensures { λ r.
+        let text =
+        treeText c (now (lists .entry)) (nodeAt (now (nodes .entry)))
+        (typeAt (now (types .entry))) (λ i. getD (now (roots .entry)) i 0)
+        (diagnosticAt (now (diagnostics .entry)))
+        in
+        ⌜ Emits text (now (out .entry)) at (now (out .exit)) r ⌝ }
 {
     let a = write_counts(c, out, at);
     let b = write_nodes(nodes, lists, c.nodes, out, a);
@@ -202,7 +239,7 @@ fn write_error(e: Diagnostic, out: &mut [u8], at: usize) -> usize
     ensures { λ r. ⌜ Emits (errorLine e) (now (out .entry)) at (now (out .exit)) r ⌝ }
 {
     let number = e.number;
-    if number == 10 {
+    if number == Diagnostic::TOO_DEEP {
         let a = write_text(b"(refused", out, at);
         let b = write_number(1, number as usize, out, a);
         let c = write_number(1, e.start as usize, out, b);
@@ -214,7 +251,9 @@ fn write_error(e: Diagnostic, out: &mut [u8], at: usize) -> usize
 }
 
 fn write_refused(n: u32, out: &mut [u8], at: usize) -> usize
-    ensures { λ r. ⌜ Emits (line (bytes "refused") (number n ∷ [])) (now (out .entry)) at (now (out .exit)) r ⌝ }
+    ensures { λ r.
+        let text = line (bytes "refused") (number n ∷ []) in
+        ⌜ Emits text (now (out .entry)) at (now (out .exit)) r ⌝ }
 {
     let a = write_one_number(b"(refused", n as usize, out, at);
     write_byte(b'\n', out, a)
@@ -229,7 +268,12 @@ fn holds_counts(
     roots: &[u32],
     diagnostics: &[u32],
 ) -> bool
-    ensures { λ r. ⌜ r ≡ within c (arraysOf (now (nodes .entry)) (now (types .entry)) (now (lists .entry)) (now (roots .entry)) (now (diagnostics .entry))) ⌝ }
+    ensures { λ r.
+        let tree =
+        arraysOf (now (nodes .entry)) (now (types .entry)) (now (lists .entry))
+        (now (roots .entry)) (now (diagnostics .entry))
+        in
+        ⌜ r ≡ within c tree ⌝ }
 {
     if nodes.len() < Node::WIDTH * c.nodes as usize {
         return false;
@@ -256,7 +300,12 @@ pub(crate) fn write_answer(
     out: &mut [u8],
     at: usize,
 ) -> usize
-    ensures { λ r. ⌜ Emits (textOf answer (arraysOf (now (nodes .entry)) (now (types .entry)) (now (lists .entry)) (now (roots .entry)) (now (diagnostics .entry)))) (now (out .entry)) at (now (out .exit)) r ⌝ }
+    ensures { λ r.
+        let tree =
+        arraysOf (now (nodes .entry)) (now (types .entry)) (now (lists .entry))
+        (now (roots .entry)) (now (diagnostics .entry))
+        in
+        ⌜ Emits (textOf answer tree) (now (out .entry)) at (now (out .exit)) r ⌝ }
 {
     match answer {
         Parsed::Tree(c) => {

@@ -18,7 +18,9 @@ ghost use Rattle.text.specs.Emit.{Emits};
 
 // A record that is a token, as Atom and Ident.
 fn write_one_token(name: &[u8], id: u32, t: Token, out: &mut [u8], at: usize) -> usize
-    ensures { λ r. ⌜ Emits (now (name .entry) ++ fields (number id ∷ token t ∷ [])) (now (out .entry)) at (now (out .exit)) r ⌝ }
+    ensures { λ r.
+        let text = now (name .entry) ++ fields (number id ∷ token t ∷ []) in
+        ⌜ Emits text (now (out .entry)) at (now (out .exit)) r ⌝ }
 {
     let a = write_text(name, out, at);
     let b = write_number(1, id as usize, out, a);
@@ -36,7 +38,10 @@ fn write_token_and_two(
     out: &mut [u8],
     at: usize,
 ) -> usize
-    ensures { λ r. ⌜ Emits (now (name .entry) ++ fields (number id ∷ token t ∷ number lhs ∷ number rhs ∷ [])) (now (out .entry)) at (now (out .exit)) r ⌝ }
+    ensures { λ r.
+        let parts = number id ∷ token t ∷ number lhs ∷ number rhs ∷ [] in
+        let text = now (name .entry) ++ fields parts in
+        ⌜ Emits text (now (out .entry)) at (now (out .exit)) r ⌝ }
 {
     let a = write_text(name, out, at);
     let b = write_number(1, id as usize, out, a);
@@ -48,7 +53,9 @@ fn write_token_and_two(
 
 // A match's default: its token and its body.
 fn write_default(lists: &[u32], t: Token, body: Run, out: &mut [u8], at: usize) -> usize
-    ensures { λ r. ⌜ Emits (gap 1 ++ tuple (token t) (ids (now (lists .entry)) body ∷ [])) (now (out .entry)) at (now (out .exit)) r ⌝ }
+    ensures { λ r.
+        let text = gap 1 ++ tuple (token t) (ids (now (lists .entry)) body ∷ []) in
+        ⌜ Emits text (now (out .entry)) at (now (out .exit)) r ⌝ }
 {
     let a = write_text(b" (", out, at);
     let b = write_token(0, t, out, a);
@@ -65,7 +72,9 @@ fn write_match(
     out: &mut [u8],
     at: usize,
 ) -> usize
-    ensures { λ r. ⌜ Emits (node (now (lists .entry)) (Node.Match id cases «default_token» «default_body»)) (now (out .entry)) at (now (out .exit)) r ⌝ }
+    ensures { λ r.
+        let text = node (now (lists .entry)) (Node.Match id cases «default_token» «default_body») in
+        ⌜ Emits text (now (out .entry)) at (now (out .exit)) r ⌝ }
 {
     let a = write_text(b"(Match", out, at);
     let b = write_number(1, id as usize, out, a);
@@ -75,7 +84,9 @@ fn write_match(
 }
 
 fn write_unary(id: u32, op: Token, rhs: NodeId, out: &mut [u8], at: usize) -> usize
-    ensures { λ r. ⌜ Emits (form (bytes "Unary") (number id ∷ token op ∷ number (rhs .0) ∷ [])) (now (out .entry)) at (now (out .exit)) r ⌝ }
+    ensures { λ r.
+        let text = form (bytes "Unary") (number id ∷ token op ∷ number (rhs .0) ∷ []) in
+        ⌜ Emits text (now (out .entry)) at (now (out .exit)) r ⌝ }
 {
     let a = write_text(b"(Unary", out, at);
     let b = write_number(1, id as usize, out, a);
@@ -93,7 +104,9 @@ fn write_let_node(
     out: &mut [u8],
     at: usize,
 ) -> usize
-    ensures { λ r. ⌜ Emits (node (now (lists .entry)) (Node.Let id docs name rhs)) (now (out .entry)) at (now (out .exit)) r ⌝ }
+    ensures { λ r.
+        let text = node (now (lists .entry)) (Node.Let id docs name rhs) in
+        ⌜ Emits text (now (out .entry)) at (now (out .exit)) r ⌝ }
 {
     let a = write_text(b"(Let", out, at);
     let b = write_number(1, id as usize, out, a);
@@ -114,7 +127,9 @@ fn write_fn_node(
     out: &mut [u8],
     at: usize,
 ) -> usize
-    ensures { λ r. ⌜ Emits (node (now (lists .entry)) (Node.Fn id docs name args «return_type» body)) (now (out .entry)) at (now (out .exit)) r ⌝ }
+    ensures { λ r.
+        let text = node (now (lists .entry)) (Node.Fn id docs name args «return_type» body) in
+        ⌜ Emits text (now (out .entry)) at (now (out .exit)) r ⌝ }
 {
     let a = write_text(b"(Fn", out, at);
     let b = write_number(1, id as usize, out, a);
@@ -127,7 +142,9 @@ fn write_fn_node(
 }
 
 fn write_call(lists: &[u32], id: u32, target: NodeId, args: Run, out: &mut [u8], at: usize) -> usize
-    ensures { λ r. ⌜ Emits (node (now (lists .entry)) (Node.Call id target args)) (now (out .entry)) at (now (out .exit)) r ⌝ }
+    ensures { λ r.
+        let text = node (now (lists .entry)) (Node.Call id target args) in
+        ⌜ Emits text (now (out .entry)) at (now (out .exit)) r ⌝ }
 {
     let a = write_text(b"(Call", out, at);
     let b = write_number(1, id as usize, out, a);
@@ -137,7 +154,9 @@ fn write_call(lists: &[u32], id: u32, target: NodeId, args: Run, out: &mut [u8],
 }
 
 fn write_field(id: u32, target: NodeId, name: Token, out: &mut [u8], at: usize) -> usize
-    ensures { λ r. ⌜ Emits (form (bytes "Field") (number id ∷ number (target .0) ∷ token name ∷ [])) (now (out .entry)) at (now (out .exit)) r ⌝ }
+    ensures { λ r.
+        let text = form (bytes "Field") (number id ∷ number (target .0) ∷ token name ∷ []) in
+        ⌜ Emits text (now (out .entry)) at (now (out .exit)) r ⌝ }
 {
     let a = write_text(b"(Field", out, at);
     let b = write_number(1, id as usize, out, a);
@@ -147,7 +166,9 @@ fn write_field(id: u32, target: NodeId, name: Token, out: &mut [u8], at: usize) 
 }
 
 fn write_import(lists: &[u32], id: u32, src: Token, pkgs: Run, out: &mut [u8], at: usize) -> usize
-    ensures { λ r. ⌜ Emits (node (now (lists .entry)) (Node.Import id src pkgs)) (now (out .entry)) at (now (out .exit)) r ⌝ }
+    ensures { λ r.
+        let text = node (now (lists .entry)) (Node.Import id src pkgs) in
+        ⌜ Emits text (now (out .entry)) at (now (out .exit)) r ⌝ }
 {
     let a = write_text(b"(Import", out, at);
     let b = write_number(1, id as usize, out, a);
@@ -166,7 +187,9 @@ fn write_extern_node(
     out: &mut [u8],
     at: usize,
 ) -> usize
-    ensures { λ r. ⌜ Emits (node (now (lists .entry)) (Node.Extern id src docs name fns)) (now (out .entry)) at (now (out .exit)) r ⌝ }
+    ensures { λ r.
+        let text = node (now (lists .entry)) (Node.Extern id src docs name fns) in
+        ⌜ Emits text (now (out .entry)) at (now (out .exit)) r ⌝ }
 {
     let a = write_text(b"(Extern", out, at);
     let b = write_number(1, id as usize, out, a);
@@ -185,7 +208,9 @@ fn write_record_node(
     out: &mut [u8],
     at: usize,
 ) -> usize
-    ensures { λ r. ⌜ Emits (node (now (lists .entry)) (Node.Record id src fields)) (now (out .entry)) at (now (out .exit)) r ⌝ }
+    ensures { λ r.
+        let text = node (now (lists .entry)) (Node.Record id src fields) in
+        ⌜ Emits text (now (out .entry)) at (now (out .exit)) r ⌝ }
 {
     let a = write_text(b"(Record", out, at);
     let b = write_number(1, id as usize, out, a);
@@ -202,7 +227,9 @@ fn write_array_node(
     out: &mut [u8],
     at: usize,
 ) -> usize
-    ensures { λ r. ⌜ Emits (node (now (lists .entry)) (Node.Array id src members)) (now (out .entry)) at (now (out .exit)) r ⌝ }
+    ensures { λ r.
+        let text = node (now (lists .entry)) (Node.Array id src members) in
+        ⌜ Emits text (now (out .entry)) at (now (out .exit)) r ⌝ }
 {
     let a = write_text(b"(Array", out, at);
     let b = write_number(1, id as usize, out, a);
@@ -212,7 +239,9 @@ fn write_array_node(
 }
 
 pub(crate) fn write_node(lists: &[u32], n: Node, out: &mut [u8], at: usize) -> usize
-    ensures { λ r. ⌜ Emits (node (now (lists .entry)) n) (now (out .entry)) at (now (out .exit)) r ⌝ }
+    ensures { λ r.
+        let text = node (now (lists .entry)) n in
+        ⌜ Emits text (now (out .entry)) at (now (out .exit)) r ⌝ }
 {
     match n {
         Node::Atom { id, raw } => write_one_token(b"(Atom", id, raw, out, at),
@@ -273,7 +302,9 @@ pub(crate) fn write_node(lists: &[u32], n: Node, out: &mut [u8], at: usize) -> u
 
 // A type that is a token, as Atom and Foreign.
 fn write_token_type(name: &[u8], t: Token, out: &mut [u8], at: usize) -> usize
-    ensures { λ r. ⌜ Emits (now (name .entry) ++ fields (token t ∷ [])) (now (out .entry)) at (now (out .exit)) r ⌝ }
+    ensures { λ r.
+        let text = now (name .entry) ++ fields (token t ∷ []) in
+        ⌜ Emits text (now (out .entry)) at (now (out .exit)) r ⌝ }
 {
     let a = write_text(name, out, at);
     let b = write_token(1, t, out, a);
@@ -282,7 +313,9 @@ fn write_token_type(name: &[u8], t: Token, out: &mut [u8], at: usize) -> usize
 
 // A type that has one inside, as Option and Array; a count of the first line.
 pub(crate) fn write_one_number(name: &[u8], n: usize, out: &mut [u8], at: usize) -> usize
-    ensures { λ r. ⌜ Emits (now (name .entry) ++ fields (number n ∷ [])) (now (out .entry)) at (now (out .exit)) r ⌝ }
+    ensures { λ r.
+        let text = now (name .entry) ++ fields (number n ∷ []) in
+        ⌜ Emits text (now (out .entry)) at (now (out .exit)) r ⌝ }
 {
     let a = write_text(name, out, at);
     let b = write_number(1, n, out, a);
@@ -290,7 +323,9 @@ pub(crate) fn write_one_number(name: &[u8], n: usize, out: &mut [u8], at: usize)
 }
 
 fn write_record_type(lists: &[u32], src: Token, fields: Run, out: &mut [u8], at: usize) -> usize
-    ensures { λ r. ⌜ Emits (typeExpr (now (lists .entry)) (TypeExpr.Record src fields)) (now (out .entry)) at (now (out .exit)) r ⌝ }
+    ensures { λ r.
+        let text = typeExpr (now (lists .entry)) (TypeExpr.Record src fields) in
+        ⌜ Emits text (now (out .entry)) at (now (out .exit)) r ⌝ }
 {
     let a = write_text(b"(Record", out, at);
     let b = write_token(1, src, out, a);
@@ -299,7 +334,9 @@ fn write_record_type(lists: &[u32], src: Token, fields: Run, out: &mut [u8], at:
 }
 
 pub(crate) fn write_type(lists: &[u32], t: TypeExpr, out: &mut [u8], at: usize) -> usize
-    ensures { λ r. ⌜ Emits (typeExpr (now (lists .entry)) t) (now (out .entry)) at (now (out .exit)) r ⌝ }
+    ensures { λ r.
+        let text = typeExpr (now (lists .entry)) t in
+        ⌜ Emits text (now (out .entry)) at (now (out .exit)) r ⌝ }
 {
     match t {
         TypeExpr::Atom(src) => write_token_type(b"(Atom", src, out, at),

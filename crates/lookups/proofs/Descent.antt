@@ -18,7 +18,7 @@ use Rattle.ast.specs.declared.Node.the-variants as N
 use Rattle.ast.specs.declared.TypeExpr.{TypeExpr}
 use Rattle.ast.specs.declared.TypeExpr.the-variants as T
 use Rattle.lex.specs.Bytes.{if}
-use Rattle.ast.specs.Decode.{low, tokenAt, nodeAt, typeAt, nodeRead, typeRead}
+use Rattle.ast.specs.Decode.{low32, tokenAt, nodeAt, typeAt, nodeRead, typeRead}
 use Rattle.ast.specs.Tabulate.{entriesBelow, entryAt}
 use Rattle.ast.proofs.Tabulate.{entries-below, entries-past}
 use Rattle.lookups.specs.Lookup.{inside, tokenStart, orElse, matchStart, startOf, startRow, startAt, typeTokenOf, typeTokenRow, typeTokenAt}
@@ -65,7 +65,7 @@ settled-none o = refl
 
 settled-token : (s : List ℕ) (t : Token) → Settled (tokenStart s t)
 unfolding tokenStart Settled asStart startOr
-settled-token s t = settled-if (wellFormed s t) (some (some (low (t .start)))) none (λ o. refl) settled-none
+settled-token s t = settled-if (wellFormed s t) (some (some (low32 (t .start)))) none (λ o. refl) settled-none
 
 settled-match : (s cells : List ℕ) (cs : Run) (t : Token) → Settled (matchStart s cells cs t)
 unfolding matchStart

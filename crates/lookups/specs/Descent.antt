@@ -12,6 +12,9 @@ use Rattle.ast.specs.declared.Node.the-variants as N
 use Rattle.ast.specs.declared.TypeExpr.{TypeExpr}
 use Rattle.ast.specs.declared.TypeExpr.the-variants as T
 use Rattle.lex.specs.Bytes.{if}
+use Rattle.lex.specs.Refusals.{rMalformed}
+use Rattle.ast.specs.Schema as Sc
+use Rattle.ast.specs.Schema.{memberWidth}
 use Rattle.ast.specs.Decode.{typeAt}
 use Rattle.lookups.specs.Lookup.{inside, tokenStart, matchStart, typeTokenAt}
 use Rattle.lookups.specs.declared.Start.{Start}
@@ -23,7 +26,7 @@ use Rattle.lookups.specs.declared.Step.the-variants as St
 
 -- the answer of a record
 unfoldable pub asStart : Option (Option ℕ) → Start
-asStart none = S.Refused 4
+asStart none = S.Refused rMalformed
 asStart (some none) = S.Nothing
 asStart (some (some p)) = S.At p
 
@@ -33,12 +36,17 @@ startOr other S.Nothing = other
 startOr other (S.Refused n) = S.Refused n
 
 unfoldable pub arrayStep : List ℕ → Run → Start → Step
-arrayStep cells members other = if (inside 1 cells members) (if (eqb (members .len) 0) (St.Done other) (St.Descend (record { 0 = getD cells (members .start) 0 }) other)) (St.Done (S.Refused 4))
+arrayStep cells members other =
+    if (inside (memberWidth Sc.nodes) cells members)
+    (if (eqb (members .len) 0) (St.Done other)
+    (St.Descend (record { 0 = getD cells (members .start) 0 }) other))
+    (St.Done (S.Refused rMalformed))
 
--- one record of it: an answer, or the child to go on with and what is answered where that has no start
+-- one record of it: an answer, or the child to go on with and what is answered where that has no
+-- start
 module _ (script cells : List ℕ) (other : Start) where
   unfoldable pub stepOf : Option Node → Step
-  stepOf none = St.Done (S.Refused 4)
+  stepOf none = St.Done (S.Refused rMalformed)
   stepOf (some (N.Atom id raw)) = St.Done (asStart (tokenStart script raw))
   stepOf (some (N.Ident id name)) = St.Done (asStart (tokenStart script name))
   stepOf (some (N.Bin id op lhs rhs)) = St.Descend lhs (asStart (tokenStart script op))
@@ -56,7 +64,10 @@ module _ (script cells : List ℕ) (other : Start) where
 
 -- the start that a number stands for
 unfoldable pub decodeStart : ℕ → Start
-decodeStart c = if (ltb c 4294967296) (S.At c) (if (eqb c 4294967296) S.Nothing (S.Refused ((c - 4294967296 - 1) % 4294967296)))
+decodeStart c =
+    if (ltb c 4294967296) (S.At c)
+    (if (eqb c 4294967296) S.Nothing
+    (S.Refused ((c - 4294967296 - 1) % 4294967296)))
 
 -- what an Option or an Array holds; the other types hold none, and have their own number `i` here
 unfoldable pub innerOf : Option TypeExpr → ℕ → ℕ
@@ -73,5 +84,5 @@ pub record Innermost (types : List ℕ) (i r : ℕ) : Type 0 where
   pub same : (script : List ℕ) → typeTokenAt script types r ≡ typeTokenAt script types i
 
 unfoldable pub asTypeToken : Option Token → TypeToken
-asTypeToken none = TT.Refused 4
+asTypeToken none = TT.Refused rMalformed
 asTypeToken (some t) = TT.Found t

@@ -15,9 +15,12 @@ use Rattle.ast.specs.declared.Node.the-variants as N
 use Rattle.ast.specs.declared.TypeExpr.{TypeExpr}
 use Rattle.ast.specs.declared.TypeExpr.the-variants as T
 use Rattle.lex.specs.Bytes.{if}
-use Rattle.ast.specs.Decode.{fits, low, tokenAt, nodeAt, typeAt}
+use Rattle.ast.specs.Decode.{fits, low32, tokenAt, nodeAt, typeAt}
 use Rattle.ast.specs.Tabulate.{entryAt}
 use Rattle.lex.specs.Answer.{Answer, refused, answer}
+use Rattle.lex.specs.Refusals.{rOutside, rMalformed}
+use Rattle.ast.specs.Schema as Sc
+use Rattle.ast.specs.Schema.{memberWidth}
 use Rattle.ast.specs.Answer.{unless, Lent, refusal, cellsOf}
 use Rattle.lookups.specs.declared.Start.{Start}
 use Rattle.lookups.specs.declared.Start.the-variants as S
@@ -28,12 +31,16 @@ use Rattle.lookups.specs.declared.TypeToken.the-variants as TT
 
 -- refused with 4 where something visited is malformed
 unfoldable pub unlessMalformed : {A : Type 0} → Option A → Answer A
-unlessMalformed none = refused 4
+unlessMalformed none = refused rMalformed
 unlessMalformed (some a) = answer a
 
--- record `i` of an array is asked about: 1 and 2 are tested first, then 3, whether it lies at or past the count or past the array's last whole record
-unfoldable pub recordAsked : {A : Type 0} → Lent → (count size : ℕ) → List ℕ → ℕ → Answer A → Answer A
-recordAsked l count size xs i a = unless (refusal l) (if (ltb i count) (if (fits size xs i) a (refused 3)) (refused 3))
+-- record `i` of an array is asked about: 1 and 2 are tested first, then 3, whether it lies at or
+-- past the count or past the array's last whole record
+unfoldable pub recordAsked : {A : Type 0} → Lent → (count size : ℕ) → List ℕ → ℕ → Answer A
+    → Answer A
+recordAsked l count size xs i a =
+    unless (refusal l)
+    (if (ltb i count) (if (fits size xs i) a (refused rOutside)) (refused rOutside))
 
 -- a run of members lies in the cells, `size` cells a member
 abbrev pub inside : ℕ → List ℕ → Run → Bool
@@ -41,9 +48,10 @@ inside size cells r = leb (r .start + r .len * size) (length cells)
 
 -- ---- where a node starts
 
--- an array holds 32 bits of a start, and `node_start` gives them. none: something visited is malformed. A record, run or token is visited if the answer is read from it
+-- an array holds 32 bits of a start, and `node_start` gives them. none: something visited is
+-- malformed. A record, run or token is visited if the answer is read from it
 unfoldable pub tokenStart : List ℕ → Token → Option (Option ℕ)
-tokenStart script t = if (wellFormed script t) (some (some (low (t .start)))) none
+tokenStart script t = if (wellFormed script t) (some (some (low32 (t .start)))) none
 
 -- the other where there is no start
 unfoldable pub orElse : Option (Option ℕ) → Option (Option ℕ) → Option (Option ℕ)
@@ -53,7 +61,11 @@ orElse other (some (some p)) = some (some p)
 
 -- the token of the first case, or that of the default
 unfoldable pub matchStart : List ℕ → List ℕ → Run → Token → Option (Option ℕ)
-matchStart script cells cases t = if (inside 6 cells cases) (if (eqb (cases .len) 0) (tokenStart script t) (tokenStart script (tokenAt cells (cases .start)))) none
+matchStart script cells cases t =
+    if (inside (memberWidth Sc.cases) cells cases)
+    (if (eqb (cases .len) 0) (tokenStart script t)
+    (tokenStart script (tokenAt cells (cases .start))))
+    none
 
 module _ (script cells : List ℕ) where
   -- by the starts of the records before it, as `node_start`
@@ -71,7 +83,10 @@ module _ (script cells : List ℕ) where
   startOf start (N.Import id src pkgs) = tokenStart script src
   startOf start (N.Extern id src docs name fns) = tokenStart script src
   startOf start (N.Record id src fields) = tokenStart script src
-  startOf start (N.Array id src members) = if (inside 1 cells members) (if (eqb (members .len) 0) (some none) (start (getD cells (members .start) 0))) none
+  startOf start (N.Array id src members) =
+      if (inside (memberWidth Sc.nodes) cells members)
+      (if (eqb (members .len) 0) (some none) (start (getD cells (members .start) 0)))
+      none
 
   abbrev pub startRow : (ℕ → Option (Option ℕ)) → Option Node → Option (Option ℕ)
   startRow start o = andThen o (startOf start)
@@ -82,7 +97,9 @@ module _ (script cells : List ℕ) where
 
 -- where node `i` starts; none where `node_start` has none
 unfoldable pub nodeStart : Lent → ℕ → Answer (Option ℕ)
-nodeStart l i = recordAsked l (l .counts .nodes) nodeWidth (l .nodes) i (unlessMalformed (startAt (l .script) (cellsOf l) (l .nodes) i))
+nodeStart l i =
+    recordAsked l (l .counts .nodes) nodeWidth (l .nodes) i
+    (unlessMalformed (startAt (l .script) (cellsOf l) (l .nodes) i))
 
 -- ---- the token of a type
 
@@ -109,7 +126,9 @@ module _ (script : List ℕ) where
   typeTokenAt types i = entryAt typeTokenRow (typeAt types) i
 
 unfoldable pub typeToken : Lent → ℕ → Answer Token
-typeToken l i = recordAsked l (l .counts .types) typeWidth (l .types) i (unlessMalformed (typeTokenAt (l .script) (l .types) i))
+typeToken l i =
+    recordAsked l (l .counts .types) typeWidth (l .types) i
+    (unlessMalformed (typeTokenAt (l .script) (l .types) i))
 
 -- ---- document 01's values for each case of an answer
 

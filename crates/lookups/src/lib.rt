@@ -10,6 +10,8 @@ use ast::decode::TypeRead;
 use ast::decode::token_at;
 use ast::lent::refusal;
 use ast::lent::used;
+use ast::schema::CASE_WIDTH;
+use lex::Refusal;
 use lex::Token;
 use lex::as_str_len;
 use lex::well_formed;
@@ -17,8 +19,11 @@ ghost use mathlib.Core.Path.{_≡_};
 ghost use Prim.Native.Nat.{_≤_};
 ghost use Rattle.ast.specs.Decode.{nodeAt, typeAt};
 ghost use Rattle.ast.specs.Answer.{lent};
-ghost use Rattle.lookups.specs.Lookup.{tokenStart, matchStart, wellFormedToken, startAt, typeTokenAt, nodeStart, typeToken, startAnswer, typeTokenAnswer};
-ghost use Rattle.lookups.specs.Descent.{startOr, asStart, decodeStart, asTypeToken, Innermost, arrayStep, stepOf, innerOf};
+ghost use Rattle.lookups.specs.Lookup.{tokenStart, matchStart, wellFormedToken, startAt};
+ghost use Rattle.lookups.specs.Lookup.{typeTokenAt, nodeStart, typeToken, startAnswer};
+ghost use Rattle.lookups.specs.Lookup.{typeTokenAnswer};
+ghost use Rattle.lookups.specs.Descent.{startOr, asStart, decodeStart, asTypeToken};
+ghost use Rattle.lookups.specs.Descent.{Innermost, arrayStep, stepOf, innerOf};
 
 pub enum Start {
     At(u32),
@@ -31,7 +36,8 @@ pub enum TypeToken {
     Refused(u32),
 }
 
-// A record of the start lookup: its answer, or the child to go on with, and what is answered where that has none.
+// A record of the start lookup: its answer, or the child to go on with, and what is answered where
+// that has none.
 enum Step {
     Done(Start),
     Descend(NodeId, Start),
@@ -40,13 +46,16 @@ enum Step {
 // One more than any start.
 const NOTHING: u64 = 4294967296;
 
+// What is added to it for a refusal with 4.
+const MALFORMED_CODE: u64 = 1 + Refusal::MALFORMED as u64;
+
 fn token_start(script: &[u8], t: Token) -> Start
     ensures { λ r. ⌜ r ≡ asStart (tokenStart (now (script .entry)) t) ⌝ }
 {
     if well_formed(script, t) {
         Start::At((t.start % 4294967296) as u32)
     } else {
-        Start::Refused(4)
+        Start::Refused(Refusal::MALFORMED)
     }
 }
 
@@ -55,8 +64,8 @@ fn match_start(script: &[u8], cells: &[u32], cases: Run, t: Token) -> Start
 {
     let at = cases.start as usize;
     let len = cases.len as usize;
-    if cells.len() < at + len * 6 {
-        return Start::Refused(4);
+    if cells.len() < at + len * CASE_WIDTH {
+        return Start::Refused(Refusal::MALFORMED);
     }
     if len == 0 {
         return token_start(script, t);
@@ -70,7 +79,7 @@ fn array_step(cells: &[u32], members: Run, other: Start) -> Step
     let at = members.start as usize;
     let len = members.len as usize;
     if cells.len() < at + len {
-        return Step::Done(Start::Refused(4));
+        return Step::Done(Start::Refused(Refusal::MALFORMED));
     }
     if len == 0 {
         return Step::Done(other);
@@ -79,11 +88,13 @@ fn array_step(cells: &[u32], members: Run, other: Start) -> Step
 }
 
 fn start_step(script: &[u8], nodes: &[u32], cells: &[u32], id: NodeId, other: Start) -> Step
-    ensures { λ r. ⌜ r ≡ stepOf (now (script .entry)) (now (cells .entry)) other (nodeAt (now (nodes .entry)) (id .0)) ⌝ }
+    ensures { λ r.
+        let read = nodeAt (now (nodes .entry)) (id .0) in
+        ⌜ r ≡ stepOf (now (script .entry)) (now (cells .entry)) other read ⌝ }
 {
     let read = ast::decode::node(nodes, id);
     match read {
-        NodeRead::Unknown => Step::Done(Start::Refused(4)),
+        NodeRead::Unknown => Step::Done(Start::Refused(Refusal::MALFORMED)),
         NodeRead::Known(n) => match n {
             Node::Atom { id: _, raw } => Step::Done(token_start(script, raw)),
             Node::Ident { id: _, name } => Step::Done(token_start(script, name)),
@@ -179,10 +190,13 @@ fn decode_start(code: u64) -> Start
     Start::Refused(((code - NOTHING - 1) % NOTHING) as u32)
 }
 
-// Where node `id` starts, and `other` where it has no start. The call is the last thing done, and passes nothing that lies in
-// this function's frame, so that a long chain takes no stack.
+// Where node `id` starts, and `other` where it has no start. The call is the last thing done, and
+// passes nothing that lies in this function's frame, so that a long chain takes no stack.
 fn start_from(script: &&[u8], nodes: &&[u32], cells: &&[u32], id: NodeId, other: Start) -> u64
-    ensures { λ r. ⌜ decodeStart r ≡ startOr other (asStart (startAt (now (now (script .entry))) (now (now (cells .entry))) (now (now (nodes .entry))) (id .0))) ⌝ }
+    ensures { λ r.
+        let bytes = now (now (script .entry)) in
+        let start = startAt bytes (now (now (cells .entry))) (now (now (nodes .entry))) (id .0) in
+        ⌜ decodeStart r ≡ startOr other (asStart start) ⌝ }
 {
     let step = start_step(*script, *nodes, *cells, id, other);
     match step {
@@ -191,7 +205,7 @@ fn start_from(script: &&[u8], nodes: &&[u32], cells: &&[u32], id: NodeId, other:
             if j.0 < id.0 {
                 start_from(script, nodes, cells, j, o)
             } else {
-                NOTHING + 5
+                NOTHING + MALFORMED_CODE
             }
         }
     }
@@ -207,7 +221,12 @@ pub fn node_start(
     counts: Counts,
     id: NodeId,
 ) -> Start
-    ensures { λ r. ⌜ startAnswer r ≡ nodeStart (lent (now (script .entry)) (now (nodes .entry)) (now (types .entry)) (now (lists .entry)) (now (roots .entry)) counts) (id .0) ⌝ }
+    ensures { λ r.
+        let tree =
+        lent (now (script .entry)) (now (nodes .entry)) (now (types .entry))
+        (now (lists .entry)) (now (roots .entry)) counts
+        in
+        ⌜ startAnswer r ≡ nodeStart tree (id .0) ⌝ }
 {
     let refused = refusal(script, nodes, types, lists, roots, counts);
     if refused != 0 {
@@ -215,10 +234,10 @@ pub fn node_start(
     }
     let i = id.0;
     if counts.nodes <= i {
-        return Start::Refused(3);
+        return Start::Refused(Refusal::OUTSIDE);
     }
     if nodes.len() < Node::WIDTH * i as usize + Node::WIDTH {
-        return Start::Refused(3);
+        return Start::Refused(Refusal::OUTSIDE);
     }
     let cells = used(lists, counts.cells);
     decode_start(start_from(&script, &nodes, &cells, id, Start::Nothing))
@@ -234,7 +253,7 @@ fn check_token(script: &[u8], t: Token) -> TypeToken
             len: as_str_len(t),
         })
     } else {
-        TypeToken::Refused(4)
+        TypeToken::Refused(Refusal::MALFORMED)
     }
 }
 
@@ -255,9 +274,9 @@ fn inner_of(types: &[u32], id: TypeExprId) -> TypeExprId
     }
 }
 
-// The number of the type whose token type `id` has: the first on the way down that holds none below its own number. The call is the
-// last thing done, and passes nothing that lies in this function's frame, so that a long chain takes no stack; a struct that is
-// returned would lie there.
+// The number of the type whose token type `id` has: the first on the way down that holds none below
+// its own number. The call is the last thing done, and passes nothing that lies in this function's
+// frame, so that a long chain takes no stack; a struct that is returned would lie there.
 fn innermost(types: &&[u32], id: TypeExprId) -> u32
     ensures { λ r. ⌜ Innermost (now (now (types .entry))) (id .0) r ⌝ }
 {
@@ -272,16 +291,18 @@ fn innermost(types: &&[u32], id: TypeExprId) -> u32
 // The token of a type that holds none below its own number.
 fn token_here(script: &[u8], types: &[u32], id: TypeExprId) -> TypeToken
     requires { ⌜ id .0 ≤ innerOf (typeAt (now types) (id .0)) (id .0) ⌝ }
-    ensures { λ r. ⌜ r ≡ asTypeToken (typeTokenAt (now (script .entry)) (now (types .entry)) (id .0)) ⌝ }
+    ensures { λ r.
+        let token = typeTokenAt (now (script .entry)) (now (types .entry)) (id .0) in
+        ⌜ r ≡ asTypeToken token ⌝ }
 {
     let read = ast::decode::type_expr(types, id);
     match read {
-        TypeRead::Unknown => TypeToken::Refused(4),
+        TypeRead::Unknown => TypeToken::Refused(Refusal::MALFORMED),
         TypeRead::Known(t) => match t {
             TypeExpr::Atom(src) => check_token(script, src),
             TypeExpr::Foreign(src) => check_token(script, src),
-            TypeExpr::Option(_) => TypeToken::Refused(4),
-            TypeExpr::Array(_) => TypeToken::Refused(4),
+            TypeExpr::Option(_) => TypeToken::Refused(Refusal::MALFORMED),
+            TypeExpr::Array(_) => TypeToken::Refused(Refusal::MALFORMED),
             TypeExpr::Record { src, fields: _ } => check_token(script, src),
         },
     }
@@ -297,7 +318,12 @@ pub fn type_token(
     counts: Counts,
     id: TypeExprId,
 ) -> TypeToken
-    ensures { λ r. ⌜ typeTokenAnswer r ≡ typeToken (lent (now (script .entry)) (now (nodes .entry)) (now (types .entry)) (now (lists .entry)) (now (roots .entry)) counts) (id .0) ⌝ }
+    ensures { λ r.
+        let tree =
+        lent (now (script .entry)) (now (nodes .entry)) (now (types .entry))
+        (now (lists .entry)) (now (roots .entry)) counts
+        in
+        ⌜ typeTokenAnswer r ≡ typeToken tree (id .0) ⌝ }
 {
     let refused = refusal(script, nodes, types, lists, roots, counts);
     if refused != 0 {
@@ -305,10 +331,10 @@ pub fn type_token(
     }
     let i = id.0;
     if counts.types <= i {
-        return TypeToken::Refused(3);
+        return TypeToken::Refused(Refusal::OUTSIDE);
     }
     if types.len() < TypeExpr::WIDTH * i as usize + TypeExpr::WIDTH {
-        return TypeToken::Refused(3);
+        return TypeToken::Refused(Refusal::OUTSIDE);
     }
     token_here(script, types, TypeExprId(innermost(&types, id)))
 }

@@ -6,6 +6,7 @@ use Prim.Native.Nat.{ℕ, _*_, _≤_}
 use lib.Dec.{ltb}
 use lib.ListN.{length, take, drop}
 use Rattle.lex.specs.Answer.{maxBytes, Answer, refused, answer}
+use Rattle.lex.specs.Refusals.{rTooLong, rPositionsFall, rPlacesTooShort}
 use Rattle.lex.specs.Bytes.{if}
 use Rattle.positions.specs.Position.{placeOf, placeAt}
 use Rattle.positions.specs.declared.Place.{Place}
@@ -47,9 +48,9 @@ filled (answer cells) places = outcome F.Done (cells ++ drop (length cells) plac
 -- 1 is tested first, then 50, then 49, then 3; none of them changes the second list
 unfoldable pub lineColumns : List ℕ → List ℕ → List ℕ → Outcome
 lineColumns script positions places =
-    if (ltb maxBytes (length script)) (outcome (F.Refused 1) places)
-    (if (ltb (length places) (2 * length positions)) (outcome (F.Refused 50) places)
-    (if (falls positions) (outcome (F.Refused 49) places)
+    if (ltb maxBytes (length script)) (outcome (F.Refused rTooLong) places)
+    (if (ltb (length places) (2 * length positions)) (outcome (F.Refused rPlacesTooShort) places)
+    (if (falls positions) (outcome (F.Refused rPositionsFall) places)
     (filled (pairs script positions) places)))
 
 -- the papers' number for each case of the answer
@@ -67,7 +68,8 @@ allInside n (p ∷ ps) = if (ltb n p) false (allInside n ps)
 -- the pairs of positions that lie in the script
 unfoldable pub cellsOf : List ℕ → List ℕ → List ℕ
 cellsOf script [] = []
-cellsOf script (p ∷ ps) = placeOf (take p script) .line ∷ placeOf (take p script) .column ∷ cellsOf script ps
+cellsOf script (p ∷ ps) =
+    placeOf (take p script) .line ∷ placeOf (take p script) .column ∷ cellsOf script ps
 
 -- what is tested before anything is written
 pub record Fillable (script positions places : List ℕ) : Type 0 where

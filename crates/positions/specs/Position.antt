@@ -5,6 +5,7 @@ use Prim.Native.Nat.{ℕ, suc, _+_, _-_}
 use lib.Dec.{eqb, leb, ltb}
 use lib.ListN.{length, take, drop}
 use Rattle.lex.specs.Answer.{maxBytes, Answer, refused, answer}
+use Rattle.lex.specs.Refusals.{rTooLong, rOutside}
 use Rattle.lex.specs.Bytes.{if, between}
 use Rattle.positions.specs.declared.Place.{Place}
 use Rattle.positions.specs.declared.Position.{Position}
@@ -29,7 +30,10 @@ placeOf before = record { line = 1 + feeds before; column = 1 + since 0 before }
 
 -- a position past the script's end lies outside
 unfoldable pub placeAt : List ℕ → ℕ → Answer Place
-placeAt script at = if (ltb maxBytes (length script)) (refused 1) (if (ltb (length script) at) (refused 3) (answer (placeOf (take at script))))
+placeAt script at =
+    if (ltb maxBytes (length script)) (refused rTooLong)
+    (if (ltb (length script) at) (refused rOutside)
+    (answer (placeOf (take at script))))
 
 unfoldable pub positionAnswer : Position → Answer Place
 positionAnswer (P.At p) = answer p
@@ -48,12 +52,18 @@ maxPlace = 65537
 -- the walk to `to` goes on from `known`, the place of `from`: `to` is not before it, and `known` is
 -- a place that a script can have
 unfoldable pub goesOn : ℕ → Place → ℕ → Bool
-goesOn from known to = if (ltb to from) false (if (ltb (known .column) 1) false (if (ltb maxPlace (known .column)) false (leb (known .line) maxPlace)))
+goesOn from known to =
+    if (ltb to from) false
+    (if (ltb (known .column) 1) false
+    (if (ltb maxPlace (known .column)) false
+    (leb (known .line) maxPlace)))
 
 -- the place of `to` from `known`, taken for the place of `from`; from the script's beginning where
 -- the walk does not go on
 unfoldable pub advanced : List ℕ → ℕ → Place → ℕ → Answer Place
 advanced script from known to =
-    if (ltb maxBytes (length script)) (refused 1)
-    (if (ltb (length script) to) (refused 3)
-    (answer (if (goesOn from known to) (onward known (take (to - from) (drop from script))) (placeOf (take to script)))))
+    if (ltb maxBytes (length script)) (refused rTooLong)
+    (if (ltb (length script) to) (refused rOutside)
+    (answer
+    (if (goesOn from known to) (onward known (take (to - from) (drop from script)))
+    (placeOf (take to script)))))

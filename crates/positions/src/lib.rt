@@ -1,5 +1,6 @@
 // Spans of tokens; the line and column of a position.
 use lex::MAX_BYTES;
+use lex::Refusal;
 use lex::Token;
 use lex::Type;
 use lex::well_formed;
@@ -8,10 +9,13 @@ ghost use mathlib.Core.Bool.{true};
 ghost use mathlib.Core.List.{_++_};
 ghost use Prim.Native.Nat.{_≤_};
 ghost use lib.ListN.{length, drop};
+ghost use Rattle.lex.specs.Answer.{maxBytes};
 ghost use Rattle.lex.specs.Spelling.{wellFormed};
 ghost use Rattle.positions.specs.Span.{spanOf, tokenSpan, spanAnswer};
-ghost use Rattle.positions.specs.Position.{columnsOf, onward, goesOn, advanced, placeAt, positionAnswer};
-ghost use Rattle.positions.specs.LineColumns.{falls as fallsIn, allInside, cellsOf, Fillable, outcome, lineColumns};
+ghost use Rattle.positions.specs.Position.{columnsOf, onward, maxPlace, goesOn};
+ghost use Rattle.positions.specs.Position.{advanced, placeAt, positionAnswer};
+ghost use Rattle.positions.specs.LineColumns.{falls as fallsIn, allInside, cellsOf};
+ghost use Rattle.positions.specs.LineColumns.{Fillable, outcome, lineColumns};
 
 pub struct Span {
     pub start: usize,
@@ -29,12 +33,12 @@ impl Span {
         ensures { λ r. ⌜ spanAnswer r ≡ tokenSpan (now (script .entry)) t ⌝ }
     {
         if MAX_BYTES < script.len() {
-            return SpanRead::Refused(1);
+            return SpanRead::Refused(Refusal::TOO_LONG);
         }
         if well_formed(script, t) {
             SpanRead::Found(span_of(script, t))
         } else {
-            SpanRead::Refused(4)
+            SpanRead::Refused(Refusal::MALFORMED)
         }
     }
 }
@@ -104,9 +108,9 @@ fn columns_of(b: u8) -> u32
 // The place behind some bytes, from the place before them.
 fn place_after(before: Place, bytes: &[u8]) -> Place
     requires { ⌜ (1 ≤ before .column)
-        × (before .column ≤ 65537)
-        × (before .line ≤ 65537)
-        × (length (now bytes) ≤ 65536) ⌝ }
+        × (before .column ≤ maxPlace)
+        × (before .line ≤ maxPlace)
+        × (length (now bytes) ≤ maxBytes) ⌝ }
     ensures { λ r. ⌜ r ≡ onward before (now (bytes .entry)) ⌝ }
 {
     let mut feeds: u32 = 0;
@@ -150,11 +154,11 @@ pub fn advance(script: &[u8], from: u32, known: Place, to: u32) -> Position
     ensures { λ r. ⌜ positionAnswer r ≡ advanced (now (script .entry)) from known to ⌝ }
 {
     if MAX_BYTES < script.len() {
-        return Position::Refused(1);
+        return Position::Refused(Refusal::TOO_LONG);
     }
     let n = to as usize;
     if script.len() < n {
-        return Position::Refused(3);
+        return Position::Refused(Refusal::OUTSIDE);
     }
     if goes_on(from, known, to) {
         let start = from as usize;
@@ -235,21 +239,22 @@ fn fill(script: &[u8], positions: &[u32], places: &mut [u32])
 pub fn line_columns(script: &[u8], positions: &[u32], places: &mut [u32]) -> Filled
     ensures { λ r.
         let left = outcome r (now (places .exit)) in
-        ⌜ left ≡ lineColumns (now (script .entry)) (now (positions .entry)) (now (places .entry)) ⌝ }
+        let bytes = now (script .entry) in
+        ⌜ left ≡ lineColumns bytes (now (positions .entry)) (now (places .entry)) ⌝ }
 {
     if MAX_BYTES < script.len() {
-        return Filled::Refused(1);
+        return Filled::Refused(Refusal::TOO_LONG);
     }
     if places.len() / 2 < positions.len() {
-        return Filled::Refused(50);
+        return Filled::Refused(Refusal::PLACES_TOO_SHORT);
     }
     if falls(positions) {
-        return Filled::Refused(49);
+        return Filled::Refused(Refusal::POSITIONS_FALL);
     }
     if all_inside(script, positions) {
         fill(script, positions, places);
         Filled::Done
     } else {
-        Filled::Refused(3)
+        Filled::Refused(Refusal::OUTSIDE)
     }
 }

@@ -197,16 +197,16 @@ module _ (script cells : List ℕ) (n : ℕ) where
 -- of `n` texts those before `i` are written
 pub record Members (f : ℕ → List ℕ) (n : ℕ) (x y : List ℕ) (to i : ℕ) : Type 0 where
   pub bound : i ≤ n
-  pub written : Emits (each f i) x 0 y to
+  pub emitted : Emits (each f i) x 0 y to
 
 module _ {f : ℕ → List ℕ} {n : ℕ} {x : List ℕ} where
   pub members-none : Members f n x x 0 0
   unfolding each
-  members-none = record { bound = omega arith; written = nothing }
+  members-none = record { bound = omega arith; emitted = nothing }
 
   pub members-next : {y z : List ℕ} {q r i : ℕ} → Members f n x y q i → Emits (f i) y q z r → i < n → Members f n x z r (i + 1)
   unfolding each
-  members-next m g h = record { bound = omega arith; written = rw add-one (then (m .written) g) }
+  members-next m g h = record { bound = omega arith; emitted = rw add-one (then (m .emitted) g) }
 
   pub members-all : {y : List ℕ} {q i : ℕ} → Members f n x y q i → n ≤ i → Emits (each f n) x 0 y q
-  members-all m h = let b = m .bound in by (ap (each f) (omega arith)) (m .written)
+  members-all m h = let b = m .bound in by (ap (each f) (omega arith)) (m .emitted)

@@ -7,6 +7,7 @@ use Prim.Native.Nat.{ℕ, zero, suc, _*_, _/_}
 use lib.ListN.{length, take}
 use Rattle.lex.specs.declared.diagnostic.Diagnostic.{Diagnostic}
 use Rattle.lex.specs.Answer.{Answer, refused, answer}
+use Rattle.ast.specs.Layout.{diagnosticWidth}
 use Rattle.positions.specs.Position.{placeOf}
 use Rattle.positions.specs.declared.Place.{Place}
 use Rattle.text.specs.Emit.{Emits}
@@ -38,7 +39,8 @@ each text (suc n) = each text n ++ text n
 
 -- the lines of all errors; nothing for one that is refused
 abbrev pub textsOf : List ℕ → List ℕ → List ℕ
-textsOf script cells = each (λ i. textIn (entry script (errorAt cells i))) (length cells / 5)
+textsOf script cells =
+    each (λ i. textIn (entry script (errorAt cells i))) (length cells / diagnosticWidth)
 
 -- the lines of an error at a place; nothing where it has no words
 unfoldable pub linesAt : Place → Diagnostic → List ℕ

@@ -17,6 +17,7 @@ ghost use mathlib.Core.Path.{_≡_};
 ghost use Prim.Native.Nat.{_-_, _*_, _≤_};
 ghost use lib.ListN.{length};
 ghost use Rattle.lex.specs.Answer.{maxBytes};
+ghost use Rattle.ast.specs.Layout.{diagnosticWidth};
 ghost use Rattle.text.specs.Answer.{result, answerOf};
 ghost use Rattle.text.specs.Emit.{Emits};
 ghost use Rattle.text.specs.Text.{number as numberOf};
@@ -118,7 +119,7 @@ fn write_body(words: &[u8], out: &mut [u8], at: usize) -> usize
 }
 
 fn error_at(errors: &[u32], i: usize) -> Diagnostic
-    requires { ⌜ 5 * i ≤ length (now errors) ⌝ }
+    requires { ⌜ diagnosticWidth * i ≤ length (now errors) ⌝ }
     ensures { λ r. ⌜ r ≡ errorAt (now (errors .entry)) i ⌝ }
 {
     let at = DIAGNOSTIC_WIDTH * i;

@@ -97,9 +97,9 @@ data Turns : Result (ControlFlow Gathered) → Type 0 where
   stop : {e : Diagnostic} {s : State} → hasWords e ≡ true → Turns (err e s)
 
 -- and the loop
-data Gathers : Result Gathered → Type 0 where
-  gathered : {g : Gathered} {s : State} → AllWorded (g .errors) → Gathers (ok g s)
-  stopped : {e : Diagnostic} {s : State} → hasWords e ≡ true → Gathers (err e s)
+data GathersWorded : Result Gathered → Type 0 where
+  gathered : {g : Gathered} {s : State} → AllWorded (g .errors) → GathersWorded (ok g s)
+  stopped : {e : Diagnostic} {s : State} → hasWords e ≡ true → GathersWorded (err e s)
 
 module _ (power : ℕ → Option ℕ) (script : List ℕ) where
   recover-turns : (g : Gathered) (e : Diagnostic) (s : State) → AllWorded (g .errors) → hasWords e ≡ true → Known s → Turns (recover power script g e s)
@@ -146,18 +146,18 @@ module _ (power : ℕ → Option ℕ) (script : List ℕ) where
       by-kind true = out h
       by-kind false = root (readers power script maxLevels .prefix s) (readers-worded power script maxLevels .prefix s q)
 
-  turns-gather : (n : ℕ) (g : Gathered) (s : State) → AllWorded (g .errors) → Known s → Gathers (R.iterate n turn g s)
+  turns-gather : (n : ℕ) (g : Gathered) (s : State) → AllWorded (g .errors) → Known s → GathersWorded (R.iterate n turn g s)
   unfolding R.iterate
   turns-gather zero g s h q = gathered h
   turns-gather (suc n) g s h q = go (turns-gather n) (turn g s) (turn-turns g s h q)
     where
-      go : ((g₁ : Gathered) (s₁ : State) → AllWorded (g₁ .errors) → Known s₁ → Gathers (R.iterate n turn g₁ s₁)) → (r : Result (ControlFlow Gathered)) → Turns r
-          → Gathers (elim r as (λ r′. Result Gathered) [ ok t s₁ ↦ elim t as (λ t′. Result Gathered) [ continue g₁ ↦ R.iterate n turn g₁ s₁ | break g₁ ↦ ok g₁ s₁ ] | err e s₁ ↦ err e s₁ ])
+      go : ((g₁ : Gathered) (s₁ : State) → AllWorded (g₁ .errors) → Known s₁ → GathersWorded (R.iterate n turn g₁ s₁)) → (r : Result (ControlFlow Gathered)) → Turns r
+          → GathersWorded (elim r as (λ r′. Result Gathered) [ ok t s₁ ↦ elim t as (λ t′. Result Gathered) [ continue g₁ ↦ R.iterate n turn g₁ s₁ | break g₁ ↦ ok g₁ s₁ ] | err e s₁ ↦ err e s₁ ])
       go next r (again {g = g₁} {s = s₁} h₁ q₁) = next g₁ s₁ h₁ q₁
       go next r (out h₁) = gathered h₁
       go next r (stop w) = stopped w
 
-  collect-gathers : Gathers (parseRootsCollect power script (begin script))
+  collect-gathers : GathersWorded (parseRootsCollect power script (begin script))
   unfolding parseRootsCollect R.loop
   collect-gathers = turns-gather (length (begin script .left)) (record { roots = []; errors = [] }) (begin script) tt (begin-known script)
 
@@ -172,7 +172,7 @@ module _ (power : ℕ → Option ℕ) (script : List ℕ) where
   unfolding parseCollect
   parseCollect-words e p = go (parseRootsCollect power script (begin script)) collect-gathers p
     where
-      go : (r : Result Gathered) → Gathers r → finish r ≡ ended e → hasWords e ≡ true
+      go : (r : Result Gathered) → GathersWorded r → finish r ≡ ended e → hasWords e ≡ true
       go r (gathered h) p = ended≢read e _ _ (sym p)
       go r (stopped {e = x} w) p = let same : x ≡ e = cc in subst (λ (d : Diagnostic). hasWords d ≡ true) same w
 
@@ -184,7 +184,7 @@ module _ (power : ℕ → Option ℕ) (script : List ℕ) where
       fs : List Occurrence
       fs = faultsOf 0 (cut script)
 
-      go : (r : Result Gathered) → Gathers r → finish r ≡ read t es → AllDescribed es
+      go : (r : Result Gathered) → GathersWorded r → finish r ≡ read t es → AllDescribed es
       go r (gathered {g} h) p =
           let same : merged (length fs + length (g .errors)) fs (g .errors) ≡ es = cc in
           subst AllDescribed same (merged-worded (length fs + length (g .errors)) fs (g .errors) (faults-worded script bytes) h)

@@ -172,13 +172,15 @@ impl Tree {
         tree.rooted(node)
     }
 
-    /// A cast to record types, so many, each in the next one, made by hand.
-    fn nested_types(levels: u32) -> Tree {
+    /// A cast to record types, so many, each in the last field of the next one, or in the first of two, made by hand.
+    fn nested_types(levels: u32, first: bool) -> Tree {
         let mut tree = Tree::blank();
         tree.script[0] = b'a';
-        let mut ty = tree.push_type(&[TYPE_ATOM, INT, 7, 3]);
+        let atom = tree.push_type(&[TYPE_ATOM, INT, 7, 3]);
+        let mut ty = atom;
         for _ in 0..levels {
-            let [at, n] = tree.push_list(&[IDENT, 0, 1, ty]);
+            let fields = [IDENT, 0, 1, ty, IDENT, 0, 1, atom];
+            let [at, n] = tree.push_list(if first { &fields } else { &fields[..4] });
             ty = tree.push_type(&[TYPE_RECORD, INT, 0, 3, at, n / 4]);
         }
         let name = tree.push_node(&[NODE_IDENT, 0, IDENT, 0, 1]);
@@ -365,7 +367,8 @@ fn nests() -> Vec<(&'static str, fn(u32) -> Tree)> {
         ("matches, in a case's condition", |levels| Tree::nested(Nest::Case, levels)),
         ("matches, in the default's body", |levels| Tree::nested(Nest::Default, levels)),
         ("records, in a value", |levels| Tree::nested(Nest::Value, levels)),
-        ("record types, in a field", |levels| Tree::nested_types(levels)),
+        ("record types, in the last field", |levels| Tree::nested_types(levels, false)),
+        ("record types, in the first of two fields", |levels| Tree::nested_types(levels, true)),
     ]
 }
 

@@ -1,7 +1,7 @@
 -- `purple_garden_line_column` meets its contract.
 -- Assumes nothing.
 use mathlib.Core.Path.{_∙_, sym, ap}
-use Rattle.c_api.specs.Numbers.{numberOf, stored, placeCells}
+use Rattle.c_api.specs.Numbers.{numberOf, answerCells, placeCells}
 use Rattle.c_api.proofs.Answers.{answers}
 use Rattle.positions.specs.Position.{positionAnswer}
 use borrow.Author.Needs.{needs}
@@ -9,12 +9,12 @@ use Rattle.c_api.proofs.purple_garden_line_column.Statement.{statement}
 use Rattle.c_api.proofs.purple_garden_line_column.Tie as tie
 
 returns : tie.Need-returns
-unfolding numberOf stored placeCells positionAnswer
+unfolding numberOf answerCells placeCells positionAnswer
 returns c =
     answers placeCells _ (sym (ap positionAnswer (c .before .before .before .before .p .given .1)) ∙ c .before .before .before .before .before .before .line-column .ensures)
 
 returns-2 : tie.Need-returns-2
-unfolding numberOf stored positionAnswer
+unfolding numberOf answerCells positionAnswer
 returns-2 c =
     answers placeCells _ (sym (ap positionAnswer (c .before .n .given .1)) ∙ c .before .before .before .line-column .ensures)
 

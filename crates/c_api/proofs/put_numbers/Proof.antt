@@ -4,22 +4,22 @@ use mathlib.Core.Path.{sym, ap}
 use Rattle.ast.specs.Layout.{diagnosticCells}
 use Rattle.rules.specs.Promise.{numbersOf}
 use Rattle.ast.specs.declared.Parsed.{Parsed}
-use Rattle.c_api.specs.Numbers.{written, numberCells}
+use Rattle.c_api.specs.Numbers.{readingCells, numberCells}
 use borrow.Author.Needs.{needs}
 use Rattle.c_api.proofs.put_numbers.Statement.{statement}
 use Rattle.c_api.proofs.put_numbers.Tie as tie
 
 returns : tie.Need-returns
-unfolding written numberCells numbersOf diagnosticCells
-returns c = let e = sym (c .before .before .answer .given .1) in (ap (λ (x : Parsed). numbersOf x .number) e, ap (λ (x : Parsed). written x (c .before .before .before .before .args .numbers .now)) e)
+unfolding readingCells numberCells numbersOf diagnosticCells
+returns c = let e = sym (c .before .before .answer .given .1) in (ap (λ (x : Parsed). numbersOf x .number) e, ap (λ (x : Parsed). readingCells x (c .before .before .before .before .args .numbers .now)) e)
 
 returns-2 : tie.Need-returns-2
-unfolding written numberCells numbersOf diagnosticCells
-returns-2 c = let e = sym (c .before .before .answer2 .given .1) in (ap (λ (x : Parsed). numbersOf x .number) e, ap (λ (x : Parsed). written x (c .before .before .before .before .args .numbers .now)) e)
+unfolding readingCells numberCells numbersOf diagnosticCells
+returns-2 c = let e = sym (c .before .before .answer2 .given .1) in (ap (λ (x : Parsed). numbersOf x .number) e, ap (λ (x : Parsed). readingCells x (c .before .before .before .before .args .numbers .now)) e)
 
 returns-3 : tie.Need-returns-3
-unfolding written numbersOf
-returns-3 c = let e = sym (c .before .answer3 .given .1) in (ap (λ (x : Parsed). numbersOf x .number) e, ap (λ (x : Parsed). written x (c .before .before .before .args .numbers .now)) e)
+unfolding readingCells numbersOf
+returns-3 c = let e = sym (c .before .answer3 .given .1) in (ap (λ (x : Parsed). numbersOf x .number) e, ap (λ (x : Parsed). readingCells x (c .before .before .before .args .numbers .now)) e)
 
 pub put-numbers-spec : {M : Type 1} → statement M
 put-numbers-spec =

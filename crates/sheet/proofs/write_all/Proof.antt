@@ -41,7 +41,7 @@ loop-again c =
     (members-next (c .before .before .before .before .before .before .loop .inv .0) (by (ap (λ (e : Diagnostic). textIn (entry (a .script .now) e)) (e .ensures)) (w .ensures .emits)) (c .before .before .before .before .before .loop-test .taken), w .ensures .reached)
 
 same-length : tie.Need-same-length Inv-loop μ-loop
-same-length c = same-size (c .before .loop .inv .0 .written)
+same-length c = same-size (c .before .loop .inv .0 .emitted)
 
 returns : tie.Need-returns Inv-loop μ-loop
 returns c = members-all (c .before .loop .inv .0) (c .loop-test .left)

@@ -3,14 +3,14 @@
 use mathlib.Core.Path.{sym}
 use borrow.Author.Tests.{lt-leb}
 use borrow.Author.Needs.{needs}
-use Rattle.c_api.specs.LexerCells.{stored}
-use Rattle.c_api.proofs.LexerCells.{stored-step}
+use Rattle.c_api.specs.LexerCells.{putCells}
+use Rattle.c_api.proofs.LexerCells.{put-step}
 use Rattle.c_api.proofs.lexer.lex_step.Statement.{statement}
 use Rattle.c_api.proofs.lexer.lex_step.Tie as tie
 
 returns : tie.Need-returns
-unfolding stored
-returns c = let short = lt-leb 6 _ (c .if1 .taken) in (sym short, rw (short, stored))
+unfolding putCells
+returns c = let short = lt-leb 6 _ (c .if1 .taken) in (sym short, rw (short, putCells))
 
 step-requires : tie.Need-step-requires
 step-requires c κs = search needs
@@ -48,7 +48,7 @@ same-length c = search needs
 returns-2 : tie.Need-returns-2
 returns-2 c =
     let c8 = c .before .before .before .before .before .before .before .before in
-    stored-step (c8 .before .before .before .before .args .out .now) (c8 .before .if1 .left) (c8 .step .ensures) (c .before .before .before .before .before .before .token .given .1) (c .before .before .put .ensures)
+    put-step (c8 .before .before .before .before .args .out .now) (c8 .before .if1 .left) (c8 .step .ensures) (c .before .before .before .before .before .before .token .given .1) (c .before .before .put .ensures)
 
 same-length-2 : tie.Need-same-length-2
 same-length-2 c = search needs
@@ -56,7 +56,7 @@ same-length-2 c = search needs
 returns-3 : tie.Need-returns-3
 returns-3 c =
     let c9 = c .before .before .before .before .before .before .before .before .before in
-    stored-step (c9 .before .before .before .before .args .out .now) (c9 .before .if1 .left) (c9 .step .ensures) (c .before .before .before .before .before .before .before .fault .given .1) (c .before .before .put2 .ensures)
+    put-step (c9 .before .before .before .before .args .out .now) (c9 .before .if1 .left) (c9 .step .ensures) (c .before .before .before .before .before .before .before .fault .given .1) (c .before .before .put2 .ensures)
 
 same-length-3 : tie.Need-same-length-3
 same-length-3 c = search needs
@@ -64,7 +64,7 @@ same-length-3 c = search needs
 returns-4 : tie.Need-returns-4
 returns-4 c =
     let c7 = c .before .before .before .before .before .before .before in
-    stored-step (c7 .before .before .before .before .args .out .now) (c7 .before .if1 .left) (c7 .step .ensures) (c .before .before .before .before .before .at .given .1) (c .before .before .put3 .ensures)
+    put-step (c7 .before .before .before .before .args .out .now) (c7 .before .if1 .left) (c7 .step .ensures) (c .before .before .before .before .before .at .given .1) (c .before .before .put3 .ensures)
 
 pub lex-step-spec : {M : Type 1} → statement M
 lex-step-spec =

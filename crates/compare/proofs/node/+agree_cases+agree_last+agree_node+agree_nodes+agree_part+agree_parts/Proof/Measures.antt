@@ -3,13 +3,13 @@ use Prim.Native.Nat.{ℕ, _<_, _+_, _*_}
 use borrow.Fn.Kinds.{In}
 use borrow.Fn.PlainCycle.{Measures, is, falls, and}
 use Rattle.compare.proofs.node.agree_cases.Reads as agree-cases
-use Rattle.compare.proofs.node.agree_fields.Reads as agree-fields
+use Rattle.compare.proofs.node.agree_last.Reads as agree-last
 use Rattle.compare.proofs.node.agree_node.Reads as agree-node
 use Rattle.compare.proofs.node.agree_nodes.Reads as agree-nodes
 use Rattle.compare.proofs.node.agree_part.Reads as agree-part
 use Rattle.compare.proofs.node.agree_parts.Reads as agree-parts
 use Rattle.compare.proofs.node.agree_cases.Kinds as agree-cases-kinds
-use Rattle.compare.proofs.node.agree_fields.Kinds as agree-fields-kinds
+use Rattle.compare.proofs.node.agree_last.Kinds as agree-last-kinds
 use Rattle.compare.proofs.node.agree_node.Kinds as agree-node-kinds
 use Rattle.compare.proofs.node.agree_nodes.Kinds as agree-nodes-kinds
 use Rattle.compare.proofs.node.agree_part.Kinds as agree-part-kinds
@@ -18,8 +18,8 @@ use Rattle.compare.proofs.node.agree_parts.Kinds as agree-parts-kinds
 abbrev pub μ-agree-cases : Measures 16 agree-cases-kinds.ps ℕ
 μ-agree-cases κs a = 8 * a .1 .1 .1 .1 .1 .0 + 2
 
-abbrev pub μ-agree-fields : Measures 16 agree-fields-kinds.ps ℕ
-μ-agree-fields κs a = 8 * a .1 .1 .1 .1 .1 .0 + 1
+abbrev pub μ-agree-last : Measures 16 agree-last-kinds.ps ℕ
+μ-agree-last κs a = 8 * a .1 .1 .1 .1 .1 .0 + 1
 
 abbrev pub μ-agree-node : Measures 16 agree-node-kinds.ps ℕ
 μ-agree-node κs a = 8 * a .1 .1 .1 .1 .1 .0
@@ -41,17 +41,17 @@ abbrev pub agree-cases-below : ℕ → In 16 agree-cases-kinds.ps
 agree-cases-below t =
     and 16 agree-cases-kinds.ps (falls 16 agree-cases-kinds.ps _<_ μ-agree-cases t) agree-cases.Pre
 
-abbrev pub agree-fields-at : ℕ → In 16 agree-fields-kinds.ps
-agree-fields-at t =
-    and 16 agree-fields-kinds.ps (is 16 agree-fields-kinds.ps μ-agree-fields t) agree-fields.Pre
+abbrev pub agree-last-at : ℕ → In 16 agree-last-kinds.ps
+agree-last-at t =
+    and 16 agree-last-kinds.ps (is 16 agree-last-kinds.ps μ-agree-last t) agree-last.Pre
 
-abbrev pub agree-fields-below : ℕ → In 16 agree-fields-kinds.ps
-agree-fields-below t =
+abbrev pub agree-last-below : ℕ → In 16 agree-last-kinds.ps
+agree-last-below t =
     and
     16
-    agree-fields-kinds.ps
-    (falls 16 agree-fields-kinds.ps _<_ μ-agree-fields t)
-    agree-fields.Pre
+    agree-last-kinds.ps
+    (falls 16 agree-last-kinds.ps _<_ μ-agree-last t)
+    agree-last.Pre
 
 abbrev pub agree-node-at : ℕ → In 16 agree-node-kinds.ps
 agree-node-at t =

@@ -15,8 +15,8 @@ use Rattle.ast.proofs.decode.cell.Reads as cell-reads
 use Rattle.compare.proofs.node.agree_node.Reads as agree-node
 use Rattle.ast.proofs.decode.run_at.Reads as run-at-reads
 use Rattle.compare.proofs.node.agree_nodes.Reads as agree-nodes
-use Rattle.compare.proofs.node.+agree_cases+agree_fields+agree_node+agree_nodes+agree_part+agree_parts.Lts-agree_cases as lts
-use Rattle.compare.proofs.node.+agree_cases+agree_fields+agree_node+agree_nodes+agree_part+agree_parts.Proof.Measures.{agree-cases-at, agree-node-below, agree-nodes-below}
+use Rattle.compare.proofs.node.+agree_cases+agree_last+agree_node+agree_nodes+agree_part+agree_parts.Lts-agree_cases as lts
+use Rattle.compare.proofs.node.+agree_cases+agree_last+agree_node+agree_nodes+agree_part+agree_parts.Proof.Measures.{agree-cases-at, agree-node-below, agree-nodes-below}
 
 abbrev claims : ℕ → lts.Claims
 claims t = (formed-at-reads.Asked, formed-at-reads.Learnt, cell-reads.Asked, cell-reads.Learnt, agree-node-below t, agree-node.Post, run-at-reads.Asked, run-at-reads.Learnt, agree-nodes-below t, agree-nodes.Post)

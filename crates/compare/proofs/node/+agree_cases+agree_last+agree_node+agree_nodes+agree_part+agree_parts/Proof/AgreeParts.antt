@@ -8,15 +8,15 @@ use mathlib.Core.Path.{_≡_, _∙_, ap}
 use lib.ListN.{getD}
 use Rattle.compare.specs.Parts.{PartsAgree, parts, restOf, sortAt, cellAt}
 use Rattle.compare.proofs.Agree.{decides-yes, decides-no, decides-not}
-use Rattle.compare.proofs.Nodes.{more-parts, part-is, rest-next}
+use Rattle.compare.proofs.Nodes.{more-parts, part-is, rest-next, no-fields}
 use borrow.Author.Needs.{needs}
 use native.Mathlib.Omega.{arith}
 use Prim.Native.Nat.{ℕ}
 use Rattle.compare.proofs.node.agree_parts.Reads as agree-parts
 use Rattle.compare.proofs.node.parts_of.Reads as parts-of-reads
 use Rattle.compare.proofs.node.agree_part.Reads as agree-part
-use Rattle.compare.proofs.node.+agree_cases+agree_fields+agree_node+agree_nodes+agree_part+agree_parts.Lts-agree_parts as lts
-use Rattle.compare.proofs.node.+agree_cases+agree_fields+agree_node+agree_nodes+agree_part+agree_parts.Proof.Measures.{agree-parts-at, agree-part-below}
+use Rattle.compare.proofs.node.+agree_cases+agree_last+agree_node+agree_nodes+agree_part+agree_parts.Lts-agree_parts as lts
+use Rattle.compare.proofs.node.+agree_cases+agree_last+agree_node+agree_nodes+agree_part+agree_parts.Proof.Measures.{agree-parts-at, agree-part-below}
 
 abbrev claims : ℕ → lts.Claims
 claims t = (parts-of-reads.Asked, parts-of-reads.Learnt, agree-part-below t, agree-part.Post)
@@ -64,7 +64,7 @@ agree-parts-meets t = lts.spec (claims t) (agree-parts-at t) agree-parts.Post In
     (λ c. omega (arith, c .before .before .before .fits .i))  -- add-agree-part
     (λ c. omega (arith, c .before .before .before .fits .j))  -- mul-agree-part-2
     (λ c. omega (arith, c .before .before .before .fits .j))  -- add-agree-part-2
-    (λ c κs. (omega (arith, c .before .before .before .pre .0), search needs))  -- agree-part-requires
+    (λ c κs. (omega (arith, c .before .before .before .pre .0), no-fields (c .before .before .before .args .order) (c .before .loop .x) (c .before .loop .inv .1) (c .before .before .before .pre .1) (c .loop-test .taken)))  -- agree-part-requires
     (returns t)
     (λ c. omega (arith, c .before .before .loop-test .taken))  -- add-x
     (loop-less t)

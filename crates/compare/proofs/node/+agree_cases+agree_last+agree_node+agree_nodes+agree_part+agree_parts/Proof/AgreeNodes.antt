@@ -9,8 +9,8 @@ use Prim.Native.Nat.{ℕ}
 use Rattle.compare.proofs.node.agree_nodes.Reads as agree-nodes
 use Rattle.ast.proofs.decode.cell.Reads as cell-reads
 use Rattle.compare.proofs.node.agree_node.Reads as agree-node
-use Rattle.compare.proofs.node.+agree_cases+agree_fields+agree_node+agree_nodes+agree_part+agree_parts.Lts-agree_nodes as lts
-use Rattle.compare.proofs.node.+agree_cases+agree_fields+agree_node+agree_nodes+agree_part+agree_parts.Proof.Measures.{agree-nodes-at, agree-node-below}
+use Rattle.compare.proofs.node.+agree_cases+agree_last+agree_node+agree_nodes+agree_part+agree_parts.Lts-agree_nodes as lts
+use Rattle.compare.proofs.node.+agree_cases+agree_last+agree_node+agree_nodes+agree_part+agree_parts.Proof.Measures.{agree-nodes-at, agree-node-below}
 
 abbrev claims : ℕ → lts.Claims
 claims t = (cell-reads.Asked, cell-reads.Learnt, agree-node-below t, agree-node.Post)

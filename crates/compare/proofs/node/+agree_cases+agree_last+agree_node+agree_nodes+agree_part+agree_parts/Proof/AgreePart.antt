@@ -18,14 +18,13 @@ use Rattle.ast.proofs.decode.cell.Reads as cell-reads
 use Rattle.compare.proofs.type_expr.agree_type.Reads as agree-type-reads
 use Rattle.compare.proofs.type_expr.agree_fns.Reads as agree-fns-reads
 use Rattle.compare.proofs.node.agree_nodes.Reads as agree-nodes
-use Rattle.compare.proofs.node.agree_fields.Reads as agree-fields
 use Rattle.compare.proofs.node.agree_cases.Reads as agree-cases
 use Rattle.compare.proofs.node.agree_node.Reads as agree-node
-use Rattle.compare.proofs.node.+agree_cases+agree_fields+agree_node+agree_nodes+agree_part+agree_parts.Lts-agree_part as lts
-use Rattle.compare.proofs.node.+agree_cases+agree_fields+agree_node+agree_nodes+agree_part+agree_parts.Proof.Measures.{agree-part-at, agree-cases-below, agree-fields-below, agree-node-below, agree-nodes-below}
+use Rattle.compare.proofs.node.+agree_cases+agree_last+agree_node+agree_nodes+agree_part+agree_parts.Lts-agree_part as lts
+use Rattle.compare.proofs.node.+agree_cases+agree_last+agree_node+agree_nodes+agree_part+agree_parts.Proof.Measures.{agree-part-at, agree-cases-below, agree-node-below, agree-nodes-below}
 
 abbrev claims : ℕ → lts.Claims
-claims t = (agree-token-at-reads.Asked, agree-token-at-reads.Learnt, run-at-reads.Asked, run-at-reads.Learnt, agree-words-reads.Asked, agree-words-reads.Learnt, agree-params-reads.Asked, agree-params-reads.Learnt, cell-reads.Asked, cell-reads.Learnt, agree-type-reads.Asked, agree-type-reads.Learnt, agree-fns-reads.Asked, agree-fns-reads.Learnt, agree-nodes-below t, agree-nodes.Post, agree-fields-below t, agree-fields.Post, agree-cases-below t, agree-cases.Post, agree-node-below t, agree-node.Post)
+claims t = (agree-token-at-reads.Asked, agree-token-at-reads.Learnt, run-at-reads.Asked, run-at-reads.Learnt, agree-words-reads.Asked, agree-words-reads.Learnt, agree-params-reads.Asked, agree-params-reads.Learnt, cell-reads.Asked, cell-reads.Learnt, agree-type-reads.Asked, agree-type-reads.Learnt, agree-fns-reads.Asked, agree-fns-reads.Learnt, agree-nodes-below t, agree-nodes.Post, agree-cases-below t, agree-cases.Post, agree-node-below t, agree-node.Post)
 
 returns : (t : ℕ) → lts.Need-returns (claims t) (agree-part-at t) agree-part.Post
 unfolding PartAgrees partOf w
@@ -95,7 +94,7 @@ returns-7 t c =
     let v2 = view (a .s2 .now .now) (a .nodes2 .now .now) (a .types2 .now .now) (a .cells2 .now .now) (a .k2) in
     let e = envBelow v (a .i) in
     let e2 = envBelow v2 (a .j) in
-    part-as e e2 (a .sort) _ _ _ _ (ap partOf (c .before .before .before .before .before .if7 .taken)) (rw (c .before .before .before .run-at9 .ensures, c .before .run-at10 .ensures) at (c .agree-fields .ensures))
+    part-as e e2 (a .sort) _ _ _ _ (ap partOf (c .before .before .before .before .before .if7 .taken)) (rw (c .before .before .before .run-at9 .ensures, c .before .run-at10 .ensures) at (c .agree-cases .ensures))
 
 returns-8 : (t : ℕ) → lts.Need-returns-8 (claims t) (agree-part-at t) agree-part.Post
 unfolding PartAgrees partOf
@@ -105,26 +104,16 @@ returns-8 t c =
     let v2 = view (a .s2 .now .now) (a .nodes2 .now .now) (a .types2 .now .now) (a .cells2 .now .now) (a .k2) in
     let e = envBelow v (a .i) in
     let e2 = envBelow v2 (a .j) in
-    part-as e e2 (a .sort) _ _ _ _ (ap partOf (c .before .before .before .before .before .if8 .taken)) (rw (c .before .before .before .run-at11 .ensures, c .before .run-at12 .ensures) at (c .agree-cases .ensures))
+    part-as e e2 (a .sort) _ _ _ _ (ap partOf (c .before .before .before .before .before .if8 .taken)) (rw (c .before .before .before .cell3 .ensures, c .before .cell4 .ensures, add-zero, add-zero) at (c .agree-node .ensures))
 
 returns-9 : (t : ℕ) → lts.Need-returns-9 (claims t) (agree-part-at t) agree-part.Post
-unfolding PartAgrees partOf
 returns-9 t c =
-    let a = c .before .before .before .before .before .before .before .before .before .before .before .before .before .before .args in
+    let a = c .before .before .before .before .before .before .before .before .args in
     let v = view (a .s .now .now) (a .nodes .now .now) (a .types .now .now) (a .cells .now .now) (a .k) in
     let v2 = view (a .s2 .now .now) (a .nodes2 .now .now) (a .types2 .now .now) (a .cells2 .now .now) (a .k2) in
     let e = envBelow v (a .i) in
     let e2 = envBelow v2 (a .j) in
-    part-as e e2 (a .sort) _ _ _ _ (ap partOf (c .before .before .before .before .before .if9 .taken)) (rw (c .before .before .before .cell3 .ensures, c .before .cell4 .ensures, add-zero, add-zero) at (c .agree-node .ensures))
-
-returns-10 : (t : ℕ) → lts.Need-returns-10 (claims t) (agree-part-at t) agree-part.Post
-returns-10 t c =
-    let a = c .before .before .before .before .before .before .before .before .before .args in
-    let v = view (a .s .now .now) (a .nodes .now .now) (a .types .now .now) (a .cells .now .now) (a .k) in
-    let v2 = view (a .s2 .now .now) (a .nodes2 .now .now) (a .types2 .now .now) (a .cells2 .now .now) (a .k2) in
-    let e = envBelow v (a .i) in
-    let e2 = envBelow v2 (a .j) in
-    part-as e e2 (a .sort) _ _ _ _ (part-nothing (a .sort) (c .before .before .before .before .before .before .before .before .if1 .left) (c .before .before .before .before .before .before .before .if2 .left) (c .before .before .before .before .before .before .if3 .left) (c .before .before .before .before .before .if4 .left) (c .before .before .before .before .if5 .left) (c .before .before .before .if6 .left) (c .before .before .if7 .left) (c .before .if8 .left) (c .if9 .left)) (decides-yes (nothing-agrees e e2 _ _ _ _))
+    part-as e e2 (a .sort) _ _ _ _ (part-nothing (a .sort) (c .before .before .before .before .before .before .before .if1 .left) (c .before .before .before .before .before .before .if2 .left) (c .before .before .before .before .before .if3 .left) (c .before .before .before .before .if4 .left) (c .before .before .before .if5 .left) (c .before .before .if6 .left) (c .before .before .before .before .before .before .before .before .pre .1) (c .before .if7 .left) (c .if8 .left)) (decides-yes (nothing-agrees e e2 _ _ _ _))
 
 pub agree-part-meets : {M : Type 1} (t : ℕ) → lts.Closed (claims t) (agree-part-at t) agree-part.Post M
 agree-part-meets t = lts.spec (claims t) (agree-part-at t) agree-part.Post
@@ -152,14 +141,10 @@ agree-part-meets t = lts.spec (claims t) (agree-part-at t) agree-part.Post
     (returns-6 t)
     (λ c κs. search needs)  -- run-at-requires-9
     (λ c κs. search needs)  -- run-at-requires-10
-    (λ c κs. (omega (arith, c .before .before .before .before .before .before .before .before .before .before .before .pre .0), search needs))  -- agree-fields-requires
+    (λ c κs. (omega (arith, c .before .before .before .before .before .before .before .before .before .before .before .pre .0), search needs))  -- agree-cases-requires
     (returns-7 t)
-    (λ c κs. search needs)  -- run-at-requires-11
-    (λ c κs. search needs)  -- run-at-requires-12
-    (λ c κs. (omega (arith, c .before .before .before .before .before .before .before .before .before .before .before .before .pre .0), search needs))  -- agree-cases-requires
-    (returns-8 t)
     (λ c κs. search needs)  -- cell-requires-3
     (λ c κs. search needs)  -- cell-requires-4
-    (λ c κs. (omega (arith, c .before .before .before .before .before .before .before .before .before .before .before .before .before .pre .0), search needs))  -- agree-node-requires
+    (λ c κs. (omega (arith, c .before .before .before .before .before .before .before .before .before .before .before .before .pre .0), search needs))  -- agree-node-requires
+    (returns-8 t)
     (returns-9 t)
-    (returns-10 t)
