@@ -8,6 +8,7 @@ use ast::NodeId;
 use ast::Parsed;
 use diagnostics::push_diagnostic;
 use diagnostics::push_faults;
+use lex::Diagnostic;
 use lex::Type;
 use lex::next_token;
 use parser_items::member;
@@ -89,17 +90,17 @@ fn clear_left(
     members: u32,
 )
     ensures { λ r.
-        ⌜ (ZeroBetween (now (nodes .entry)) (16 * u .nodes) 0
+        ⌜ (ZeroBetween (now (nodes .entry)) (nodeWidth * u .nodes) 0
         → now (nodes .exit) ≡ zeros (length (now (nodes .entry))))
-        × (ZeroBetween (now (types .entry)) (8 * u .types) (3 * u .docs)
+        × (ZeroBetween (now (types .entry)) (typeWidth * u .types) (3 * u .docs)
         → now (types .exit) ≡ zeros (length (now (types .entry))))
         × (ZeroBetween (now (lists .entry)) (u .cells) (u .scratch)
         → now (lists .exit) ≡ zeros (length (now (lists .entry))))
         × (ZeroBetween (now (roots .entry)) members 0
         → now (roots .exit) ≡ zeros (length (now (roots .entry)))) ⌝ }
 {
-    clear_ends(nodes, 16 * u.nodes as usize, 0);
-    clear_ends(types, 8 * u.types as usize, 3 * u.docs as usize);
+    clear_ends(nodes, Node::WIDTH * u.nodes as usize, 0);
+    clear_ends(types, TypeExpr::WIDTH * u.types as usize, 3 * u.docs as usize);
     clear_ends(lists, u.cells as usize, u.scratch as usize);
     clear_ends(roots, members as usize, 0);
 }
@@ -131,22 +132,22 @@ fn refusal(
     ensures { λ r. ⌜ r ≡ refusal n nodes types lists roots diagnostics ⌝ }
 {
     if Parser::MAX_BYTES < n {
-        return 1;
+        return Refusal::TOO_LONG;
     }
-    if nodes < 16 * n {
-        return 2;
+    if nodes < Node::WIDTH * n {
+        return Refusal::TOO_SHORT;
     }
-    if types < 8 * n {
-        return 2;
+    if types < TypeExpr::WIDTH * n {
+        return Refusal::TOO_SHORT;
     }
     if lists < 8 * n {
-        return 2;
+        return Refusal::TOO_SHORT;
     }
     if roots < n {
-        return 2;
+        return Refusal::TOO_SHORT;
     }
-    if diagnostics < 5 * n {
-        return 2;
+    if diagnostics < DIAGNOSTIC_WIDTH * n {
+        return Refusal::TOO_SHORT;
     }
     0
 }
@@ -275,7 +276,7 @@ fn recover(
         return c;
     }
     let d = error(p);
-    if d.number == 10 {
+    if d.number == Diagnostic::TOO_DEEP {
         return c;
     }
     let listed = position(p);
@@ -338,7 +339,7 @@ fn parse_roots_collect(
 ) -> Gathering
     requires { ⌜ ZeroedArrays (now script) (now nodes) (now types) (now lists) (now roots)
         × (now diagnostics ≡ zeros (length (now diagnostics)))
-        × (5 * length (now script) ≤ length (now diagnostics)) ⌝ }
+        × (diagnosticWidth * length (now script) ≤ length (now diagnostics)) ⌝ }
     ensures { λ r.
         ⌜ CollectEnds (now (script .entry)) (now (nodes .exit)) (now (types .exit))
         (now (lists .exit)) (now (roots .exit)) (now (diagnostics .exit))
@@ -461,6 +462,6 @@ pub fn parse_collect(
         });
     }
     clear_left(nodes, types, lists, roots, get_used(&p), c.members);
-    clear_ends(diagnostics, 5 * c.diagnostics as usize, 0); // what was gathered before 10 goes too
+    clear_ends(diagnostics, DIAGNOSTIC_WIDTH * c.diagnostics as usize, 0); // what was gathered before 10 goes too
     Parsed::Error(error(&p))
 }

@@ -6,6 +6,7 @@
 use ast::NodeId;
 use ast::NodeKind;
 use ast::Run;
+use lex::Diagnostic;
 use lex::Token;
 use lex::Type;
 use parser_operators::CasesRead;
@@ -105,7 +106,7 @@ fn prefix(
         before after r ⌝ }
 {
     if levels == 0 {
-        fail_expecting(p, 10, 0);
+        fail_expecting(p, Diagnostic::TOO_DEEP, 0);
         return NodeId(0);
     }
     if begins_expr(p) {
@@ -417,7 +418,7 @@ fn expr(
         before after r ⌝ }
 {
     if levels == 0 {
-        fail_expecting(p, 10, 0);
+        fail_expecting(p, Diagnostic::TOO_DEEP, 0);
         return NodeId(0);
     }
     let x = operand(script, nodes, types, lists, p, levels - 1);
@@ -461,7 +462,7 @@ fn operand(
     if class == 6 {
         return unary(script, nodes, types, lists, p, levels);
     }
-    fail_expecting(p, 19, 0);
+    fail_expecting(p, Diagnostic::EXPECTED_EXPRESSION, 0);
     NodeId(0)
 }
 

@@ -1,8 +1,10 @@
 // The tables and tests of items and expressions, and the nodes with none below them.
+use ast::Node;
 use ast::NodeId;
 use ast::NodeKind;
 use ast::Run;
 use ast::TypeExprId;
+use lex::Diagnostic;
 use lex::Token;
 use lex::Type;
 use lex::is_prefix_sign;
@@ -145,7 +147,7 @@ pub fn begins_expr(p: &State) -> bool
 fn is_callable_target(nodes: &[u32], n: NodeId) -> bool
     ensures { λ r. ⌜ r ≡ callAt (now (nodes .entry)) n ⌝ }
 {
-    let at = 16 * n.0 as usize;
+    let at = Node::WIDTH * n.0 as usize;
     if nodes.len() <= at {
         return false;
     }
@@ -327,7 +329,7 @@ pub fn match_node(nodes: &mut [u32], p: &mut State, t: Token, cases: Run, d: Def
         stackUnchanged 0 0 0 before after) ⌝ }
 {
     if d.has == 0 {
-        fail_at(p, 18, t);
+        fail_at(p, Diagnostic::MATCH_WITHOUT_A_DEFAULT, t);
         return NodeId(0);
     }
     let token = d.token;

@@ -1,5 +1,6 @@
 // The parser's state, and the functions of parser.rs that take tokens, write records, lists and
 // docs, and fail.
+use ast::Node;
 use ast::NodeId;
 use ast::NodeKind;
 use ast::Run;
@@ -300,7 +301,7 @@ pub fn expect(script: &[u8], p: &mut State, wanted: u32)
     if kind(p) == wanted {
         advance(script, p);
     } else {
-        fail_expecting(p, 11, wanted);
+        fail_expecting(p, Diagnostic::EXPECTED_TOKEN, wanted);
     }
 }
 
@@ -313,7 +314,7 @@ pub fn expect_ident(script: &[u8], p: &mut State)
     if kind(p) == Type::IDENT {
         advance(script, p);
     } else {
-        fail_expecting(p, 12, 0);
+        fail_expecting(p, Diagnostic::EXPECTED_IDENTIFIER, 0);
     }
 }
 
@@ -371,7 +372,7 @@ fn put(dst: &mut [u32], at: usize, cells: &[u32])
 }
 
 // The record of a type.
-fn type_cells(t: TypeExpr) -> [u32; 8]
+fn type_cells(t: TypeExpr) -> [u32; TypeExpr::WIDTH]
     ensures { λ r. ⌜ r ≡ typeCells (lowType t) ⌝ }
 {
     match t {
@@ -423,11 +424,11 @@ pub fn push_type(types: &mut [u32], p: &mut State, t: TypeExpr) -> TypeExprId
     }
     let u = get_used(p);
     let n = u.types;
-    let at = 8 * n as usize;
+    let at = TypeExpr::WIDTH * n as usize;
     if 65536 <= n {
         return TypeExprId(0);
     }
-    if types.len() < at + 8 {
+    if types.len() < at + TypeExpr::WIDTH {
         return TypeExprId(0);
     }
     set_used(
@@ -471,7 +472,7 @@ pub enum WideNode {
     },
 }
 
-fn node_cells(n: WideNode) -> [u32; 16]
+fn node_cells(n: WideNode) -> [u32; Node::WIDTH]
     ensures { λ r. ⌜ r ≡ nodeCells (lowNode n) ⌝ }
 {
     match n {
@@ -562,7 +563,7 @@ fn has_room(len: usize, p: &State) -> bool
     if 65536 <= n {
         return false;
     }
-    if len < 16 * n as usize + 16 {
+    if len < Node::WIDTH * n as usize + Node::WIDTH {
         return false;
     }
     u.values < 4000000000
@@ -597,7 +598,7 @@ pub fn push_node(nodes: &mut [u32], p: &mut State, node: WideNode, more: u32) ->
         },
     );
     let cells = node_cells(node);
-    put(nodes, 16 * n as usize, &cells);
+    put(nodes, Node::WIDTH * n as usize, &cells);
     NodeId(n)
 }
 
@@ -667,7 +668,7 @@ fn push_record(
             scratch: u.scratch,
         },
     );
-    put_record(nodes, 16 * n as usize, kind, values, a, b, c, d, e, f);
+    put_record(nodes, Node::WIDTH * n as usize, kind, values, a, b, c, d, e, f);
     NodeId(n)
 }
 
@@ -1084,9 +1085,9 @@ pub fn require_no_docs(types: &[u32], p: &mut State)
     }
     if kind(p) == Type::EOF {
         let last = doc_at(types, types.len() - n);
-        fail_with(p, 13, 0, last);
+        fail_with(p, Diagnostic::DOCS_ATTACHED_TO_NOTHING, 0, last);
         return;
     }
     let first = doc_at(types, types.len() - 3);
-    fail_with(p, 14, 0, first);
+    fail_with(p, Diagnostic::DOCS_BEFORE_SOMETHING_ELSE, 0, first);
 }

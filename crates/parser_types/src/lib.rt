@@ -5,6 +5,7 @@ use ast::NodeKind;
 use ast::Run;
 use ast::TypeExpr;
 use ast::TypeExprId;
+use lex::Diagnostic;
 use lex::Token;
 use lex::Type;
 use parser_state::State;
@@ -77,7 +78,7 @@ fn foreign_type(script: &[u8], types: &mut [u32], p: &mut State) -> TypeExprId
         let after = code nodes (now (types .exit)) lists (parserOf (now (p .exit))) in
         ReadsType (now (script .entry)) foreignType before after r) ⌝ }
 {
-    open_angle(script, p, 20);
+    open_angle(script, p, Diagnostic::EMPTY_FOREIGN);
     let name = current(p);
     expect_ident(script, p);
     expect(script, p, Type::GREATER_THAN);
@@ -100,7 +101,7 @@ fn option_type(
         ReadsType (now (script .entry)) (optionType (deeper (now (script .entry)) levels))
         before after r) ⌝ }
 {
-    open_angle(script, p, 21);
+    open_angle(script, p, Diagnostic::EMPTY_OPTION);
     let id = parse_type(script, types, lists, p, levels);
     expect(script, p, Type::GREATER_THAN);
     push_type(types, p, TypeExpr::Option(id))
@@ -122,7 +123,7 @@ fn array_type(
         ReadsType (now (script .entry)) (arrayType (deeper (now (script .entry)) levels))
         before after r) ⌝ }
 {
-    open_angle(script, p, 22);
+    open_angle(script, p, Diagnostic::EMPTY_ARRAY);
     let id = parse_type(script, types, lists, p, levels);
     expect(script, p, Type::GREATER_THAN);
     push_type(types, p, TypeExpr::Array(id))
@@ -211,7 +212,7 @@ pub fn parse_type(
         before after r) ⌝ }
 {
     if levels == 0 {
-        fail_expecting(p, 10, 0);
+        fail_expecting(p, Diagnostic::TOO_DEEP, 0);
         return TypeExprId(0);
     }
     match kind(p) {
@@ -225,7 +226,7 @@ pub fn parse_type(
         Type::ARRAY => array_type(script, types, lists, p, levels - 1),
         Type::RECORD => record_type(script, types, lists, p, levels - 1),
         _ => {
-            fail_expecting(p, 23, 0);
+            fail_expecting(p, Diagnostic::BAD_TYPE, 0);
             TypeExprId(0)
         }
     }
@@ -332,7 +333,7 @@ fn import_path(script: &[u8], lists: &mut [u32], p: &mut State)
         advance(script, p);
         push_token(lists, p, t);
     } else {
-        fail_expecting(p, 15, 0);
+        fail_expecting(p, Diagnostic::IMPORT_PATH_NOT_A_STRING, 0);
     }
 }
 
@@ -439,7 +440,7 @@ fn extern_fn(script: &[u8], types: &mut [u32], lists: &mut [u32], p: &mut State,
         before after) ⌝ }
 {
     collect_docs(script, types, p);
-    reject_kind(p, Type::EXTERN, 17);
+    reject_kind(p, Type::EXTERN, Diagnostic::NESTED_EXTERN);
     let docs = take_docs(types, lists, p);
     expect(script, p, Type::FN);
     let name = current(p);
@@ -483,7 +484,7 @@ fn extern_name(script: &[u8], p: &mut State)
     if kind(p) == Type::S {
         advance(script, p);
     } else {
-        fail_expecting(p, 16, 0);
+        fail_expecting(p, Diagnostic::EXTERN_WITHOUT_A_STRING, 0);
     }
 }
 
