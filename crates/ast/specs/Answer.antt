@@ -3,7 +3,7 @@ use mathlib.Core.List.{List}
 use Prim.Native.Nat.{ℕ, zero, suc, _*_}
 use lib.Dec.{ltb}
 use lib.ListN.{length, take}
-use Rattle.ast.specs.Layout.{nodeWidth, typeWidth}
+use Rattle.ast.specs.Layout.{nodeWidth, typeWidth, cellsPerByte}
 use Rattle.lex.specs.Answer.{maxBytes, Answer, refused}
 use Rattle.lex.specs.Refusals.{rTooLong, rTooShort}
 use Rattle.ast.specs.declared.Counts.{Counts}
@@ -34,10 +34,6 @@ lent script nodes types lists roots counts =
       roots = roots;
       counts = counts;
     }
-
--- the list cells that are lent at least for each byte of the script
-abbrev pub cellsPerByte : ℕ
-cellsPerByte = 8
 
 -- 1: the script is too long; 2: an array has fewer cells than each byte of it needs; 0: neither
 unfoldable pub refusal : Lent → ℕ

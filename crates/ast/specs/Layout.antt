@@ -27,6 +27,10 @@ zeros n = replicate n 0
 abbrev pub padded : ℕ → List ℕ → List ℕ
 padded n xs = xs ++ zeros (n - length xs)
 
+-- the list cells that are lent at least for each byte of the script
+abbrev pub cellsPerByte : ℕ
+cellsPerByte = 8
+
 unfoldable pub tokenCells : Token → List ℕ
 tokenCells t = t .kind ∷ t .start ∷ t .len ∷ []
 

@@ -10,7 +10,7 @@ use Rattle.rules.specs.Tree.{Result, ok, err}
 use Rattle.rules.specs.Combinators.{Rule, pure, ifKind, ControlFlow, continue, break}
 use Rattle.rules.specs.Rules.{stageOne, maxLevels}
 use Rattle.rules.specs.Parse.{Gathered, merged, recover}
-use Rattle.ast.specs.Layout.{padded, diagnosticCells}
+use Rattle.ast.specs.Layout.{diagnosticWidth, padded, diagnosticCells}
 use Rattle.diagnostics.specs.Records.{diagnostics, holding}
 use Rattle.diagnostics.proofs.Order.{Ordered}
 use Rattle.parser_state.specs.Represents.{Failed, code, ahead, Represents}
@@ -54,12 +54,12 @@ pub record GatheredAre (script nodes types lists roots diagnostics : List ℕ) (
 -- and there is room for one error more
 pub record Room (script roots diagnostics : List ℕ) (g : Gathered) : Type 0 where
   pub rootsLong : length script ≤ length roots
-  pub diagnosticsLong : 5 * length script ≤ length diagnostics
+  pub diagnosticsLong : diagnosticWidth * length script ≤ length diagnostics
   pub fewErrors : length (g .errors) + 2 ≤ length (tokensOf (cut script))
 
 -- an error has ended the reading, and the arrays hold no more than what is counted
 abbrev pub Stopped : (nodes types lists roots diagnostics : List ℕ) → RootsCollected → Diagnostic → Type 0
-Stopped nodes types lists roots diagnostics c e = (c .parser .status ≡ Failed e) × LeftBehind nodes types lists roots (c .parser .used) (c .members) × ZeroBetween diagnostics (5 * c .diagnostics) 0
+Stopped nodes types lists roots diagnostics c e = (c .parser .status ≡ Failed e) × LeftBehind nodes types lists roots (c .parser .used) (c .members) × ZeroBetween diagnostics (diagnosticWidth * c .diagnostics) 0
 
 -- how a turn of the loop over roots ends
 abbrev pub TurnEnds : (script nodes types lists roots diagnostics : List ℕ) → RootsCollected → Result (ControlFlow Gathered) → Type 0

@@ -6,6 +6,7 @@ use Prim.Native.Nat.{ℕ, _+_, _*_, _-_, _≤_}
 use lib.Dec.{eqb, ltb}
 use lib.ListN.{length, take, drop, set}
 use Rattle.lex.specs.Bytes.{or}
+use Rattle.lex.specs.Refusals.{rTooLong, rTooShort}
 use Rattle.lex.specs.Kind.{kEof, kImport, kExtern, kLet, kFn, kMatch, kCurlyRight}
 use Rattle.lex.specs.declared.diagnostic.Diagnostic.{Diagnostic}
 use Rattle.lex.specs.declared.tok.Next.{Next}
@@ -13,7 +14,7 @@ use Rattle.rules.specs.Tree.{State, Result, ok, err}
 use Rattle.rules.specs.Combinators.{Rule, _>>=_, pure, ifKind, withDocs, ControlFlow, continue, break, loop}
 use Rattle.rules.specs.Rules.{maxLevels}
 use Rattle.rules.specs.Parse.{synchronizeStep}
-use Rattle.ast.specs.Layout.{nodeWidth, typeWidth, zeros, padded, nodeCells, typeCells}
+use Rattle.ast.specs.Layout.{nodeWidth, typeWidth, diagnosticWidth, cellsPerByte, zeros, padded, nodeCells, typeCells}
 use Rattle.lex.specs.Answer.{maxBytes}
 use Rattle.parser_state.specs.Represents.{lowToken, Going, Failed, Code, ahead, isGoing, EnoughLent, Represents, FailedAt}
 use Rattle.parser_state.specs.Refines.{deeper}
@@ -24,8 +25,8 @@ use Rattle.parser_state.specs.declared.Used.{Used}
 unfoldable pub refusal : ℕ → ℕ → ℕ → ℕ → ℕ → ℕ → ℕ
 refusal n nodes types lists roots diagnostics =
     elim (ltb maxBytes n) [
-      | true ↦ 1
-      | false ↦ elim (or (ltb nodes (nodeWidth * n)) (or (ltb types (typeWidth * n)) (or (ltb lists (8 * n)) (or (ltb roots n) (ltb diagnostics (5 * n)))))) [ true ↦ 2 | false ↦ 0 ]
+      | true ↦ rTooLong
+      | false ↦ elim (or (ltb nodes (nodeWidth * n)) (or (ltb types (typeWidth * n)) (or (ltb lists (cellsPerByte * n)) (or (ltb roots n) (ltb diagnostics (diagnosticWidth * n)))))) [ true ↦ rTooShort | false ↦ 0 ]
     ]
 
 -- enough is lent, and it is all zeros
@@ -70,7 +71,7 @@ RootsAre script array n s xs = (array ≡ xs ++ zeros (length array - n)) × (le
 -- one more root is pushed: the reading has not failed, and there is a cell behind the `n` that are
 -- there
 unfoldable pub hasCell : Parser → ℕ → List ℕ → Bool
-hasCell p n roots = isGoing (p .status) && (ltb n (length roots) && ltb n 65536)
+hasCell p n roots = isGoing (p .status) && (ltb n (length roots) && ltb n maxBytes)
 
 -- the array and the count, by whether it is
 pub record RootPushed (p : Parser) (roots : List ℕ) (n id : ℕ) (roots′ : List ℕ) (n′ : ℕ) : Type 0 where
@@ -96,7 +97,7 @@ pub record Holds (nodes types lists roots : List ℕ) (r : RootsRead) (xs : List
 
 -- the arrays of a tree where a reading has failed
 abbrev pub LeftBehind : List ℕ → List ℕ → List ℕ → List ℕ → Used → ℕ → Type 0
-LeftBehind nodes types lists roots u members = ZeroBetween nodes (16 * u .nodes) 0 × ZeroBetween types (8 * u .types) (3 * u .docs) × ZeroBetween lists (u .cells) (u .scratch) × ZeroBetween roots members 0
+LeftBehind nodes types lists roots u members = ZeroBetween nodes (nodeWidth * u .nodes) 0 × ZeroBetween types (typeWidth * u .types) (3 * u .docs) × ZeroBetween lists (u .cells) (u .scratch) × ZeroBetween roots members 0
 
 -- by how the rule ends
 abbrev pub RootsEnd : List ℕ → List ℕ → List ℕ → List ℕ → RootsRead → Result (List ℕ) → Type 0

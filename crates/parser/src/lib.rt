@@ -4,11 +4,16 @@ mod recovery;
 use crate::recovery::resume;
 use crate::recovery::synchronize_root;
 use ast::Counts;
+use ast::DIAGNOSTIC_WIDTH;
+use ast::Node;
 use ast::NodeId;
 use ast::Parsed;
+use ast::TypeExpr;
+use ast::lent::CELLS_PER_BYTE;
 use diagnostics::push_diagnostic;
 use diagnostics::push_faults;
 use lex::Diagnostic;
+use lex::Refusal;
 use lex::Type;
 use lex::next_token;
 use parser_items::member;
@@ -31,7 +36,7 @@ ghost use Rattle.lex.specs.Kind.{kEof};
 ghost use Rattle.lex.specs.Lex.{nextAt};
 ghost use Rattle.lex.specs.declared.diagnostic.Diagnostic.{Diagnostic};
 ghost use Rattle.rules.specs.Tree.{State};
-ghost use Rattle.ast.specs.Layout.{zeros};
+ghost use Rattle.ast.specs.Layout.{nodeWidth, typeWidth, diagnosticWidth, zeros};
 ghost use Rattle.rules.specs.Rules.{stageOne};
 ghost use Rattle.rules.specs.Parse.{Gathered, begin, parseRoots, parse, recover as recoverRule, parseRootsCollect, parseCollect};
 ghost use Rattle.rules.specs.Promise.{arraysOf, promised};
@@ -100,7 +105,11 @@ fn clear_left(
         → now (roots .exit) ≡ zeros (length (now (roots .entry)))) ⌝ }
 {
     clear_ends(nodes, Node::WIDTH * u.nodes as usize, 0);
-    clear_ends(types, TypeExpr::WIDTH * u.types as usize, 3 * u.docs as usize);
+    clear_ends(
+        types,
+        TypeExpr::WIDTH * u.types as usize,
+        3 * u.docs as usize,
+    );
     clear_ends(lists, u.cells as usize, u.scratch as usize);
     clear_ends(roots, members as usize, 0);
 }
@@ -140,7 +149,7 @@ fn refusal(
     if types < TypeExpr::WIDTH * n {
         return Refusal::TOO_SHORT;
     }
-    if lists < 8 * n {
+    if lists < CELLS_PER_BYTE * n {
         return Refusal::TOO_SHORT;
     }
     if roots < n {
@@ -167,7 +176,7 @@ fn push_root(roots: &mut [u32], p: &State, n: u32, id: NodeId) -> u32
     if roots.len() <= at {
         return n;
     }
-    if 65536 <= n {
+    if Parser::MAX_RECORDS <= n {
         return n;
     }
     roots[at] = id.0;
@@ -188,7 +197,7 @@ fn drop_docs(types: &mut [u32], p: &mut State)
     }
     let u = get_used(p);
     let docs = u.docs;
-    if 65536 < docs {
+    if Parser::MAX_RECORDS < docs {
         return;
     }
     let n = 3 * docs as usize;

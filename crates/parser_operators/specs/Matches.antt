@@ -5,6 +5,7 @@ use mathlib.Core.Option.{Option, none, some}
 use mathlib.Core.List.{List, [], _∷_, _++_, flatten}
 use Prim.Native.Nat.{ℕ}
 use lib.Dec.{eqb}
+use Rattle.lex.specs.Errors.{eMatchWithoutADefault}
 use Rattle.lex.specs.Kind.{kCurlyRight}
 use Rattle.lex.specs.declared.tok.Token.{Token}
 use Rattle.rules.specs.Tree.{err}
@@ -39,7 +40,7 @@ caseCells deeper = do
 -- the node of a match, `t` being the token after `match`
 unfoldable pub matchNode : Token → Option (Token × Run) → Run → Rule NodeId
 matchNode t default cases = elim default [
-  | none ↦ (λ s. err (atToken 18 0 t) s)
+  | none ↦ (λ s. err (atToken eMatchWithoutADefault 0 t) s)
   | some d ↦ pushNode (λ id. N.Match id cases (d .0) (d .1))
 ]
 

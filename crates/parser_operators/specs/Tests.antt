@@ -6,7 +6,9 @@ use mathlib.Core.List.{List, [], _∷_}
 use Prim.Native.Nat.{ℕ, _*_}
 use lib.Dec.{eqb, ltb}
 use lib.ListN.{getD}
+use Rattle.lex.specs.Errors.{eExpectedExpression}
 use Rattle.lex.specs.Kind.{kPlus, kMinus, kAsteriks, kSlash, kPercent, kDoubleEqual, kLessThan, kGreaterThan, kDot, kBraceLeft, kBraketLeft, kCurlyLeft, kS, kD, kI, kIdent, kDoc, kMatch, kAs, kTrue, kFalse}
+use Rattle.ast.specs.Layout.{nodeWidth}
 use Rattle.rules.specs.Combinators.{Rule, Readers, choose, fail}
 use Rattle.rules.specs.Rules.{stageOne, breaksOff, recordLiteral, arrayLiteral, atom, ident, group, unary}
 use Rattle.ast.specs.declared.NodeId.{NodeId}
@@ -22,7 +24,7 @@ unfoldable pub operandClass : ℕ → ℕ
 operandClass = choose operandClasses 0
 
 unfoldable pub operandOf : Readers → ℕ → Rule NodeId
-operandOf d = choose ((1, recordLiteral d) ∷ (2, arrayLiteral d) ∷ (3, atom) ∷ (4, ident) ∷ (5, group d) ∷ (6, unary d) ∷ []) (fail 19)
+operandOf d = choose ((1, recordLiteral d) ∷ (2, arrayLiteral d) ∷ (3, atom) ∷ (4, ident) ∷ (5, group d) ∷ (6, unary d) ∷ []) (fail eExpectedExpression)
 
 -- ---- binding powers
 
@@ -51,7 +53,7 @@ beginsExpr p = eqb (p .used .docs) 0 && (ltb (p .cur .kind) kDoc || ltb kMatch (
 
 -- the tag of a node is an Ident's or a Field's
 abbrev pub callAt : List ℕ → NodeId → Bool
-callAt nodes n = elim (eqb (getD nodes (16 * n .0) 0) 2) [ true ↦ true | false ↦ eqb (getD nodes (16 * n .0) 0) 9 ]
+callAt nodes n = elim (eqb (getD nodes (nodeWidth * n .0) 0) 2) [ true ↦ true | false ↦ eqb (getD nodes (nodeWidth * n .0) 0) 9 ]
 
 -- a postfix goes on
 unfoldable pub postfixBy : Bool → Bool → Bool → Bool → Bool

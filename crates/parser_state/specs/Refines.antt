@@ -5,7 +5,9 @@ use mathlib.Core.List.{List, _++_, flatten}
 use Prim.Native.Nat.{ℕ, _+_, _*_, _≤_}
 use lib.Dec.{eqb, leb, ltb}
 use lib.ListN.{length, getD}
+use Rattle.lex.specs.Answer.{maxBytes}
 use Rattle.lex.specs.Kind.{kEof, kDoc}
+use Rattle.ast.specs.Layout.{nodeWidth}
 use Rattle.lex.specs.declared.diagnostic.Diagnostic.{Diagnostic}
 use Rattle.lex.specs.declared.tok.Token.{Token}
 use Rattle.rules.specs.Tree.{State, Result, ok, err}
@@ -107,9 +109,13 @@ failed p e = withStatus p (Failed e)
 abbrev pub docAt : List ℕ → ℕ → Token
 docAt types at = record { kind = getD types (at + 2) 0; start = getD types (at + 1) 0; len = getD types at 0 }
 
+-- a record has 40,000 value numbers (`Credit`), so that none reaches this
+abbrev pub maxValues : ℕ
+maxValues = 4000000000
+
 -- a node of a parser that has not failed has room in so many cells, and its value numbers fit
 unfoldable pub hasRoom : ℕ → Parser → Bool
-hasRoom len p = isGoing (p .status) && (ltb (p .used .nodes) 65536 && (leb (16 * p .used .nodes + 16) len && ltb (p .used .values) 4000000000))
+hasRoom len p = isGoing (p .status) && (ltb (p .used .nodes) maxBytes && (leb (nodeWidth * p .used .nodes + nodeWidth) len && ltb (p .used .values) maxValues))
 
 -- a loop over members goes on
 abbrev pub followsBy : Bool → Bool → Bool → Bool

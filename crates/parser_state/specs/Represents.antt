@@ -12,7 +12,7 @@ use Rattle.lex.specs.declared.diagnostic.Diagnostic.{Diagnostic}
 use Rattle.lex.specs.declared.tok.Next.{Next}
 use Rattle.lex.specs.declared.tok.Token.{Token}
 use Rattle.rules.specs.Tree.{State}
-use Rattle.ast.specs.Layout.{tokenCells, nodeCells, typeCells, zeros}
+use Rattle.ast.specs.Layout.{nodeWidth, typeWidth, cellsPerByte, tokenCells, nodeCells, typeCells, zeros}
 use Rattle.lex.specs.Answer.{maxBytes}
 use Rattle.ast.specs.declared.Node.{Node}
 use Rattle.ast.specs.declared.Node.the-variants as N
@@ -118,12 +118,12 @@ AllLow (d ∷ ds) = (lowToken d ≡ d) × AllLow ds
 -- grows downward, the last cell first: behind the types the pending docs, behind the lists the
 -- cells of those under construction.
 pub record NodesLaid (nodes : List ℕ) (count values : ℕ) (arena : List Node) (given : ℕ) : Type 0 where
-  pub laid : nodes ≡ flatten (map nodeCells arena) ++ (zeros (length nodes - 16 * count) ++ [])
+  pub laid : nodes ≡ flatten (map nodeCells arena) ++ (zeros (length nodes - nodeWidth * count) ++ [])
   pub counted : count ≡ length arena
   pub valued : values ≡ given
 
 pub record TypesLaid (types : List ℕ) (count docCount : ℕ) (arena : List TypeExpr) (docs : List Token) : Type 0 where
-  pub laid : types ≡ flatten (map typeCells arena) ++ (zeros (length types - (8 * count + 3 * docCount)) ++ reverse (docCells docs))
+  pub laid : types ≡ flatten (map typeCells arena) ++ (zeros (length types - (typeWidth * count + 3 * docCount)) ++ reverse (docCells docs))
   pub counted : count ≡ length arena
   pub docCounted : docCount ≡ length docs
   pub allLow : AllLow docs
@@ -140,14 +140,14 @@ pub record ListsLaid (lists : List ℕ) (count scratch : ℕ) (cells stack : Lis
 pub record Credit (n : ℕ) (u : Used) (left r l : ℕ) : Type 0 where
   pub records : u .nodes + u .types + u .docs + left + r ≤ n + 1
   pub numbers : u .values + 40000 * (u .types + u .docs + left + r) ≤ 40000 * (n + 1)
-  pub room : u .cells + 2 * u .scratch + 3 * u .docs + 8 * left + l ≤ 8 * n + 8
+  pub room : u .cells + 2 * u .scratch + 3 * u .docs + cellsPerByte * left + l ≤ cellsPerByte * n + cellsPerByte
 
 -- enough is lent
 pub record EnoughLent (script ns ts ls : List ℕ) : Type 0 where
   pub small : length script ≤ maxBytes
-  pub nodes : 16 * length script ≤ length ns
-  pub types : 8 * length script ≤ length ts
-  pub lists : 8 * length script ≤ length ls
+  pub nodes : nodeWidth * length script ≤ length ns
+  pub types : typeWidth * length script ≤ length ts
+  pub lists : cellsPerByte * length script ≤ length ls
 
 -- the arrays and the tokens that are left are those of a state
 pub record Related (script : List ℕ) (s : Code) (r l : ℕ) (stack : List ℕ) (m : State) : Type 0 where

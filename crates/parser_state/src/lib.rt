@@ -7,6 +7,7 @@ use ast::Run;
 use ast::TypeExpr;
 use ast::TypeExprId;
 use ast::TypeExprKind;
+use ast::lent::CELLS_PER_BYTE;
 use lex::Diagnostic;
 use lex::Next;
 use lex::Token;
@@ -18,6 +19,7 @@ ghost use mathlib.Core.List.{List, [], _∷_, _++_, reverse};
 ghost use Prim.Native.Nat.{ℕ, _+_, _*_, _-_, _≤_, _<_};
 ghost use lib.ListN.{length, replicate};
 ghost use lib.Seq.{paste};
+ghost use Rattle.lex.specs.Answer.{maxBytes};
 ghost use Rattle.ast.specs.Layout.{nodeWidth, padded, nodeCells, typeCells, tokenCells};
 ghost use Rattle.rules.specs.Combinators.{continue, atToken, advance, expect, expectIdent, rejectKind, pushNode, pushNodeAnd, pushType, allocSlice, keepDoc, collectDocs, takeDocs};
 ghost use Rattle.ast.specs.declared.Node.{Node};
@@ -59,6 +61,13 @@ impl Parser {
     pub const MAX_BYTES: usize = lex::MAX_BYTES;
 
     pub const MAX_LEVELS: usize = 128;
+
+    // No array gets more records than the script has bytes, and no list more members.
+    pub const MAX_RECORDS: u32 = Parser::MAX_BYTES as u32;
+
+    pub const MAX_CELLS: u32 = 8 * Parser::MAX_RECORDS;
+
+    pub const MAX_VALUES: u32 = 4000000000;
 
     pub const CELLS: usize = 17;
 }
@@ -425,7 +434,7 @@ pub fn push_type(types: &mut [u32], p: &mut State, t: TypeExpr) -> TypeExprId
     let u = get_used(p);
     let n = u.types;
     let at = TypeExpr::WIDTH * n as usize;
-    if 65536 <= n {
+    if Parser::MAX_RECORDS <= n {
         return TypeExprId(0);
     }
     if types.len() < at + TypeExpr::WIDTH {
@@ -560,18 +569,18 @@ fn has_room(len: usize, p: &State) -> bool
     }
     let u = get_used(p);
     let n = u.nodes;
-    if 65536 <= n {
+    if Parser::MAX_RECORDS <= n {
         return false;
     }
     if len < Node::WIDTH * n as usize + Node::WIDTH {
         return false;
     }
-    u.values < 4000000000
+    u.values < Parser::MAX_VALUES
 }
 
 // `more` value numbers go with the node that no node has.
 pub fn push_node(nodes: &mut [u32], p: &mut State, node: WideNode, more: u32) -> NodeId
-    requires { ⌜ more ≤ 65536 ⌝ }
+    requires { ⌜ more ≤ maxBytes ⌝ }
     ensures { λ r. ⌜ ((script types lists : List ℕ) (f : ℕ → Node) (rooms : ℕ) →
         let before = code (now (nodes .entry)) types lists (parserOf (now (p .entry))) in
         let after = code (now (nodes .exit)) types lists (parserOf (now (p .exit))) in
@@ -668,7 +677,18 @@ fn push_record(
             scratch: u.scratch,
         },
     );
-    put_record(nodes, Node::WIDTH * n as usize, kind, values, a, b, c, d, e, f);
+    put_record(
+        nodes,
+        Node::WIDTH * n as usize,
+        kind,
+        values,
+        a,
+        b,
+        c,
+        d,
+        e,
+        f,
+    );
     NodeId(n)
 }
 
@@ -782,7 +802,7 @@ pub fn push_cells(lists: &mut [u32], p: &mut State, cells: &[u32])
     }
     let u = get_used(p);
     let n = u.scratch as usize + cells.len();
-    if 65536 * 8 < n {
+    if CELLS_PER_BYTE * Parser::MAX_BYTES < n {
         return;
     }
     if lists.len() < n {
@@ -865,13 +885,13 @@ pub fn alloc_slice(lists: &mut [u32], p: &mut State, mark: u32, members: u32) ->
         let before = code nodes types (now (lists .entry)) (parserOf (now (p .entry))) in
         let after = code nodes types (now (lists .exit)) (parserOf (now (p .exit))) in
         Lists script allocSlice r 0 0 0 mark members before after)
-        × (r .len ≤ 65536) ⌝ }
+        × (r .len ≤ maxBytes) ⌝ }
 {
     let none = Run { start: 0, len: 0 };
     if !going(p) {
         return none;
     }
-    if 65536 < members {
+    if Parser::MAX_RECORDS < members {
         return none;
     }
     let u = get_used(p);
@@ -884,10 +904,10 @@ pub fn alloc_slice(lists: &mut [u32], p: &mut State, mark: u32, members: u32) ->
     if lists.len() < at + n as usize + u.scratch as usize {
         return none;
     }
-    if 65536 * 8 < n {
+    if Parser::MAX_CELLS < n {
         return none;
     }
-    if 65536 * 8 < cells {
+    if Parser::MAX_CELLS < cells {
         return none;
     }
     set_used(
@@ -922,7 +942,7 @@ pub fn close(
         let before = code nodes types (now (lists .entry)) (parserOf (now (p .entry))) in
         let after = code nodes types (now (lists .exit)) (parserOf (now (p .exit))) in
         Lists (now (script .entry)) (closed stop) r 1 1 8 mark members before after)
-        × (r .len ≤ 65536) ⌝ }
+        × (r .len ≤ maxBytes) ⌝ }
 {
     expect(script, p, stop);
     alloc_slice(lists, p, mark, members)
@@ -943,7 +963,7 @@ fn push_doc(types: &mut [u32], p: &mut State, d: Token)
     }
     let u = get_used(p);
     let n = u.docs;
-    if 65536 <= n {
+    if Parser::MAX_RECORDS <= n {
         return;
     }
     if types.len() < 3 * n as usize + 3 {
@@ -1018,10 +1038,10 @@ pub fn take_docs(types: &mut [u32], lists: &mut [u32], p: &mut State) -> Run
     let docs = u.docs;
     let cells = u.cells;
     let at = cells as usize;
-    if 65536 < docs {
+    if Parser::MAX_RECORDS < docs {
         return none;
     }
-    if 65536 * 8 < cells {
+    if Parser::MAX_CELLS < cells {
         return none;
     }
     let n = 3 * docs as usize;
@@ -1076,7 +1096,7 @@ pub fn require_no_docs(types: &[u32], p: &mut State)
     if docs == 0 {
         return;
     }
-    if 65536 < docs {
+    if Parser::MAX_RECORDS < docs {
         return;
     }
     let n = 3 * docs as usize;

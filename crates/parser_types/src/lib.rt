@@ -33,6 +33,7 @@ use parser_state::take_docs;
 ghost use mathlib.Core.Path.{_≡_};
 ghost use mathlib.Core.List.{List, [], _∷_, _++_};
 ghost use Prim.Native.Nat.{ℕ, _+_, _≤_, _<_};
+ghost use Rattle.lex.specs.Answer.{maxBytes};
 ghost use Rattle.lex.specs.Kind.{kCurlyRight};
 ghost use Rattle.rules.specs.Combinators.{listUntil};
 ghost use Rattle.ast.specs.Layout.{tokenCells, runCells};
@@ -161,7 +162,7 @@ fn typed_names(
         let after = code nodes (now (types .exit)) (now (lists .exit)) (parserOf (now (p .exit))) in
         ReadsList (now (script .entry))
         (listUntil stop (typedName (deeper (now (script .entry)) levels))) before after r)
-        × (r .len ≤ 65536) ⌝ }
+        × (r .len ≤ maxBytes) ⌝ }
 {
     let mark = get_used(p).scratch;
     let mut members: u32 = 0;
@@ -313,7 +314,7 @@ pub fn parse_args(
         let after = code nodes (now (types .exit)) (now (lists .exit)) (parserOf (now (p .exit))) in
         ReadsList (now (script .entry)) (parseArgs (deeper (now (script .entry)) levels))
         before after r)
-        × (r .len ≤ 65536) ⌝ }
+        × (r .len ≤ maxBytes) ⌝ }
 {
     expect(script, p, Type::BRACE_LEFT);
     typed_names(script, types, lists, p, Type::BRACE_RIGHT, levels)

@@ -9,7 +9,7 @@ use Rattle.lex.specs.Bytes.{or}
 use Rattle.lex.specs.declared.diagnostic.Diagnostic.{Diagnostic}
 use Rattle.rules.specs.Tree.{Tree}
 use Rattle.rules.specs.Parse.{Reading, read, ended}
-use Rattle.ast.specs.Layout.{nodeWidth, typeWidth, diagnosticWidth, zeros, padded}
+use Rattle.ast.specs.Layout.{nodeWidth, typeWidth, diagnosticWidth, cellsPerByte, zeros, padded}
 use Rattle.ast.specs.Layout.{nodeCells, typeCells, diagnosticCells}
 use Rattle.lex.specs.Refusals.{rTooLong, rTooShort}
 use Rattle.ast.specs.declared.Counts.{Counts}
@@ -30,7 +30,7 @@ tooShort script l =
     let n = length script in
     or (ltb (length (l .nodes)) (nodeWidth * n))
     (or (ltb (length (l .types)) (typeWidth * n))
-    (or (ltb (length (l .lists)) (8 * n))
+    (or (ltb (length (l .lists)) (cellsPerByte * n))
     (or (ltb (length (l .roots)) n)
     (ltb (length (l .diagnostics)) (diagnosticWidth * n)))))
 

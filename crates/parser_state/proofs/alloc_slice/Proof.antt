@@ -67,9 +67,7 @@ alloc-slice-spec =
     (λ c. search needs)
     (λ c. search needs)
     returns-4
-    (λ c. search needs)
     returns-5
-    (λ c. search needs)
     returns-6
     (λ c. search needs)
     (λ c κs. search needs)

@@ -55,7 +55,6 @@ take-docs-spec =
     (λ c κs. search needs)
     (λ c. search needs)
     returns-2
-    (λ c. search needs)
     returns-3
     (λ c. search needs)
     (λ c. search needs)
