@@ -1,0 +1,2 @@
+-- The tables of tokens and lexer errors.
+pub mod Table
