@@ -1,6 +1,7 @@
 -- A run of code from `s` to `s′` does what a rule does.
 use mathlib.Core.Path.{_≡_}
 use mathlib.Core.Bool.{Bool, true, false, not, _&&_}
+use mathlib.Core.Option.{Option}
 use mathlib.Core.List.{List, _++_, flatten}
 use Prim.Native.Nat.{ℕ, _+_, _*_, _%_, _≤_}
 use lib.Dec.{eqb, leb, ltb}
@@ -13,13 +14,26 @@ use Rattle.rules.specs.Tree.{State, Result, ok, err}
 use Rattle.tokens.specs.Table.{tokenOf}
 use Rattle.tokens.specs.declared.Entry.{Entry}
 use Rattle.rules.specs.Layout.{nodeWidth}
-use Rattle.rules.specs.Combinators.{Rule, _>>_, current, atToken, expect, allocSlice, pure, ControlFlow, continue}
-use Rattle.rules.specs.Rules.{requireNoDocs}
+use Rattle.rules.specs.Combinators.{Rule, Readers, _>>_, current, atToken, expect, allocSlice, pure, ControlFlow, continue}
+use Rattle.rules.specs.Rules.{readers, stageOne, requireNoDocs}
 use Rattle.rules.specs.declared.Run.{Run}
 use Rattle.rules.specs.declared.NodeId.{NodeId}
 use Rattle.rules.specs.declared.TypeExprId.{TypeExprId}
 use Rattle.parser_state.specs.Represents.{Failed, withStatus, Code, code, going, ahead, Represents, FailedAt, isGoing}
 use Rattle.parser_state.specs.declared.Parser.{Parser}
+
+-- a set of rules: the powers of the signs, and the script whose signs they are
+pub record Rules : Type 0 where
+  pub power : ℕ → Option ℕ
+  pub script : List ℕ
+
+-- those of stage one
+abbrev pub rulesOf : List ℕ → Rules
+rulesOf script = record { power = stageOne; script = script }
+
+-- the readers with so many levels left
+abbrev pub deeper : Rules → ℕ → Readers
+deeper rules levels = readers (rules .power) (rules .script) levels
 
 -- how a rule ends, and the code with it: the rule's value has the property Q, and `grow` of it is
 -- what is under construction
