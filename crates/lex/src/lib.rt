@@ -30,6 +30,7 @@ pub use tok::Type;
 pub use tok::as_str_len;
 pub use tok::same_bytes;
 pub use tok::spelling;
+pub use tok::spelling_offset;
 pub use tok::well_formed;
 pub use utf8::is_utf8;
 ghost use mathlib.Core.Path.{_≡_};

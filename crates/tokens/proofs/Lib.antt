@@ -1,0 +1,7 @@
+-- Laws of the token and error tables.
+pub mod Arrays
+pub mod Progress
+pub mod Promised
+pub mod Same
+pub mod Whole
+pub mod Examples
