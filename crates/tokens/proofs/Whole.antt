@@ -46,15 +46,31 @@ facts true s w e = false-true e
 facts false true w e = false-true e
 facts false false w e = (refl, refl, e)
 
--- cutting leaves such arrays as they are
-pub is-cut-left : (script ts es : List ℕ) → isCut script ts es ≡ true → promised script ts es ≡ record { answer = C.Done (countsOf script); tokens = ts; errors = es }
-unfolding isCut tabled
-is-cut-left script ts es e =
+-- what is known of arrays that are cut
+pub record IsCut (script ts es : List ℕ) : Type 0 where
+  pub short : length script ≤ maxBytes
+  pub fits : tooShort script ts es ≡ false
+  pub tokens : ts ≡ padded (length ts) (tokenTable script)
+  pub errors : es ≡ padded (length es) (errorTable script)
+
+pub is-cut-tables : (script ts es : List ℕ) → isCut script ts es ≡ true → IsCut script ts es
+unfolding isCut
+is-cut-tables script ts es e =
     let f = facts (ltb maxBytes (length script)) (tooShort script ts es) _ e in
     let b = both _ _ (f .2) in
-    let t = same-eq ts (padded (length ts) (tokenTable script)) (b .0) in
-    let x = same-eq es (padded (length es) (errorTable script)) (b .1) in
-    taken script ts es (ltb-false maxBytes (length script) (f .0)) (f .1) ∙ (λ i. record { answer = C.Done (countsOf script); tokens = sym t i; errors = sym x i })
+    record {
+      short = ltb-false maxBytes (length script) (f .0);
+      fits = f .1;
+      tokens = same-eq ts (padded (length ts) (tokenTable script)) (b .0);
+      errors = same-eq es (padded (length es) (errorTable script)) (b .1);
+    }
+
+-- cutting leaves such arrays as they are
+pub is-cut-left : (script ts es : List ℕ) → isCut script ts es ≡ true → promised script ts es ≡ record { answer = C.Done (countsOf script); tokens = ts; errors = es }
+unfolding tabled
+is-cut-left script ts es e =
+    let c = is-cut-tables script ts es e in
+    taken script ts es (c .short) (c .fits) ∙ (λ i. record { answer = C.Done (countsOf script); tokens = sym (c .tokens) i; errors = sym (c .errors) i })
 
 -- ---- what was just cut is cut
 

@@ -48,6 +48,9 @@ pub record InRange (script : List ℕ) (t : Token) : Type 0 where
 
 -- ---- errors
 
+abbrev pub noError : Occurrence
+noError = record { after = 0; diagnostic = record { number = 0; start = 0; len = 0; wanted = 0; seen = 0 } }
+
 -- the error of record `i` and how many tokens are cut before it; past the last whole record zeros
 unfoldable pub errorAt : List ℕ → ℕ → Occurrence
 errorAt table i =
@@ -62,7 +65,7 @@ errorAt table i =
           seen = getD table (errorWidth * i + 4) 0;
         };
       }
-      | false ↦ record { after = 0; diagnostic = record { number = 0; start = 0; len = 0; wanted = 0; seen = 0 } }
+      | false ↦ noError
     ]
 
 -- the errors from record `i` on, up to the first whose number is 0, at most so many
