@@ -128,15 +128,15 @@ type-made tokens nodes types types′ lists cells p t g w e = record {
           related = record {
             left = h .related .left;
             here = h .related .here;
-            inRange = h .related .inRange;
-            taken = h .related .taken;
+            near = h .related .near;
+            taken = h .related .taken; few = h .related .few;
             nodes = h .related .nodes;
             types = record {
               between = drop (length cells) (laid .between);
               laid = more .new;
               counted = omega (arith, laid .counted, length-append (m .arena .types) (t ∷ []));
               docCounted = laid .docCounted;
-              inRange = laid .inRange;
+              near = laid .near;
             };
             lists = h .related .lists;
             bytes = h .related .bytes;
@@ -210,8 +210,8 @@ node-made tokens nodes nodes′ types lists cells p f more rooms few g w e = rec
           related = record {
             left = h .related .left;
             here = h .related .here;
-            inRange = h .related .inRange;
-            taken = h .related .taken;
+            near = h .related .near;
+            taken = h .related .taken; few = h .related .few;
             nodes = record {
               between = drop (length cells) (laid .between);
               laid = more′ .new;
@@ -298,8 +298,8 @@ cells-pushed tokens nodes types lists lists′ vs p g e = record {
           related = record {
             left = h .related .left;
             here = h .related .here;
-            inRange = h .related .inRange;
-            taken = h .related .taken;
+            near = h .related .near;
+            taken = h .related .taken; few = h .related .few;
             nodes = h .related .nodes;
             types = h .related .types;
             lists = record {
@@ -376,8 +376,8 @@ list-made tokens nodes types lists lists′ p mark members g e = record {
           related = record {
             left = h .related .left;
             here = h .related .here;
-            inRange = h .related .inRange;
-            taken = h .related .taken;
+            near = h .related .near;
+            taken = h .related .taken; few = h .related .few;
             nodes = h .related .nodes;
             types = h .related .types;
             lists = record {

@@ -15,7 +15,7 @@ use Rattle.rules.specs.Tree.{State, Result, ok, err}
 use Rattle.rules.specs.Combinators.{Rule, _>>_, current, pure, ifKind, atToken, keepDoc, withDocs, withArena, tokenCells, takeDocs, allocSlice, continue}
 use Rattle.rules.specs.Rules.{lastOf, requireNoDocs}
 use Rattle.rules.specs.Layout.{typeCells}
-use Rattle.parser_state.specs.Represents.{Code, code, withUsed, isGoing, docCells, InRange, AllInRange, Represents}
+use Rattle.parser_state.specs.Represents.{Code, code, withUsed, isGoing, docCells, Near, AllNear, Represents}
 use Rattle.parser_state.specs.Refines.{Ends, stackUnchanged, Refines, noDocsWait, failed, atEntry, docAt}
 use Rattle.parser_state.specs.declared.Parser.{Parser}
 use Rattle.parser_state.specs.declared.Used.{Used}
@@ -40,9 +40,9 @@ docs-last ds d = ap reverse (docs-snoc ds d) ∙ reverse-append (docCells ds) (t
 abbrev pub docKept : Used → Used
 docKept u = record { nodes = u .nodes; values = u .values; types = u .types; docs = u .docs + 1; cells = u .cells; scratch = u .scratch }
 
-in-range-snoc : (ds : List Token) (d : Token) → AllInRange ds → InRange d → AllInRange (ds ++ (d ∷ []))
-in-range-snoc [] d h e = (e, tt)
-in-range-snoc (x ∷ ds) d h e = (h .0, in-range-snoc ds d (h .1) e)
+near-snoc : (ds : List Token) (d : Token) → AllNear ds → Near d → AllNear (ds ++ (d ∷ []))
+near-snoc [] d h e = (e, tt)
+near-snoc (x ∷ ds) d h e = (h .0, near-snoc ds d (h .1) e)
 
 doc-kept : (tokens nodes types types′ lists : List ℕ) (p : Parser) (i n : ℕ) (t : Entry) → isGoing (p .status) ≡ true → tokenOf t ≡ tokenAt tokens i
     → types′ ≡ paste types (length types - (3 * p .used .docs + 3)) (t .len ∷ t .start ∷ t .kind ∷ []) 3
@@ -73,8 +73,8 @@ doc-kept tokens nodes types types′ lists p i n t g named e = record {
           related = record {
             left = h .related .left;
             here = h .related .here;
-            inRange = h .related .inRange;
-            taken = h .related .taken;
+            near = h .related .near;
+            taken = h .related .taken; few = h .related .few;
             nodes = h .related .nodes;
             types = record {
               between = take (length (laid .between) - 3) (laid .between);
@@ -82,7 +82,7 @@ doc-kept tokens nodes types types′ lists p i n t g named e = record {
                   ∙ ap (λ (l : List ℕ). front ++ (take (length (laid .between) - 3) (laid .between) ++ l)) (sym (docs-last (m .docs) d));
               counted = laid .counted;
               docCounted = omega (arith, laid .docCounted, length-append (m .docs) (d ∷ []));
-              inRange = in-range-snoc (m .docs) d (laid .inRange) (h .related .inRange i);
+              near = near-snoc (m .docs) d (laid .near) (h .related .near i);
             };
             lists = h .related .lists;
             bytes = h .related .bytes;
@@ -143,15 +143,15 @@ docs-taken tokens nodes types lists lists′ p g e = record {
           related = record {
             left = h .related .left;
             here = h .related .here;
-            inRange = h .related .inRange;
-            taken = h .related .taken;
+            near = h .related .near;
+            taken = h .related .taken; few = h .related .few;
             nodes = h .related .nodes;
             types = record {
               between = laid .between ++ reverse top;
               laid = laid .laid ∙ simp append-nil;
               counted = laid .counted;
               docCounted = refl;
-              inRange = tt;
+              near = tt;
             };
             lists = record {
               between = drop (length top) (listed .between);
@@ -210,9 +210,9 @@ module _ (types front : List ℕ) (d : Token) (ds : List Token) (laid : types �
       token-there types front (reverse (docCells (r .0))) (lastOf d ds) _ e
       (omega (arith, ap length laid ∙ length-append front _, length-reverse (docCells (d ∷ ds)), docs-length (d ∷ ds)))
 
-last-in-range : (d : Token) (ds : List Token) → AllInRange (d ∷ ds) → InRange (lastOf d ds)
-last-in-range d [] h = h .0
-last-in-range d (e ∷ es) h = last-in-range e es (h .1)
+last-near : (d : Token) (ds : List Token) → AllNear (d ∷ ds) → Near (lastOf d ds)
+last-near d [] h = h .0
+last-near d (e ∷ es) h = last-near e es (h .1)
 
 -- the rule, by the docs that wait
 byDocs : State → List Token → Result ℕ
@@ -240,17 +240,17 @@ docs-bad tokens nodes types lists p number at g waits atEof elsewhere = record {
   sticky = λ f. absurd (true≢false g f);
   monotone = omega arith;
   progress = λ e. absurd (true≢false e refl);
-  simulates = λ R L stack m h. go R L stack m h (h .related .types .between) (m .docs) (h .related .types .docCounted) (h .related .types .inRange) (h .related .types .laid ∙ sym (append-assoc (flatten (map typeCells (m .arena .types))) (h .related .types .between) (reverse (docCells (m .docs)))));
+  simulates = λ R L stack m h. go R L stack m h (h .related .types .between) (m .docs) (h .related .types .docCounted) (h .related .types .near) (h .related .types .laid ∙ sym (append-assoc (flatten (map typeCells (m .arena .types))) (h .related .types .between) (reverse (docCells (m .docs)))));
 }
   where
     after : Code
     after = code nodes types lists (failed p (atEntry number 0 (tokenOf (docAt types at))))
 
     -- the error is the rule's
-    named : (number′ : ℕ) (d : Token) → number ≡ number′ → tokenOf (docAt types at) ≡ d → InRange d → atEntry number 0 (tokenOf (docAt types at)) ≡ atToken number′ 0 d
+    named : (number′ : ℕ) (d : Token) → number ≡ number′ → tokenOf (docAt types at) ≡ d → Near d → atEntry number 0 (tokenOf (docAt types at)) ≡ atToken number′ 0 d
     named number′ d e w near = (λ i. atEntry (e i) 0 (w i)) ∙ at-entry number′ 0 d near
 
-    go : (R L : ℕ) (stack : List ℕ) (m : State) → Represents tokens (code nodes types lists p) (R + 0) (L + 0) stack m → (between : List ℕ) (ds : List Token) → p .used .docs ≡ length ds → AllInRange ds
+    go : (R L : ℕ) (stack : List ℕ) (m : State) → Represents tokens (code nodes types lists p) (R + 0) (L + 0) stack m → (between : List ℕ) (ds : List Token) → p .used .docs ≡ length ds → AllNear ds
         → types ≡ (flatten (map typeCells (m .arena .types)) ++ between) ++ reverse (docCells ds)
         → Ends {A = ℕ} tokens (λ n. n ≡ 0) stackUnchanged after R L 0 0 stack (byDocs m ds)
     go R L stack m h between [] n near e = absurd (waits n)
@@ -260,7 +260,7 @@ docs-bad tokens nodes types lists p number at g waits atEof elsewhere = record {
         let kind : current (m .left) .kind ≡ p .cur .kind = ap (λ (t : Token). t .kind) (current-represents (h .related)) in
         either (eqb (p .cur .kind) kEof)
         (λ f. subst (Ends {A = ℕ} tokens (λ n. n ≡ 0) stackUnchanged after R L 0 0 stack) (sym (ifKind-is-yes kEof (λ t. err (atToken 13 0 (lastOf d ds)) t) (λ t. err (atToken 14 0 d) t) m (rw kind f)))
-        (failing-at _ _ (named 13 (lastOf d ds) (atEof f .0) (ap (λ (k : ℕ). tokenOf (docAt types k)) (atEof f .1 ∙ ap (λ (j : ℕ). length types - 3 * j) n) ∙ last-doc types front d ds e) (last-in-range d ds near)) h₀))
+        (failing-at _ _ (named 13 (lastOf d ds) (atEof f .0) (ap (λ (k : ℕ). tokenOf (docAt types k)) (atEof f .1 ∙ ap (λ (j : ℕ). length types - 3 * j) n) ∙ last-doc types front d ds e) (last-near d ds near)) h₀))
         (λ f. subst (Ends {A = ℕ} tokens (λ n. n ≡ 0) stackUnchanged after R L 0 0 stack) (sym (ifKind-is-no kEof (λ t. err (atToken 13 0 (lastOf d ds)) t) (λ t. err (atToken 14 0 d) t) m (rw kind f)))
         (failing-at _ _ (named 14 d (elsewhere f .0) (ap (λ (k : ℕ). tokenOf (docAt types k)) (elsewhere f .1) ∙ first-doc types front d ds e) (near .0)) h₀))
 

@@ -4,23 +4,23 @@ use mathlib.Core.Bool.{Bool, true, false}
 use mathlib.Core.List.{List, [], _∷_, _++_, flatten, append-nil}
 use Prim.Native.Nat.{ℕ, suc, _+_, _%_, _≤_, _<_}
 use native.Mathlib.Omega.{arith}
-use lib.Dec.{eqb, ltb}
+use lib.Dec.{eqb}
 use lib.ListN.{length}
-use borrow.Author.Tests.{ne-eqb, ltb-true, ltb-false}
+use borrow.Author.Tests.{ne-eqb, eqb-true, eqb-false}
 use Rattle.lex.specs.Answer.{maxBytes}
 use Rattle.lex.specs.Kind.{kEof, kS}
 use Rattle.lex.specs.declared.diagnostic.Diagnostic.{Diagnostic}
 use Rattle.lex.specs.declared.tok.Token.{Token}
 use Rattle.tokens.specs.Table.{tokenOf, tokenAt, tokensFrom}
 use Rattle.tokens.specs.declared.Entry.{Entry}
-use Rattle.tokens.proofs.Table.{tokens-from, token-past}
+use Rattle.tokens.proofs.Records.{tokens-last, tokens-more}
 use Rattle.rules.specs.Tree.{State}
 use Rattle.rules.specs.Combinators.{Rule, rest, advance, atToken}
-use Rattle.parser_state.specs.Represents.{Failed, withToken, withUsed, InRange, Code, code, going, isGoing, from, Related, Represents, FailedAt}
+use Rattle.parser_state.specs.Represents.{Failed, withToken, withUsed, Near, Code, code, going, isGoing, from, Related, Represents, FailedAt}
 use Rattle.parser_state.specs.Refines.{stackUnchanged, Refines, Refuses, Takes, Lists, failAt, failed, atEntry}
 use Rattle.parser_state.specs.declared.Parser.{Parser}
 use Rattle.parser_state.specs.declared.Used.{Used}
-use Rattle.parser_state.proofs.Steps.{either, true≢false, represents-going, represents-less, current-represents}
+use Rattle.parser_state.proofs.Steps.{either, true≢false, some-from, represents-going, represents-less, current-represents}
 
 -- ---- nothing is done
 
@@ -71,18 +71,13 @@ through-used p f P {u} e w h = subst (λ (r : Parser). P u r) (sym w) (subst (λ
 -- what the table holds is the first of the tokens from there on
 pub from-at : (tokens : List ℕ) (i : ℕ) → tokensFrom tokens i ≡ from tokens (tokenAt tokens i) i
 unfolding from
-from-at tokens i = tokens-from tokens i
+from-at tokens i = either (eqb (tokenAt tokens i .kind) kEof)
+    (λ b. tokens-last tokens i (eqb-true _ _ b) ∙ rw (b, from) refl)
+    (λ b. tokens-more tokens i (eqb-false _ _ b) ∙ rw (b, from) refl)
 
 from-more : (tokens : List ℕ) (t : Token) (at : ℕ) → eqb (t .kind) kEof ≡ false → from tokens t at ≡ t ∷ tokensFrom tokens (suc at)
 unfolding from
 from-more tokens t at e = ap (λ (b : Bool). elim b as (λ _. List Token) [ true ↦ t ∷ [] | false ↦ t ∷ tokensFrom tokens (suc at) ]) e
-
--- the number of a record has 32 bits: where it would have more, the token is Eof
-from-low : (tokens : List ℕ) (i j : ℕ) → j ≡ i % 4294967296 → from tokens (tokenAt tokens i) j ≡ from tokens (tokenAt tokens i) i
-unfolding from
-from-low tokens i j e = either (ltb i 4294967296)
-    (λ b. let l : i < 4294967296 = ltb-true _ _ b in let f : j ≡ i = omega arith in ap (from tokens (tokenAt tokens i)) f)
-    (λ b. let l : 4294967296 ≤ i = ltb-false _ _ b in rw (token-past tokens i (omega arith)) refl)
 
 rest-from : (tokens : List ℕ) (c t : Token) (at : ℕ) → rest (c ∷ from tokens t at) ≡ from tokens t at
 unfolding rest from
@@ -92,27 +87,26 @@ rest-from tokens c t at = go (eqb (t .kind) kEof)
     go true = refl
     go false = refl
 
--- a token of the table, `j` being the number of its record, is that of record `i`
-module _ (tokens : List ℕ) (p : Parser) (t : Entry) (j : ℕ) where
-  pub taking : isGoing (p .status) ≡ true → (p .cur .kind ≡ kEof → ⊥) → tokenOf t ≡ tokenAt tokens (p .at + 1) → j ≡ (p .at + 1) % 4294967296 → Takes tokens advance p (withToken p t j)
+module _ (tokens : List ℕ) (p : Parser) (t : Entry) where
+  -- the token of the next record
+  pub taking : isGoing (p .status) ≡ true → (p .cur .kind ≡ kEof → ⊥) → tokenOf t ≡ tokenAt tokens (p .at + 1) → Takes tokens advance p (withToken p t (p .at + 1))
   unfolding advance
-  taking g k e w nodes types lists = record {
+  taking g k e nodes types lists = record {
     sticky = λ f. absurd (true≢false g f);
     monotone = omega (arith, ap length more);
     progress = λ _. omega (arith, ap length more);
     simulates = λ R L stack m h.
-        let l : m .left ≡ tokenOf (p .cur) ∷ from tokens (tokenOf t) j = h .related .left ∙ more in
-        let l′ : rest (m .left) ≡ from tokens (tokenOf t) j = ap rest l ∙ rest-from tokens (tokenOf (p .cur)) (tokenOf t) j in
-        let few : p .at ≤ maxBytes = either (ltb maxBytes (p .at)) (λ b. absurd (k (ap (λ (u : Token). u .kind) (h .related .here ∙ token-past tokens (p .at) (ltb-true _ _ b))))) (λ b. ltb-false _ _ b) in
-        let same : j ≡ p .at + 1 = omega arith in (
+        let l : m .left ≡ tokenOf (p .cur) ∷ from tokens (tokenOf t) (p .at + 1) = h .related .left ∙ more in
+        let l′ : rest (m .left) ≡ from tokens (tokenOf t) (p .at + 1) = ap rest l ∙ rest-from tokens (tokenOf (p .cur)) (tokenOf t) (p .at + 1) in (
           current-represents (h .related),
           record {
             status = h .status;
             related = record {
               left = l′;
-              here = e ∙ ap (tokenAt tokens) (sym same);
-              inRange = h .related .inRange;
+              here = e;
+              near = h .related .near;
               taken = omega (arith, h .related .taken, ap length l, ap length l′);
+              few = h .related .few;
               nodes = h .related .nodes;
               types = h .related .types;
               lists = h .related .lists;
@@ -128,13 +122,32 @@ module _ (tokens : List ℕ) (p : Parser) (t : Entry) (j : ℕ) where
         );
   }
     where
-      more : from tokens (tokenOf (p .cur)) (p .at) ≡ tokenOf (p .cur) ∷ from tokens (tokenOf t) j
-      more = from-more tokens (tokenOf (p .cur)) (p .at) (ne-eqb (p .cur .kind) kEof k) ∙ ap (λ (ts : List Token). tokenOf (p .cur) ∷ ts) (ap (tokensFrom tokens) {x = suc (p .at)} {y = p .at + 1} (omega arith) ∙ from-at tokens (p .at + 1) ∙ sym (from-low tokens (p .at + 1) j w) ∙ ap (λ (u : Token). from tokens u j) (sym e))
+      more : from tokens (tokenOf (p .cur)) (p .at) ≡ tokenOf (p .cur) ∷ from tokens (tokenOf t) (p .at + 1)
+      more = from-more tokens (tokenOf (p .cur)) (p .at) (ne-eqb (p .cur .kind) kEof k) ∙ ap (λ (ts : List Token). tokenOf (p .cur) ∷ ts) (ap (tokensFrom tokens) {x = suc (p .at)} {y = p .at + 1} (omega arith) ∙ from-at tokens (p .at + 1) ∙ ap (λ (u : Token). from tokens u (p .at + 1)) (sym e))
+
+-- no script has so many tokens
+pub taking-past : (tokens : List ℕ) (p : Parser) (start len : ℕ) → isGoing (p .status) ≡ true → (p .cur .kind ≡ kEof → ⊥) → maxBytes ≤ p .at → Takes tokens advance p (withToken p (record { kind = kEof; start = start; len = len }) (p .at))
+unfolding from
+taking-past tokens p start len g k z nodes types lists = record {
+  sticky = λ f. absurd (true≢false g f);
+  monotone = omega (arith, two);
+  progress = λ _. omega (arith, two);
+  simulates = λ R L stack m h. absurd (omega (arith, two, h .related .taken, h .related .few, ap length (h .related .left)));
+}
+  where
+    next : tokensFrom tokens (suc (p .at)) ≡ from tokens (tokenAt tokens (suc (p .at))) (suc (p .at))
+    next = from-at tokens (suc (p .at))
+
+    more : length (from tokens (tokenOf (p .cur)) (p .at)) ≡ suc (length (tokensFrom tokens (suc (p .at))))
+    more = ap length (from-more tokens (tokenOf (p .cur)) (p .at) (ne-eqb (p .cur .kind) kEof k))
+
+    two : 2 ≤ length (from tokens (tokenOf (p .cur)) (p .at))
+    two = omega (arith, more, ap length next, some-from tokens (tokenAt tokens (suc (p .at))) (suc (p .at)))
 
 -- ---- failing
 
 -- a token that starts in a script has the span that it should have
-pub at-entry : (number wanted : ℕ) (t : Token) → InRange t → atEntry number wanted t ≡ atToken number wanted t
+pub at-entry : (number wanted : ℕ) (t : Token) → Near t → atEntry number wanted t ≡ atToken number wanted t
 unfolding atEntry atToken
 at-entry number wanted t h = either (eqb (t .kind) kS)
     (λ b. rw b (let e : (t .start + 1) % 4294967296 ≡ t .start + 1 = omega arith in λ i. record { number = number; start = e i; len = t .len; wanted = wanted; seen = t .kind }))
@@ -146,7 +159,7 @@ pub failing-at : {tokens nodes types lists : List ℕ} {p : Parser} {R L : ℕ} 
 failing-at e e′ w h = record {
   status = ap Failed w;
   over = [];
-  related = rw append-nil (record { left = h .related .left; here = h .related .here; inRange = h .related .inRange; taken = h .related .taken; nodes = h .related .nodes; types = h .related .types; lists = h .related .lists; bytes = h .related .bytes; credit = h .related .credit; lent = h .related .lent });
+  related = rw append-nil (record { left = h .related .left; here = h .related .here; near = h .related .near; taken = h .related .taken; few = h .related .few; nodes = h .related .nodes; types = h .related .types; lists = h .related .lists; bytes = h .related .bytes; credit = h .related .credit; lent = h .related .lent });
 }
 
 module _ (tokens nodes types lists : List ℕ) (p q : Parser) (number wanted : ℕ) (t : Entry) (named : t ≡ p .cur) where
@@ -159,7 +172,7 @@ module _ (tokens nodes types lists : List ℕ) (p q : Parser) (number wanted : �
         fails = refl;
         simulates = λ R L stack m h.
             let here : tokenOf t ≡ tokenAt tokens (p .at) = ap tokenOf named ∙ h .related .here in
-            let near : InRange (tokenOf t) = subst InRange (sym here) (h .related .inRange (p .at)) in
+            let near : Near (tokenOf t) = subst Near (sym here) (h .related .near (p .at)) in
             failing-at _ _ (at-entry number wanted (tokenOf t) near ∙ ap (atToken number wanted) (ap tokenOf named ∙ sym (current-represents (h .related)))) h;
       }))
       (λ e. subst (λ (r : Parser). Refuses tokens number wanted (code nodes types lists p) (code nodes types lists r)) (sym (g e))
@@ -175,7 +188,7 @@ module _ {A : Type 0} {Q : A → Type 0} {d r′ l′ : ℕ} (tokens nodes types
         monotone = omega arith;
         progress = λ z. absurd (true≢false z refl);
         simulates = λ R L stack m h.
-            let near : InRange (tokenOf t) = subst InRange (sym named) (h .related .inRange i) in
+            let near : Near (tokenOf t) = subst Near (sym named) (h .related .near i) in
             failing-at _ _ (at-entry number 0 (tokenOf t) near ∙ ap (atToken number 0) named) (represents-less _ _ (omega arith) (omega arith) h);
       }))
       (λ e. subst (λ (r : Parser). Refines {A = A} tokens 0 0 (failAt number (tokenAt tokens i)) Q stackUnchanged d r′ l′ (code nodes types lists p) (code nodes types lists r)) (sym (g e)) (idle e))

@@ -24,8 +24,9 @@ pub related-less : {tokens : List ℕ} {s : Code} {r l : ℕ} {stack : List ℕ}
 related-less r₀ l₀ p q h = record {
   left = h .left;
   here = h .here;
-  inRange = h .inRange;
+  near = h .near;
   taken = h .taken;
+  few = h .few;
   nodes = h .nodes;
   types = h .types;
   lists = h .lists;
@@ -53,7 +54,7 @@ noted m n = record { left = m .left; docs = m .docs; arena = m .arena; notes = n
 pub represents-noted : {tokens : List ℕ} {s : Code} {r l : ℕ} {stack : List ℕ} {m : State} (n : Notes) → Represents tokens s r l stack m → Represents tokens s r l stack (noted m n)
 represents-noted n h = record {
   status = h .status;
-  related = record { left = h .related .left; here = h .related .here; inRange = h .related .inRange; taken = h .related .taken; nodes = h .related .nodes; types = h .related .types; lists = h .related .lists; bytes = h .related .bytes; credit = h .related .credit; lent = h .related .lent };
+  related = record { left = h .related .left; here = h .related .here; near = h .related .near; taken = h .related .taken; few = h .related .few; nodes = h .related .nodes; types = h .related .types; lists = h .related .lists; bytes = h .related .bytes; credit = h .related .credit; lent = h .related .lent };
 }
 
 -- a Bool is one of the two
@@ -177,7 +178,7 @@ current-from tokens t at = go (eqb (t .kind) kEof)
     go true = refl
     go false = refl
 
-some-from : (tokens : List ℕ) (t : Token) (at : ℕ) → 1 ≤ length (from tokens t at)
+pub some-from : (tokens : List ℕ) (t : Token) (at : ℕ) → 1 ≤ length (from tokens t at)
 unfolding from
 some-from tokens t at = go (eqb (t .kind) kEof)
   where

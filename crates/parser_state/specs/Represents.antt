@@ -81,16 +81,16 @@ abbrev pub ahead : List ℕ → Code → List Token
 ahead tokens s = from tokens (tokenOf (s .parser .cur)) (s .parser .at)
 
 -- a token of a script starts in it
-abbrev pub InRange : Token → Type 0
-InRange t = t .start ≤ maxBytes
+abbrev pub Near : Token → Type 0
+Near t = t .start ≤ maxBytes
 
 -- the cells of pending docs, in the order in which they were met
 abbrev pub docCells : List Token → List ℕ
 docCells docs = flatten (map tokenCells docs)
 
-abbrev pub AllInRange : List Token → Type 0
-AllInRange [] = Unit {0}
-AllInRange (d ∷ ds) = InRange d × AllInRange ds
+abbrev pub AllNear : List Token → Type 0
+AllNear [] = Unit {0}
+AllNear (d ∷ ds) = Near d × AllNear ds
 
 -- The arrays as a state has them: records or cells in front, then whatever lies there, and at the
 -- far end what grows downward, the last cell first: behind the types the pending docs, behind the
@@ -106,7 +106,7 @@ pub record TypesLaid (types : List ℕ) (count docCount : ℕ) (arena : List Typ
   pub laid : types ≡ flatten (map typeCells arena) ++ (between ++ reverse (docCells docs))
   pub counted : count ≡ length arena
   pub docCounted : docCount ≡ length docs
-  pub inRange : AllInRange docs
+  pub near : AllNear docs
 
 pub record ListsLaid (lists : List ℕ) (count scratch : ℕ) (cells stack : List ℕ) : Type 0 where
   pub between : List ℕ
@@ -134,8 +134,9 @@ pub record EnoughLent (n : ℕ) (ns ts ls : List ℕ) : Type 0 where
 pub record Related (tokens : List ℕ) (s : Code) (r l : ℕ) (stack : List ℕ) (m : State) : Type 0 where
   pub left : m .left ≡ ahead tokens s
   pub here : tokenOf (s .parser .cur) ≡ tokenAt tokens (s .parser .at)
-  pub inRange : (i : ℕ) → InRange (tokenAt tokens i)
+  pub near : (i : ℕ) → Near (tokenAt tokens i)
   pub taken : length (m .left) + s .parser .at ≡ length (tokensFrom tokens 0)
+  pub few : length (tokensFrom tokens 0) ≤ maxBytes + 1
   pub nodes : NodesLaid (s .nodes) (s .parser .used .nodes) (s .parser .used .values) (m .arena .nodes) (m .arena .values)
   pub types : TypesLaid (s .types) (s .parser .used .types) (s .parser .used .docs) (m .arena .types) (m .docs)
   pub lists : ListsLaid (s .lists) (s .parser .used .cells) (s .parser .used .scratch) (m .arena .cells) stack

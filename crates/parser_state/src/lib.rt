@@ -220,8 +220,21 @@ pub fn advance(tokens: &[u32], p: &mut State)
         return;
     }
     let i = at(p);
+    if MAX_BYTES <= i as usize {
+        // no script has more tokens
+        set_token(
+            p,
+            Entry {
+                kind: Type::EOF,
+                start: 0,
+                len: 3,
+            },
+            i,
+        );
+        return;
+    }
     let t = token_at(tokens, i as usize + 1);
-    set_token(p, t, std::num::wrapping_add_u32(i, 1));
+    set_token(p, t, i + 1);
 }
 
 // Where the span of an error that names a token starts.

@@ -1,7 +1,7 @@
 -- Where a tree's records lie in the lent arrays.
 use mathlib.Core.List.{List, [], _∷_, _++_}
-use Prim.Native.Nat.{ℕ, _-_}
-use lib.ListN.{length, replicate}
+use Prim.Native.Nat.{ℕ}
+pub use Rattle.lex.specs.Cells.{zeros, padded}
 use Rattle.lex.specs.declared.diagnostic.Diagnostic.{Diagnostic}
 use Rattle.rules.specs.declared.Node.{Node}
 use Rattle.rules.specs.declared.Node.the-variants as N
@@ -18,13 +18,6 @@ typeWidth = 8
 
 abbrev pub diagnosticWidth : ℕ
 diagnosticWidth = 5
-
-abbrev pub zeros : ℕ → List ℕ
-zeros n = replicate n 0
-
--- zeros behind, up to a length
-abbrev pub padded : ℕ → List ℕ → List ℕ
-padded n xs = xs ++ zeros (n - length xs)
 
 unfoldable pub nodeCells : Node → List ℕ
 nodeCells (N.Atom id raw) = padded nodeWidth (1 ∷ id ∷ tokenCells raw)

@@ -1,2 +1,4 @@
--- The tables of tokens and lexer errors.
+-- The token and error tables of a script.
+pub mod Tables
 pub mod Table
+pub mod Filling
