@@ -176,7 +176,7 @@ module _ (script : List ℕ) where
 -- ---- the errors from a record on, of any table
 
 module _ (table : List ℕ) where
-  error-past : (i : ℕ) → length table / errorWidth ≤ i → errorAt table i .diagnostic .number ≡ 0
+  pub error-past : (i : ℕ) → length table / errorWidth ≤ i → errorAt table i .diagnostic .number ≡ 0
   unfolding errorAt
   error-past i h = rw (le-ltb i (length table / errorWidth) h, errorAt)
 
