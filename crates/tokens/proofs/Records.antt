@@ -7,7 +7,7 @@ use Prim.Native.Nat.{ℕ, zero, suc, _+_, _*_, _/_, _-_, _≤_, _<_}
 use native.Mathlib.Omega.{arith}
 use lib.Dec.{ltb, eqb}
 use lib.ListN.{length, getD, drop, replicate, length-append, length-drop, drop-of-length-le}
-use lib.Seq.{drop-cons}
+use lib.Seq.{drop-cons, getD-append-add}
 use borrow.Author.Tests.{lt-ltb, le-ltb, eq-eqb, ne-eqb, ltb-true, ltb-false}
 use Rattle.lex.specs.Answer.{maxBytes}
 use Rattle.lex.specs.Cells.{zeros, padded}
@@ -172,6 +172,23 @@ module _ (script : List ℕ) where
 
   pub table-all : (n : ℕ) → tokensFrom (padded n (tokenTable script)) 0 ≡ tokensOf (cut script)
   table-all n = table-tokens n 0 (some-token (cut script))
+
+-- behind them records start at 0
+zeros-behind : (n i : ℕ) → getD (zeros n) i 0 ≡ 0
+zeros-behind zero i = refl
+zeros-behind (suc n) zero = refl
+zeros-behind (suc n) (suc i) = zeros-behind n i
+
+cell-behind : (xs : List ℕ) (z i : ℕ) → length xs ≤ i → getD (xs ++ zeros z) i 0 ≡ 0
+cell-behind xs z i h = let e : i ≡ length xs + (i - length xs) = omega arith in ap (λ (k : ℕ). getD (xs ++ zeros z) k 0) e ∙ getD-append-add xs (zeros z) (i - length xs) 0 ∙ zeros-behind z (i - length xs)
+
+pub past-start : (script : List ℕ) (n i : ℕ) → length (tokensOf (cut script)) ≤ i → tokenAt (padded n (tokenTable script)) i .start ≡ 0
+unfolding tokenTable tokenAt
+past-start script n i h = go (ltb i (length (padded n (tokenTable script)) / tokenWidth)) refl
+  where
+    go : (t : Bool) → ltb i (length (padded n (tokenTable script)) / tokenWidth) ≡ t → tokenAt (padded n (tokenTable script)) i .start ≡ 0
+    go true q = ap (λ (t : Token). t .start) (token-in (padded n (tokenTable script)) i (ltb-true i _ q)) ∙ cell-behind (tokenTable script) (n - length (tokenTable script)) (tokenWidth * i + 1) (omega (arith, token-records-length script (tokensOf (cut script))))
+    go false q = ap (λ (t : Token). t .start) (past (padded n (tokenTable script)) i (ltb-false i _ q))
 
 -- ---- the errors from a record on, of any table
 

@@ -27,9 +27,9 @@ parse-roots-collect-requires c κs =
 returns-2 : tie.Need-returns-2
 returns-2 c =
     let get-used = c .get-used in
-    let args = c .before .before .before .before .before .before .before .before .before .before .before .before .before .before .before .before .before .before .before .before .before .before .before .before .before .before .before .before .before .before .before .before .before .before .before .before .before .before .before .before .before .before .before .before .before .before .before .args in
-    let refusal = c .before .before .before .before .before .before .before .before .before .before .before .before .before .before .before .before .before .before .before .before .before .before .before .before .before .before .before .before .before .before .before .before .before .before .before .before .before .before .before .before .refusal in
-    let if1 = c .before .before .before .before .before .before .before .before .before .before .before .before .before .before .before .before .before .before .before .before .before .before .before .before .before .before .before .before .before .before .before .before .before .before .before .before .before .before .before .if1 in
+    let args = c .before .before .before .before .before .before .before .before .before .before .before .before .before .before .before .before .before .before .before .before .before .before .before .before .before .before .before .before .before .before .before .before .before .before .before .args in
+    let refusal = c .before .before .before .before .before .before .before .before .before .before .before .before .before .before .before .before .before .before .before .before .before .before .before .before .before .before .refusal in
+    let if1 = c .before .before .before .before .before .before .before .before .before .before .before .before .before .before .before .before .before .before .before .before .before .before .before .before .before .if1 in
     let parse-roots-collect = c .before .before .before .before .before .before .before .before .before .before .before .before .before .before .before .parse-roots-collect in
     let clear-tree = c .before .before .before .before .before .before .before .before .before .before .before .before .before .before .before .before .before .before .before .before .before .before .before .before .before .before .before .before .before .before .before .before .before .before .clear-tree in
     let clear-from = c .before .before .before .before .before .before .before .before .before .before .before .before .before .before .before .before .before .before .before .before .before .before .before .before .clear-from in
@@ -141,24 +141,11 @@ parse-collect-spec =
     returns
     (λ c κs. search needs)
     (λ c κs. search needs)
-    parse-roots-collect-requires
-    (λ c κs. search needs)
-    (λ c κs. search needs)
     same-length
     same-length-2
     same-length-3
     same-length-4
     same-length-5
-    returns-2
-    (λ c κs. search needs)
-    (λ c κs. search needs)
-    (λ c. search needs)
-    (λ c. search needs)
-    (λ c κs. search needs)
-    (λ c κs. search needs)
     same-length-6
     same-length-7
-    same-length-8
-    same-length-9
-    same-length-10
-    returns-3)
+    returns-2)
