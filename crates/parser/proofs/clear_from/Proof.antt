@@ -14,7 +14,7 @@ abbrev Inv-loop : tie.InvT-loop
 Inv-loop a₀ from i₀ a i = (length a ≡ length a₀) × (from ≤ i) × (i - from ≤ length a₀ - from) × (a ≡ take from a₀ ++ (zeros (i - from) ++ drop i a₀))
 
 abbrev μ-loop : tie.MeasureT-loop
-μ-loop a₀ from i₀ a i = length a - i
+μ-loop a₀ from i₀ a i = length a₀ - i
 
 loop-holds : tie.Need-loop-holds Inv-loop μ-loop
 loop-holds c = let args = c .args in (refl, omega arith, omega arith, cleared-start (args .a .now) (args .from))
