@@ -33,6 +33,7 @@
 #ifndef PURPLE_GARDEN_H
 #define PURPLE_GARDEN_H
 
+#include <stdbool.h>
 #include <stddef.h>
 #include <stdint.h>
 
@@ -147,6 +148,31 @@ uint32_t purple_garden_parse_collect(const uint8_t *script, size_t script_len,
                                      uint32_t *roots, size_t roots_len,
                                      uint32_t *diagnostics, size_t diagnostics_len,
                                      uint32_t numbers[12]);
+
+/* ---- tokens */
+
+/* The cells of a record of tokens and of one of lexer errors. The least lengths of the two tables are
+ * 4 cells for each byte of the script and 4 more, and 6 cells for each byte. They always suffice. */
+#define PURPLE_GARDEN_TOKEN_CELLS 4
+#define PURPLE_GARDEN_ERROR_CELLS 6
+
+/* Cuts a script into its tokens and its lexer errors (31 to 34). A record of `tokens` is the kind,
+ * the start, the length of the spelling and where the spelling begins: behind a string's quote, behind
+ * a doc's `#!` and one blank, else at the start, also for a kind with a fixed spelling. The last token
+ * is Eof. A record of `errors` is the five numbers of the error and how many tokens were cut before
+ * it. `counts` gets how many records each table has; behind them lie zeros.
+ *   1, 2: nothing changed, `counts` neither. */
+uint32_t purple_garden_cut(const uint8_t *script, size_t script_len,
+                           uint32_t *tokens, size_t tokens_len,
+                           uint32_t *errors, size_t errors_len, uint32_t counts[2]);
+
+/* Whether both tables are exactly what purple_garden_cut leaves in them for this script, the zeros
+ * behind included; false too where it would be refused. Writes nothing. */
+bool purple_garden_is_cut(const uint8_t *script, size_t script_len,
+                          const uint32_t *tokens, size_t tokens_len,
+                          const uint32_t *errors, size_t errors_len);
+
+/* ---- lookups and comparison */
 
 /* The lookups and the comparison take the script, the arrays that a reading left and its six
  * counts. They take arrays from anywhere: what is malformed is refused with 4. They write their

@@ -3,7 +3,7 @@ use crate::c::{self, Lent};
 use crate::{Error, Kind, Token, MAX_BYTES};
 use std::ops::Range;
 
-pub use crate::c::Mode;
+pub use crate::c::{Mode, ERROR_CELLS, TOKEN_CELLS};
 
 /// How many nodes, types, list cells, roots, values and diagnostics a reading made.
 pub struct Counts([u32; 6]);
@@ -99,6 +99,16 @@ impl Arrays {
         let number = self.lent(script, counts).same_shape(&other.lent(script2, counts2), &mut same);
         answered(number, same[0] == 1)
     }
+}
+
+/// The used parts of both tables of a script.
+pub fn cut(script: &[u8]) -> Result<(Vec<u32>, Vec<u32>), u32> {
+    let [mut tokens, mut errors] = c::table_lengths(script.len()).map(|cells| vec![0; cells]);
+    let mut counts = [0; 2];
+    let number = c::cut(script, &mut tokens, &mut errors, &mut counts);
+    tokens.truncate(c::TOKEN_CELLS * counts[0] as usize);
+    errors.truncate(c::ERROR_CELLS * counts[1] as usize);
+    answered(number, (tokens, errors))
 }
 
 pub fn token_span(script: &[u8], token: Token) -> Result<Range<usize>, u32> {

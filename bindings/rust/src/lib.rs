@@ -20,9 +20,11 @@ mod node;
 mod span;
 pub mod practice;
 mod sheet;
+mod tokens;
 
 pub use error::{Diagnostic, Error, Problem};
 pub use kind::Kind;
+pub use tokens::Tokens;
 pub use node::{Case, Field, Function, List, Member, Node, NodeId, Parameter, Token, Type, TypeId};
 
 use ffi::Mode;

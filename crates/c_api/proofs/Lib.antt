@@ -6,3 +6,4 @@ pub mod UniqueReading
 pub mod Demands
 pub mod Law
 pub mod LexerCells
+pub mod Tabled

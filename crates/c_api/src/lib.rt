@@ -1,5 +1,6 @@
 // The reader for programs in other languages: readings, lookups and comparison on numbers and
 // slices.
+mod cutting;
 mod describe;
 mod lexer;
 mod places;

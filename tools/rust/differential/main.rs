@@ -13,6 +13,7 @@
 //! marks      lists of positions beside single lookups, with their refusals; how long they take
 //! practice   practice sheets beside a generator of its own; each is read
 //! sheets     correction sheets, read back by a reader of its own; refusals; how long one takes
+//! tables     tables of tokens and lexer errors beside the Rust's lexer; damaged ones; refusals
 //! words      errors of every number, wanted and seen beside the tables of docs/WORDS.md, and their refusals
 //!
 //! Without a family all are run. Of each script the numbers, all cells of all arrays, the starts of nodes, the tokens of types, spans, lines and columns
@@ -35,6 +36,7 @@ mod practice;
 mod scripts;
 mod shape;
 mod sheet;
+mod tables;
 mod words;
 
 use crate::ast::{Ast, NodeId, TypeExprId};
@@ -470,8 +472,8 @@ fn source(script: &[u8], t: &lex::Token<'_>) -> (usize, usize) {
     (t.start, end)
 }
 
-const FAMILIES: [&str; 12] =
-    ["refusals", "limits", "bytes", "tokens", "programs", "long", "pairs", "columns", "marks", "practice", "sheets", "words"];
+const FAMILIES: [&str; 13] =
+    ["refusals", "limits", "bytes", "tables", "tokens", "programs", "long", "pairs", "columns", "marks", "practice", "sheets", "words"];
 
 fn run(quick: bool, seed: u64, families: &[String]) -> u64 {
     let mut beside = Beside::new(seed);
@@ -483,6 +485,7 @@ fn run(quick: bool, seed: u64, families: &[String]) -> u64 {
             "marks" => beside.marks(if quick { 50_000 } else { 500_000 }),
             "practice" => beside.practice(if quick { 5_000 } else { 100_000 }),
             "words" => beside.describe(if quick { 100_000 } else { 2_000_000 }),
+            "tables" => beside.tables(if quick { 100_000 } else { 2_000_000 }),
             "refusals" => beside.refusals(),
             "limits" => beside.limits(),
             "bytes" => beside.bytes(if quick { 2 } else { 3 }),
