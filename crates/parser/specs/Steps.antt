@@ -7,17 +7,13 @@ use lib.ListN.{length}
 use Rattle.lex.specs.Answer.{maxBytes}
 use Rattle.lex.specs.Bytes.{or}
 use Rattle.lex.specs.Cells.{padded}
-use Rattle.lex.specs.Refusals.{rTooLong, rTooShort}
+use Rattle.lex.specs.Refusals.{rTooLong, rTooShort, rNotCut}
 use Rattle.tokens.specs.Tables as T
 use Rattle.tokens.specs.Tables.{tokenTable, errorTable, isCut}
 use Rattle.rules.specs.Parse.{Reading}
 use Rattle.rules.specs.Promise.{Arrays, Outcome, tooShort, outcome}
 use Rattle.ast.specs.declared.Parsed.{Parsed}
 use Rattle.ast.specs.declared.Parsed.the-variants as P
-
--- the tables are not those that cutting the script gives
-abbrev pub rNotCut : ℕ
-rNotCut = 43
 
 -- a call that is turned away leaves all as it is
 abbrev pub turnedAway : ℕ → Arrays → Outcome

@@ -17,7 +17,7 @@ use Rattle.rules.specs.Tree.{State, Result, ok, err}
 use Rattle.rules.specs.Combinators.{Rule, _>>=_, pure, ifKind, withDocs, ControlFlow, continue, break, loop}
 use Rattle.rules.specs.Rules.{maxLevels}
 use Rattle.rules.specs.Parse.{synchronizeStep}
-use Rattle.ast.specs.Layout.{nodeWidth, typeWidth, diagnosticWidth, nodeCells, typeCells}
+use Rattle.ast.specs.Layout.{nodeWidth, typeWidth, diagnosticWidth, cellsPerByte, nodeCells, typeCells}
 use Rattle.parser_state.specs.Represents.{Going, Failed, Code, ahead, isGoing, EnoughLent, Represents, FailedAt}
 use Rattle.parser_state.specs.Refines.{rulesOf, deeper}
 use Rattle.parser_state.specs.declared.Parser.{Parser}
@@ -28,7 +28,7 @@ unfoldable pub refusal : ℕ → ℕ → ℕ → ℕ → ℕ → ℕ → ℕ →
 refusal n nodes types lists roots diagnostics tokens errors =
     elim (ltb maxBytes n) [
       | true ↦ rTooLong
-      | false ↦ elim (or (or (ltb nodes (nodeWidth * n)) (or (ltb types (typeWidth * n)) (or (ltb lists (8 * n)) (or (ltb roots n) (ltb diagnostics (diagnosticWidth * n)))))) (or (ltb tokens (tokenWidth * n + tokenWidth)) (ltb errors (errorWidth * n)))) [ true ↦ rTooShort | false ↦ 0 ]
+      | false ↦ elim (or (or (ltb nodes (nodeWidth * n)) (or (ltb types (typeWidth * n)) (or (ltb lists (cellsPerByte * n)) (or (ltb roots n) (ltb diagnostics (diagnosticWidth * n)))))) (or (ltb tokens (tokenWidth * n + tokenWidth)) (ltb errors (errorWidth * n)))) [ true ↦ rTooShort | false ↦ 0 ]
     ]
 
 -- enough is lent, and the token table is the script's

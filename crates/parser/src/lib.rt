@@ -9,6 +9,7 @@ use ast::Node;
 use ast::NodeId;
 use ast::Parsed;
 use ast::TypeExpr;
+use ast::lent::CELLS_PER_BYTE;
 use diagnostics::push_diagnostic;
 use diagnostics::push_faults;
 use lex::Diagnostic;
@@ -132,7 +133,7 @@ fn refusal(
     if types < TypeExpr::WIDTH * n {
         return Refusal::TOO_SHORT;
     }
-    if lists < 8 * n {
+    if lists < CELLS_PER_BYTE * n {
         return Refusal::TOO_SHORT;
     }
     if roots < n {
@@ -467,8 +468,6 @@ fn read_cut_collect(
 
 // ---- the calls
 
-const NOT_CUT: u32 = 43;
-
 // A strict reading from the tables: 43 where they are not those that cutting the script gives.
 pub fn read(
     script: &[u8],
@@ -503,7 +502,7 @@ pub fn read(
         return Parsed::Refused(refused);
     }
     if !is_cut(script, tokens, errors) {
-        return Parsed::Refused(NOT_CUT);
+        return Parsed::Refused(Refusal::NOT_CUT);
     }
     read_cut(script, tokens, nodes, types, lists, roots, diagnostics)
 }
@@ -542,7 +541,7 @@ pub fn read_collect(
         return Parsed::Refused(refused);
     }
     if !is_cut(script, tokens, errors) {
-        return Parsed::Refused(NOT_CUT);
+        return Parsed::Refused(Refusal::NOT_CUT);
     }
     read_cut_collect(
         script,

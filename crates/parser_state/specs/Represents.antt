@@ -120,14 +120,14 @@ pub record ListsLaid (lists : List ℕ) (count scratch : ℕ) (cells stack : Lis
 pub record Credit (n : ℕ) (u : Used) (left r l : ℕ) : Type 0 where
   pub records : u .nodes + u .types + u .docs + left + r ≤ n + 1
   pub numbers : u .values + 40000 * (u .types + u .docs + left + r) ≤ 40000 * (n + 1)
-  pub room : u .cells + 2 * u .scratch + 3 * u .docs + 8 * left + l ≤ 8 * n + 8
+  pub room : u .cells + 2 * u .scratch + 3 * u .docs + cellsPerByte * left + l ≤ cellsPerByte * n + cellsPerByte
 
 -- enough is lent for a script of `n` bytes
 pub record EnoughLent (n : ℕ) (ns ts ls : List ℕ) : Type 0 where
   pub small : n ≤ maxBytes
   pub nodes : nodeWidth * n ≤ length ns
   pub types : typeWidth * n ≤ length ts
-  pub lists : 8 * n ≤ length ls
+  pub lists : cellsPerByte * n ≤ length ls
 
 -- the arrays and the tokens that are left are those of a state
 pub record Related (tokens : List ℕ) (s : Code) (r l : ℕ) (stack : List ℕ) (m : State) : Type 0 where

@@ -6,6 +6,7 @@ use ast::NodeKind;
 use ast::Run;
 use ast::TypeExpr;
 use ast::TypeExprId;
+use ast::lent::CELLS_PER_BYTE;
 use lex::Diagnostic;
 use lex::MAX_BYTES;
 use lex::Type;
@@ -17,6 +18,7 @@ ghost use mathlib.Core.List.{List, [], _∷_, _++_, reverse};
 ghost use Prim.Native.Nat.{ℕ, suc, _+_, _*_, _-_, _%_, _≤_, _<_};
 ghost use lib.ListN.{length, take, drop};
 ghost use lib.Seq.{paste};
+ghost use Rattle.lex.specs.Answer.{maxBytes};
 ghost use Rattle.tokens.specs.Table.{tokenOf, tokenAt};
 ghost use Rattle.ast.specs.Layout.{nodeWidth, typeWidth, padded, nodeCells, typeCells, tokenCells};
 ghost use Rattle.rules.specs.Combinators.{continue, atToken, advance, expect, expectIdent, rejectKind, pushNode, pushNodeAnd, pushType, allocSlice, keepDoc, collectDocs, takeDocs};
@@ -68,7 +70,7 @@ impl Parser {
 pub type State = [u32; Parser::CELLS];
 
 // The most list cells that a reading makes.
-const MAX_LISTS: usize = 8 * MAX_BYTES;
+const MAX_LISTS: usize = CELLS_PER_BYTE * MAX_BYTES;
 
 // ---- the cells of a parser
 
@@ -541,7 +543,7 @@ fn has_room(len: usize, p: &State) -> bool
 
 // `more` value numbers go with the node that no node has.
 pub fn push_node(nodes: &mut [u32], p: &mut State, node: WideNode, more: u32) -> NodeId
-    requires { ⌜ more ≤ 65536 ⌝ }
+    requires { ⌜ more ≤ maxBytes ⌝ }
     ensures { λ r. ⌜ ((tokens types lists : List ℕ) (f : ℕ → Node) (rooms : ℕ) →
         let before = code (now (nodes .entry)) types lists (parserOf (now (p .entry))) in
         let after = code (now (nodes .exit)) types lists (parserOf (now (p .exit))) in
@@ -817,7 +819,7 @@ pub fn alloc_slice(lists: &mut [u32], p: &mut State, mark: u32, members: u32) ->
         let before = code nodes types (now (lists .entry)) (parserOf (now (p .entry))) in
         let after = code nodes types (now (lists .exit)) (parserOf (now (p .exit))) in
         Lists tokens allocSlice r 0 0 0 mark members before after)
-        × (r .len ≤ 65536) ⌝ }
+        × (r .len ≤ maxBytes) ⌝ }
 {
     let none = Run { start: 0, len: 0 };
     if !going(p) {
@@ -874,7 +876,7 @@ pub fn close(
         let before = code nodes types (now (lists .entry)) (parserOf (now (p .entry))) in
         let after = code nodes types (now (lists .exit)) (parserOf (now (p .exit))) in
         Lists (now (tokens .entry)) (closed stop) r 1 1 8 mark members before after)
-        × (r .len ≤ 65536) ⌝ }
+        × (r .len ≤ maxBytes) ⌝ }
 {
     expect(tokens, p, stop);
     alloc_slice(lists, p, mark, members)

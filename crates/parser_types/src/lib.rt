@@ -32,6 +32,7 @@ use tokens::Entry;
 ghost use mathlib.Core.Path.{_≡_};
 ghost use mathlib.Core.List.{List, [], _∷_, _++_};
 ghost use Prim.Native.Nat.{ℕ, _+_, _≤_, _<_};
+ghost use Rattle.lex.specs.Answer.{maxBytes};
 ghost use Rattle.lex.specs.Kind.{kCurlyRight};
 ghost use Rattle.tokens.specs.Table.{tokenOf};
 ghost use Rattle.rules.specs.Combinators.{listUntil};
@@ -170,7 +171,7 @@ fn typed_names(
         let after = code nodes (now (types .exit)) (now (lists .exit)) (parserOf (now (p .exit))) in
         ReadsList (now (tokens .entry))
         (listUntil stop (typedName (deeper rules levels))) before after r)
-        × (r .len ≤ 65536) ⌝ }
+        × (r .len ≤ maxBytes) ⌝ }
 {
     let mark = get_used(p).scratch;
     let mut members: u32 = 0;
@@ -323,7 +324,7 @@ pub fn parse_args(
         let after = code nodes (now (types .exit)) (now (lists .exit)) (parserOf (now (p .exit))) in
         ReadsList (now (tokens .entry)) (parseArgs (deeper rules levels))
         before after r)
-        × (r .len ≤ 65536) ⌝ }
+        × (r .len ≤ maxBytes) ⌝ }
 {
     expect(tokens, p, Type::BRACE_LEFT);
     typed_names(tokens, types, lists, p, Type::BRACE_RIGHT, levels)

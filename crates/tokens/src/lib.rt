@@ -2,6 +2,7 @@
 use lex::CLASS;
 use lex::Diagnostic;
 use lex::Fault;
+use lex::Lexer;
 use lex::MAX_BYTES;
 use lex::Refusal;
 use lex::Step;
@@ -18,7 +19,7 @@ ghost use Rattle.lex.specs.Answer.{maxBytes};
 ghost use Rattle.lex.specs.Bytes.{classTable};
 ghost use Rattle.lex.specs.Cells.{zeros, padded};
 ghost use Rattle.lex.specs.Kind.{sameBytes};
-ghost use Rattle.lex.specs.Lex.{cutAt, tokensOf, diagnosticOf};
+ghost use Rattle.lex.specs.Lex.{stepAt, cutAt, tokensOf, diagnosticOf};
 ghost use Rattle.tokens.specs.Tables.{tokenWidth, errorWidth, tokenRecord, errorRecord};
 ghost use Rattle.tokens.specs.Tables.{tokenTable, errorTable, promised, isCut};
 ghost use Rattle.tokens.specs.Table.{tokenAt, tokenOf, errorAt, occurrenceOf};
@@ -146,6 +147,23 @@ fn clear_from(a: &mut [u32], from: usize)
     }
 }
 
+// What stands at the position of a lexer. It holds a reference: so this function is thin, and
+// proved by hand.
+fn step_of<'c, 'l>(classes: &'c [u8; 256], lexer: Lexer<'l>) -> Step
+    requires { ⌜ now classes ≡ classTable ⌝ }
+    ensures { λ r. ⌜ r ≡ stepAt (now (lexer .entry .input)) (lexer .entry .pos) ⌝ }
+{
+    step_with(classes, lexer.input, lexer.pos)
+}
+
+// What stands at a position of the script: a lexer there is stepped.
+fn step_at(classes: &[u8; 256], script: &[u8], pos: usize) -> Step
+    requires { ⌜ now classes ≡ classTable ⌝ }
+    ensures { λ r. ⌜ r ≡ stepAt (now (script .entry)) pos ⌝ }
+{
+    step_of(classes, Lexer { input: script, pos })
+}
+
 // Where filling stopped: how many records it made, where it would go on, and whether the script has ended.
 struct Stop {
     tokens: usize,
@@ -171,7 +189,7 @@ fn fill(
     let mut m: usize = 0;
     let mut pos: usize = from;
     loop {
-        match step_with(classes, script, pos) {
+        match step_at(classes, script, pos) {
             Step::Token { token, next } => {
                 if tokens.len() < TOKEN_WIDTH * n + TOKEN_WIDTH {
                     return Stop {

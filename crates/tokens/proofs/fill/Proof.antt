@@ -20,8 +20,8 @@ loop-holds c =
     let start = c .before .before .before in
     (filled-start (start .args .script .now) (start .args .tokens .now) (start .args .errors .now) (start .args .from) (start .args .before) (start .pre .2), refl, refl)
 
-step-with-requires : tie.Need-step-with-requires Inv-loop μ-loop
-step-with-requires c κs = c .before .before .before .before .pre .0
+step-at-requires : tie.Need-step-at-requires Inv-loop μ-loop
+step-at-requires c κs = c .before .before .before .before .pre .0
 
 mul-if1 : tie.Need-mul-if1 Inv-loop μ-loop
 mul-if1 c = omega (arith, c .before .before .before .before .loop .inv .0 .tokensFit)
@@ -37,21 +37,21 @@ put-token-requires c κs =
     let c5 = c .before .before .before .before .before in
     let loop = c5 .before .loop in
     let args = c5 .before .before .before .before .before .args in
-    let b = step-bounds (args .script .now) (loop .pos) (omega arith) (sym (c5 .step-with .ensures) ∙ c .before .before .before .token .given .1) in
+    let b = step-bounds (args .script .now) (loop .pos) (omega arith) (sym (c5 .step-at .ensures) ∙ c .before .before .before .token .given .1) in
     (c .before .if1 .left, omega arith, b .0, b .1)
 
 add-n : tie.Need-add-n Inv-loop μ-loop
 add-n c = omega (arith, c .before .before .before .before .before .before .before .before .before .loop .inv .0 .tokensFit)
 
 loop-less : tie.Need-loop-less Inv-loop μ-loop
-loop-less c = less-token _ _ (sym (c .before .before .before .before .before .before .before .before .step-with .ensures) ∙ c .before .before .before .before .before .before .token .given .1)
+loop-less c = less-token _ _ (sym (c .before .before .before .before .before .before .before .before .step-at .ensures) ∙ c .before .before .before .before .before .before .token .given .1)
 
 loop-again : tie.Need-loop-again Inv-loop μ-loop
 loop-again c =
     let c8 = c .before .before .before .before .before .before .before .before in
     let loop = c8 .before .loop in
     let put = c .before .before .put-token in
-    (filled-token (loop .inv .0) (sym (c8 .step-with .ensures) ∙ c .before .before .before .before .before .before .token .given .1) (c .before .before .before .before .if1 .left) (put .ensures), omega (arith, put .kept), omega arith)
+    (filled-token (loop .inv .0) (sym (c8 .step-at .ensures) ∙ c .before .before .before .before .before .before .token .given .1) (c .before .before .before .before .if1 .left) (put .ensures), omega (arith, put .kept), omega arith)
 
 mul-if2 : tie.Need-mul-if2 Inv-loop μ-loop
 mul-if2 c = omega (arith, c .before .before .before .before .loop .inv .0 .errorsFit)
@@ -62,7 +62,7 @@ add-if2 c = omega (arith, c .before .before .before .before .loop .inv .0 .error
 returns-2 : tie.Need-returns-2 Inv-loop μ-loop
 returns-2 c =
     let c4 = c .before .before .before .before in
-    stops-errors (c4 .before .loop .inv .0) (sym (c4 .step-with .ensures) ∙ c .before .before .fault .given .1) (c .if2 .taken)
+    stops-errors (c4 .before .loop .inv .0) (sym (c4 .step-at .ensures) ∙ c .before .before .fault .given .1) (c .if2 .taken)
 
 add-put-error : tie.Need-add-put-error Inv-loop μ-loop
 add-put-error c = omega (arith, tokens-left (c .before .before .before .before .before .before .loop .inv .0))
@@ -72,21 +72,21 @@ put-error-requires c κs =
     let c5 = c .before .before .before .before .before in
     let loop = c5 .before .loop in
     let args = c5 .before .before .before .before .before .args in
-    let b = fault-bounds (args .script .now) (loop .pos) (omega arith) (sym (c5 .step-with .ensures) ∙ c .before .before .before .fault .given .1) in
+    let b = fault-bounds (args .script .now) (loop .pos) (omega arith) (sym (c5 .step-at .ensures) ∙ c .before .before .before .fault .given .1) in
     (c .before .if2 .left, b .0, b .1, omega (arith, tokens-left (loop .inv .0)))
 
 add-m : tie.Need-add-m Inv-loop μ-loop
 add-m c = omega (arith, c .before .before .before .before .before .before .before .before .before .loop .inv .0 .errorsFit)
 
 loop-less-2 : tie.Need-loop-less-2 Inv-loop μ-loop
-loop-less-2 c = less-fault _ _ (sym (c .before .before .before .before .before .before .before .before .step-with .ensures) ∙ c .before .before .before .before .before .before .fault .given .1)
+loop-less-2 c = less-fault _ _ (sym (c .before .before .before .before .before .before .before .before .step-at .ensures) ∙ c .before .before .before .before .before .before .fault .given .1)
 
 loop-again-2 : tie.Need-loop-again-2 Inv-loop μ-loop
 loop-again-2 c =
     let c8 = c .before .before .before .before .before .before .before .before in
     let loop = c8 .before .loop in
     let put = c .before .before .put-error in
-    (filled-fault (loop .inv .0) (sym (c8 .step-with .ensures) ∙ c .before .before .before .before .before .before .fault .given .1) (c .before .before .before .before .if2 .left) (put .ensures), omega arith, omega (arith, put .kept))
+    (filled-fault (loop .inv .0) (sym (c8 .step-at .ensures) ∙ c .before .before .before .before .before .before .fault .given .1) (c .before .before .before .before .if2 .left) (put .ensures), omega arith, omega (arith, put .kept))
 
 mul-if3 : tie.Need-mul-if3 Inv-loop μ-loop
 mul-if3 c = omega (arith, c .before .before .before .before .loop .inv .0 .tokensFit)
@@ -102,7 +102,7 @@ put-token-requires-2 c κs =
     let c5 = c .before .before .before .before .before in
     let loop = c5 .before .loop in
     let args = c5 .before .before .before .before .before .args in
-    (c .before .if3 .left, omega arith, end-bounds (args .script .now) (loop .pos) (loop .inv .0 .inside) (sym (c5 .step-with .ensures) ∙ c .before .before .before .at .given .1), omega arith)
+    (c .before .if3 .left, omega arith, end-bounds (args .script .now) (loop .pos) (loop .inv .0 .inside) (sym (c5 .step-at .ensures) ∙ c .before .before .before .at .given .1), omega arith)
 
 add-tokens : tie.Need-add-t31 Inv-loop μ-loop
 add-tokens c = omega (arith, c .before .before .before .before .before .before .before .before .before .loop .inv .0 .tokensFit)
@@ -111,7 +111,7 @@ returns-4 : tie.Need-returns-4 Inv-loop μ-loop
 returns-4 c =
     let c8 = c .before .before .before .before .before .before .before .before in
     let loop = c8 .before .loop in
-    stops-end (loop .inv .0) (sym (c8 .step-with .ensures) ∙ c .before .before .before .before .before .before .at .given .1) (c .before .before .before .before .if3 .left) (c .before .before .put-token2 .ensures)
+    stops-end (loop .inv .0) (sym (c8 .step-at .ensures) ∙ c .before .before .before .before .before .before .at .given .1) (c .before .before .before .before .if3 .left) (c .before .before .put-token2 .ensures)
 
 pub fill-spec : {M : Type 1} → statement M
 fill-spec =
@@ -120,7 +120,7 @@ fill-spec =
     Inv-loop
     μ-loop
     loop-holds
-    step-with-requires
+    step-at-requires
     (λ c. search needs)
     mul-if1
     add-if1
