@@ -20,13 +20,10 @@ typeWidth = 8
 abbrev pub diagnosticWidth : ℕ
 diagnosticWidth = 5
 
-<<<<<<< HEAD
 -- the list cells that are lent at least for each byte of the script
 abbrev pub cellsPerByte : ℕ
 cellsPerByte = 8
 
-=======
->>>>>>> dd4ff497f7bffe8e918613fe23fbdd3db2c9fbc5
 unfoldable pub tokenCells : Token → List ℕ
 tokenCells t = t .kind ∷ t .start ∷ t .len ∷ []
 

@@ -11,7 +11,7 @@ use Rattle.lex.specs.declared.tok.Token.{Token}
 use Rattle.tokens.specs.Table.{tokenOf, tokenAt, tokensFrom}
 use Rattle.tokens.specs.declared.Entry.{Entry}
 use Rattle.rules.specs.Tree.{State}
-use Rattle.ast.specs.Layout.{tokenCells, nodeWidth, typeWidth, nodeCells, typeCells}
+use Rattle.ast.specs.Layout.{tokenCells, nodeWidth, typeWidth, cellsPerByte, nodeCells, typeCells}
 use Rattle.lex.specs.Answer.{maxBytes}
 use Rattle.ast.specs.declared.Node.{Node}
 use Rattle.ast.specs.declared.Node.the-variants as N
