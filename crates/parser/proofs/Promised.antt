@@ -2,14 +2,15 @@
 use mathlib.Core.Path.{_≡_, refl, sym, ap, subst, _∙_}
 use mathlib.Core.Bool.{Bool, true, false}
 use mathlib.Core.List.{List, [], _++_, map, flatten}
-use Prim.Native.Nat.{ℕ, _+_, _*_, _-_, _≤_}
+use Prim.Native.Nat.{ℕ, zero, suc, _+_, _*_, _-_, _≤_}
 use native.Mathlib.Omega.{arith}
-use lib.Dec.{ltb}
+use lib.Dec.{eqb, ltb}
 use lib.ListN.{length, take}
-use borrow.Author.Tests.{ltb-false}
+use borrow.Author.Tests.{ltb-false, eqb-true, eqb-false}
 use Rattle.lex.specs.Answer.{maxBytes}
 use Rattle.lex.specs.Bytes.{or}
 use Rattle.lex.specs.Cells.{zeros, padded}
+use Rattle.lex.specs.Refusals.{rNotCut}
 use Rattle.lex.specs.declared.diagnostic.Diagnostic.{Diagnostic}
 use Rattle.tokens.specs.Tables as T
 use Rattle.tokens.specs.Tables.{tokenWidth, errorWidth, tokenTable, errorTable, isCut}
@@ -29,7 +30,7 @@ use Rattle.parser_state.specs.declared.Status.{Status}
 use Rattle.parser_state.proofs.Steps.{true≢false}
 use Rattle.parser_state.proofs.Cells.{nodes-length, types-length}
 use Rattle.diagnostics.proofs.Records.{cells-length}
-use Rattle.parser.specs.Whole.{RootsRead, refusal, behind, Begun, Holds, RootsEnd}
+use Rattle.parser.specs.Whole.{RootsRead, refusal, notRead, behind, Begun, Holds, RootsEnd}
 use Rattle.parser.specs.Collect.{RootsCollected, inOrder, CollectEnds}
 use Rattle.parser.specs.Steps.{turnedAway, anyTooShort, readPromised, WholeOutcome, parsePromised}
 
@@ -144,6 +145,12 @@ refusalOf script tokens errors l = refusal (length script) (length (l .nodes)) (
 choosingNumber : Bool → Bool → ℕ
 choosingNumber long short = elim long [ true ↦ 1 | false ↦ elim short [ true ↦ 2 | false ↦ 0 ] ]
 
+abbrev numberBy : Bool → ℕ → Bool → ℕ
+numberBy none n cut = elim none [ true ↦ elim cut [ true ↦ 0 | false ↦ rNotCut ] | false ↦ n ]
+
+abbrev numberOf : ℕ → Bool → ℕ
+numberOf n cut = numberBy (eqb n 0) n cut
+
 or-not : (a b : Bool) → or a b ≡ false → (a ≡ false) × (b ≡ false)
 unfolding or
 or-not true b e = absurd (true≢false refl e)
@@ -175,15 +182,6 @@ module _ (how : List ℕ → Reading) (script tokens errors : List ℕ) (l : Arr
   parse-by = refl
 
   -- a script that is refused
-  pub read-refused : (n : ℕ) → n ≡ refusalOf script tokens errors l → ¬ (n ≡ 0) → readPromised how script tokens errors l ≡ turnedAway n l
-  unfolding choosingNumber
-  read-refused n e some = read-by ∙ go (ltb maxBytes (length script)) (anyTooShort script tokens errors l) (isCut script tokens errors) (e ∙ refusal-by)
-    where
-      go : (long short cut : Bool) → n ≡ choosingNumber long short → reads long short cut ≡ turnedAway n l
-      go true short cut q = ap (λ (k : ℕ). turnedAway k l) (sym q)
-      go false true cut q = ap (λ (k : ℕ). turnedAway k l) (sym q)
-      go false false cut q = absurd (some q)
-
   pub parse-refused : (n : ℕ) → n ≡ refusalOf script tokens errors l → ¬ (n ≡ 0) → parsePromised how script tokens errors l ≡ record { answer = P.Refused n; arrays = l; tokens = tokens; errors = errors }
   unfolding choosingNumber
   parse-refused n e some = parse-by ∙ go (ltb maxBytes (length script)) (anyTooShort script tokens errors l) (e ∙ refusal-by)
@@ -192,6 +190,37 @@ module _ (how : List ℕ → Reading) (script tokens errors : List ℕ) (l : Arr
       go true short q = ap (λ (k : ℕ). record { answer = P.Refused k; arrays = l; tokens = tokens; errors = errors }) (sym q)
       go false true q = ap (λ (k : ℕ). record { answer = P.Refused k; arrays = l; tokens = tokens; errors = errors }) (sym q)
       go false false q = absurd (some q)
+
+  -- refused, or not the script's tables
+  abbrev notReadOf : ℕ
+  notReadOf = notRead script tokens errors (length (l .nodes)) (length (l .types)) (length (l .lists)) (length (l .roots)) (length (l .diagnostics))
+
+  not-read-by : notReadOf ≡ numberOf (refusalOf script tokens errors l) (isCut script tokens errors)
+  unfolding notRead
+  not-read-by = refl
+
+  pub read-turned-away : (n : ℕ) → n ≡ notReadOf → ¬ (n ≡ 0) → readPromised how script tokens errors l ≡ turnedAway n l
+  unfolding choosingNumber
+  read-turned-away n e some = read-by ∙ go (ltb maxBytes (length script)) (anyTooShort script tokens errors l) (isCut script tokens errors) (e ∙ not-read-by ∙ ap (λ (k : ℕ). numberOf k (isCut script tokens errors)) refusal-by)
+    where
+      go : (long short cut : Bool) → n ≡ numberOf (choosingNumber long short) cut → reads long short cut ≡ turnedAway n l
+      go true short cut q = ap (λ (k : ℕ). turnedAway k l) (sym q)
+      go false true cut q = ap (λ (k : ℕ). turnedAway k l) (sym q)
+      go false false false q = ap (λ (k : ℕ). turnedAway k l) (sym q)
+      go false false true q = absurd (some q)
+
+  -- neither
+  pub record ReadAccepted : Type 0 where
+    pub number : 0 ≡ refusalOf script tokens errors l
+    pub cut : isCut script tokens errors ≡ true
+
+  pub read-accepted : (n : ℕ) → n ≡ notReadOf → n ≡ 0 → ReadAccepted
+  read-accepted n e none = go (refusalOf script tokens errors l) (isCut script tokens errors) (eqb (refusalOf script tokens errors l) 0) refl refl refl (sym none ∙ e ∙ not-read-by)
+    where
+      go : (k : ℕ) (cut none : Bool) → refusalOf script tokens errors l ≡ k → isCut script tokens errors ≡ cut → eqb k 0 ≡ none → 0 ≡ numberBy none k cut → ReadAccepted
+      go k true true a b t q = record { number = sym (a ∙ eqb-true k 0 t); cut = b }
+      go k false true a b t q = absurd (omega arith)
+      go k cut false a b t q = absurd (eqb-false k 0 t (sym q))
 
   -- and one that is read
   pub record Accepted : Type 0 where
@@ -211,10 +240,6 @@ module _ (how : List ℕ → Reading) (script tokens errors : List ℕ) (l : Arr
       go false false a b q = let both = or-not (tooShort script l) (T.tooShort script tokens errors) b in record { small = ltb-false maxBytes (length script) a; enough = both .0; tables = both .1; not-long = a; not-short = b }
 
   module _ (a : Accepted) where
-    -- 43
-    pub not-cut : isCut script tokens errors ≡ false → readPromised how script tokens errors l ≡ turnedAway 43 l
-    not-cut e = read-by ∙ (λ i. reads (a .not-long i) (a .not-short i) (e i))
-
     pub is-read : isCut script tokens errors ≡ true → readPromised how script tokens errors l ≡ outcome (how script) l
     is-read e = read-by ∙ (λ i. reads (a .not-long i) (a .not-short i) (e i))
 

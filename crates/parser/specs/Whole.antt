@@ -9,9 +9,9 @@ use Rattle.lex.specs.Answer.{maxBytes}
 use Rattle.lex.specs.Bytes.{or}
 use Rattle.lex.specs.Cells.{zeros, padded}
 use Rattle.lex.specs.Kind.{kEof, kImport, kExtern, kLet, kFn, kMatch, kCurlyRight}
-use Rattle.lex.specs.Refusals.{rTooLong, rTooShort}
+use Rattle.lex.specs.Refusals.{rTooLong, rTooShort, rNotCut}
 use Rattle.lex.specs.declared.diagnostic.Diagnostic.{Diagnostic}
-use Rattle.tokens.specs.Tables.{tokenWidth, errorWidth, tokenTable}
+use Rattle.tokens.specs.Tables.{tokenWidth, errorWidth, tokenTable, isCut}
 use Rattle.tokens.specs.Table.{tokenOf, tokenAt}
 use Rattle.rules.specs.Tree.{State, Result, ok, err}
 use Rattle.rules.specs.Combinators.{Rule, _>>=_, pure, ifKind, withDocs, ControlFlow, continue, break, loop}
@@ -30,6 +30,12 @@ refusal n nodes types lists roots diagnostics tokens errors =
       | true ↦ rTooLong
       | false ↦ elim (or (or (ltb nodes (nodeWidth * n)) (or (ltb types (typeWidth * n)) (or (ltb lists (cellsPerByte * n)) (or (ltb roots n) (ltb diagnostics (diagnosticWidth * n)))))) (or (ltb tokens (tokenWidth * n + tokenWidth)) (ltb errors (errorWidth * n)))) [ true ↦ rTooShort | false ↦ 0 ]
     ]
+
+-- the same, and 43 where the tables are not the script's
+unfoldable pub notRead : List ℕ → List ℕ → List ℕ → ℕ → ℕ → ℕ → ℕ → ℕ → ℕ
+notRead script tokens errors nodes types lists roots diagnostics =
+    let n = refusal (length script) nodes types lists roots diagnostics (length tokens) (length errors) in
+    elim (eqb n 0) [ true ↦ elim (isCut script tokens errors) [ true ↦ 0 | false ↦ rNotCut ] | false ↦ n ]
 
 -- enough is lent, and the token table is the script's
 pub record Begun (script tokens ns ts ls rs : List ℕ) : Type 0 where

@@ -49,7 +49,7 @@ ghost use Rattle.rules.specs.Parse.{Gathered, begin, parseRoots, parse, recover
 ghost use Rattle.rules.specs.Promise.{arraysOf, outcome};
 ghost use Rattle.parser_state.specs.Represents.{parserOf, code, Represents, FailedAt};
 ghost use Rattle.parser_state.specs.Refines.{Refines, stackUnchanged, memberFollows};
-ghost use Rattle.parser.specs.Whole.{refusal, behind, Begun, FirstToken, RootPushed, RootsEnd, dropDocs};
+ghost use Rattle.parser.specs.Whole.{refusal, notRead, behind, Begun, FirstToken, RootPushed, RootsEnd, dropDocs};
 ghost use Rattle.parser.specs.Collect.{collected, GatheredAre, Room, TurnEnds, collectStep, CollectEnds};
 ghost use Rattle.parser.specs.Steps.{readPromised, parsePromised};
 
@@ -468,6 +468,42 @@ fn read_cut_collect(
 
 // ---- the calls
 
+// 1, 2 and 43, in this order; 0 where the tables are those of the script and all is long enough.
+fn not_read(
+    script: &[u8],
+    tokens: &[u32],
+    errors: &[u32],
+    nodes: usize,
+    types: usize,
+    lists: usize,
+    roots: usize,
+    diagnostics: usize,
+) -> u32
+    ensures { λ r.
+        ⌜ r
+        ≡ notRead (now (script .entry)) (now (tokens .entry)) (now (errors .entry)) nodes types lists
+        roots diagnostics ⌝ }
+{
+    let refused = refusal(
+        script.len(),
+        nodes,
+        types,
+        lists,
+        roots,
+        diagnostics,
+        tokens.len(),
+        errors.len(),
+    );
+    if refused != 0 {
+        return refused;
+    }
+    if is_cut(script, tokens, errors) {
+        0
+    } else {
+        Refusal::NOT_CUT
+    }
+}
+
 // A strict reading from the tables: 43 where they are not those that cutting the script gives.
 pub fn read(
     script: &[u8],
@@ -488,21 +524,18 @@ pub fn read(
         (now (errors .entry)) before
         ≡ record { answer = r; arrays = after } ⌝ }
 {
-    let refused = refusal(
-        script.len(),
+    let refused = not_read(
+        script,
+        tokens,
+        errors,
         nodes.len(),
         types.len(),
         lists.len(),
         roots.len(),
         diagnostics.len(),
-        tokens.len(),
-        errors.len(),
     );
     if refused != 0 {
         return Parsed::Refused(refused);
-    }
-    if !is_cut(script, tokens, errors) {
-        return Parsed::Refused(Refusal::NOT_CUT);
     }
     read_cut(script, tokens, nodes, types, lists, roots, diagnostics)
 }
@@ -527,21 +560,18 @@ pub fn read_collect(
         (now (errors .entry)) before
         ≡ record { answer = r; arrays = after } ⌝ }
 {
-    let refused = refusal(
-        script.len(),
+    let refused = not_read(
+        script,
+        tokens,
+        errors,
         nodes.len(),
         types.len(),
         lists.len(),
         roots.len(),
         diagnostics.len(),
-        tokens.len(),
-        errors.len(),
     );
     if refused != 0 {
         return Parsed::Refused(refused);
-    }
-    if !is_cut(script, tokens, errors) {
-        return Parsed::Refused(Refusal::NOT_CUT);
     }
     read_cut_collect(
         script,
