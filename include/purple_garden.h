@@ -24,7 +24,7 @@
  *   1, the script has over 65,536 bytes; 2, an array is shorter than its least length;
  *   3, the node, type or position asked about lies outside; 4, something visited is malformed;
  *   41, a line's buffer is too short; 42, the numbers are no error of a script;
- *   44, a sheet's buffer is too short;
+ *   43, the tables are not what cutting this script leaves; 44, a sheet's buffer is too short;
  *   47, over 16 lines of a practice sheet; 48, its buffer is too short;
  *   with 1 to 4 and 41 to 48 nothing that is lent changes;
  *   10 to 23, the script's own error, which ends the reading; 31 to 34 are only gathered, by
@@ -126,41 +126,19 @@ enum {
     PURPLE_GARDEN_KIND_RECORD         /* 43 */
 };
 
-/* Strict reading: the tree of the script, or the first error. Lengths count elements. Returns the
- * number, which `numbers[0]` has too.
- *   0: the arrays hold the tree, and zeros behind it. 10 to 23: every cell of the arrays is zero.
- *   1, 2: nothing changed, `numbers` neither. */
-uint32_t purple_garden_parse(const uint8_t *script, size_t script_len,
-                             uint32_t *nodes, size_t nodes_len,
-                             uint32_t *types, size_t types_len,
-                             uint32_t *lists, size_t lists_len,
-                             uint32_t *roots, size_t roots_len,
-                             uint32_t *diagnostics, size_t diagnostics_len,
-                             uint32_t numbers[12]);
+/* ---- cutting */
 
-/* Collecting reading: the tree of what could be read, and all errors of the script (11 to 23, 31 to
- * 34) in `diagnostics`, five cells each, as many as `numbers[PURPLE_GARDEN_DIAGNOSTICS]`. Returns 0
- * for a tree, whatever was gathered; 10, with every cell of the arrays zero; 1 or 2 as above. */
-uint32_t purple_garden_parse_collect(const uint8_t *script, size_t script_len,
-                                     uint32_t *nodes, size_t nodes_len,
-                                     uint32_t *types, size_t types_len,
-                                     uint32_t *lists, size_t lists_len,
-                                     uint32_t *roots, size_t roots_len,
-                                     uint32_t *diagnostics, size_t diagnostics_len,
-                                     uint32_t numbers[12]);
-
-/* ---- tokens */
-
-/* The cells of a record of tokens and of one of lexer errors. The least lengths of the two tables are
- * 4 cells for each byte of the script and 4 more, and 6 cells for each byte. They always suffice. */
+/* The cells of a record of tokens and of one of lexer errors. The least lengths of the two tables
+ * are 4 cells for each byte of the script and 4 more, and 6 cells for each byte. They always
+ * suffice. */
 #define PURPLE_GARDEN_TOKEN_CELLS 4
 #define PURPLE_GARDEN_ERROR_CELLS 6
 
 /* Cuts a script into its tokens and its lexer errors (31 to 34). A record of `tokens` is the kind,
- * the start, the length of the spelling and where the spelling begins: behind a string's quote, behind
- * a doc's `#!` and one blank, else at the start, also for a kind with a fixed spelling. The last token
- * is Eof. A record of `errors` is the five numbers of the error and how many tokens were cut before
- * it. `counts` gets how many records each table has; behind them lie zeros.
+ * the start, the length of the spelling and where the spelling begins: behind a string's quote,
+ * behind a doc's `#!` and one blank, else at the start, also for a kind with a fixed spelling. The
+ * last token is Eof. A record of `errors` is the five numbers of the error and how many tokens were
+ * cut before it. `counts` gets how many records each table has; behind them lie zeros.
  *   1, 2: nothing changed, `counts` neither. */
 uint32_t purple_garden_cut(const uint8_t *script, size_t script_len,
                            uint32_t *tokens, size_t tokens_len,
@@ -171,6 +149,67 @@ uint32_t purple_garden_cut(const uint8_t *script, size_t script_len,
 bool purple_garden_is_cut(const uint8_t *script, size_t script_len,
                           const uint32_t *tokens, size_t tokens_len,
                           const uint32_t *errors, size_t errors_len);
+
+/* ---- reading */
+
+/* Cutting and strict reading, one after the other: the tables of the script, and its tree or the
+ * first error. Lengths count elements. Both tables, of the least lengths above, and the five arrays
+ * are lent to be written. Returns the number, which `numbers[0]` has too. 1 is tested first, then
+ * 2, for all seven.
+ *   0: the arrays hold the tree, and zeros behind it. 10 to 23: every cell of the arrays is zero.
+ *   With both, the tables are as purple_garden_cut leaves them, with zeros behind.
+ *   1, 2: nothing changed, `numbers` neither. */
+uint32_t purple_garden_parse(const uint8_t *script, size_t script_len,
+                             uint32_t *tokens, size_t tokens_len,
+                             uint32_t *errors, size_t errors_len,
+                             uint32_t *nodes, size_t nodes_len,
+                             uint32_t *types, size_t types_len,
+                             uint32_t *lists, size_t lists_len,
+                             uint32_t *roots, size_t roots_len,
+                             uint32_t *diagnostics, size_t diagnostics_len,
+                             uint32_t numbers[12]);
+
+/* Cutting and collecting reading: the tables, the tree of what could be read, and all errors of the
+ * script (11 to 23, 31 to 34) in `diagnostics`, five cells each, as many as
+ * `numbers[PURPLE_GARDEN_DIAGNOSTICS]`. Returns 0 for a tree, whatever was gathered; 10, with every
+ * cell of the arrays zero; 1 or 2 as above. */
+uint32_t purple_garden_parse_collect(const uint8_t *script, size_t script_len,
+                                     uint32_t *tokens, size_t tokens_len,
+                                     uint32_t *errors, size_t errors_len,
+                                     uint32_t *nodes, size_t nodes_len,
+                                     uint32_t *types, size_t types_len,
+                                     uint32_t *lists, size_t lists_len,
+                                     uint32_t *roots, size_t roots_len,
+                                     uint32_t *diagnostics, size_t diagnostics_len,
+                                     uint32_t numbers[12]);
+
+/* Strict reading from tables that are there already, as purple_garden_cut or a call above left them
+ * for this script. They are only read. The zeros behind their records belong to them: lend them
+ * whole. Answer and arrays are those of purple_garden_parse. 1 is tested first, then 2, for all
+ * seven, then 43.
+ *   43: a table is not exactly what cutting this script leaves, zeros behind included.
+ *   1, 2, 43: nothing changed, `numbers` neither. */
+uint32_t purple_garden_read(const uint8_t *script, size_t script_len,
+                            const uint32_t *tokens, size_t tokens_len,
+                            const uint32_t *errors, size_t errors_len,
+                            uint32_t *nodes, size_t nodes_len,
+                            uint32_t *types, size_t types_len,
+                            uint32_t *lists, size_t lists_len,
+                            uint32_t *roots, size_t roots_len,
+                            uint32_t *diagnostics, size_t diagnostics_len,
+                            uint32_t numbers[12]);
+
+/* Collecting reading from such tables: answer and arrays are those of purple_garden_parse_collect;
+ * 1, 2 and 43 as above. */
+uint32_t purple_garden_read_collect(const uint8_t *script, size_t script_len,
+                                    const uint32_t *tokens, size_t tokens_len,
+                                    const uint32_t *errors, size_t errors_len,
+                                    uint32_t *nodes, size_t nodes_len,
+                                    uint32_t *types, size_t types_len,
+                                    uint32_t *lists, size_t lists_len,
+                                    uint32_t *roots, size_t roots_len,
+                                    uint32_t *diagnostics, size_t diagnostics_len,
+                                    uint32_t numbers[12]);
 
 /* ---- lookups and comparison */
 

@@ -5,13 +5,29 @@
 #[rustfmt::skip]
 unsafe extern "C" {
     fn purple_garden_parse(
-        script: *const u8, script_len: usize, nodes: *mut u32, nodes_len: usize,
+        script: *const u8, script_len: usize, tokens: *mut u32, tokens_len: usize,
+        errors: *mut u32, errors_len: usize, nodes: *mut u32, nodes_len: usize,
         types: *mut u32, types_len: usize, lists: *mut u32, lists_len: usize,
         roots: *mut u32, roots_len: usize, diagnostics: *mut u32, diagnostics_len: usize,
         numbers: *mut [u32; 12],
     ) -> u32;
     fn purple_garden_parse_collect(
-        script: *const u8, script_len: usize, nodes: *mut u32, nodes_len: usize,
+        script: *const u8, script_len: usize, tokens: *mut u32, tokens_len: usize,
+        errors: *mut u32, errors_len: usize, nodes: *mut u32, nodes_len: usize,
+        types: *mut u32, types_len: usize, lists: *mut u32, lists_len: usize,
+        roots: *mut u32, roots_len: usize, diagnostics: *mut u32, diagnostics_len: usize,
+        numbers: *mut [u32; 12],
+    ) -> u32;
+    fn purple_garden_read(
+        script: *const u8, script_len: usize, tokens: *const u32, tokens_len: usize,
+        errors: *const u32, errors_len: usize, nodes: *mut u32, nodes_len: usize,
+        types: *mut u32, types_len: usize, lists: *mut u32, lists_len: usize,
+        roots: *mut u32, roots_len: usize, diagnostics: *mut u32, diagnostics_len: usize,
+        numbers: *mut [u32; 12],
+    ) -> u32;
+    fn purple_garden_read_collect(
+        script: *const u8, script_len: usize, tokens: *const u32, tokens_len: usize,
+        errors: *const u32, errors_len: usize, nodes: *mut u32, nodes_len: usize,
         types: *mut u32, types_len: usize, lists: *mut u32, lists_len: usize,
         roots: *mut u32, roots_len: usize, diagnostics: *mut u32, diagnostics_len: usize,
         numbers: *mut [u32; 12],
@@ -84,27 +100,6 @@ pub enum Mode {
     Collecting,
 }
 
-/// A reading into the five arrays: its number. `numbers` gets it too, with the error's five numbers
-/// and the six counts, unless the call is refused.
-#[rustfmt::skip]
-#[inline]
-pub fn read(mode: Mode, script: &[u8], arrays: [&mut [u32]; 5], numbers: &mut [u32; 12]) -> u32 {
-    let call = match mode {
-        Mode::Strict => purple_garden_parse,
-        Mode::Collecting => purple_garden_parse_collect,
-    };
-    let [nodes, types, lists, roots, diagnostics] = arrays;
-    // SAFETY: each pointer comes with its slice's length; twelve cells for the answer.
-    unsafe {
-        call(
-            script.as_ptr(), script.len(), nodes.as_mut_ptr(), nodes.len(),
-            types.as_mut_ptr(), types.len(), lists.as_mut_ptr(), lists.len(),
-            roots.as_mut_ptr(), roots.len(), diagnostics.as_mut_ptr(), diagnostics.len(),
-            numbers,
-        )
-    }
-}
-
 /// The cells of a record of tokens, and of one of lexer errors.
 pub const TOKEN_CELLS: usize = 4;
 pub const ERROR_CELLS: usize = 6;
@@ -136,6 +131,55 @@ pub fn is_cut(script: &[u8], tokens: &[u32], errors: &[u32]) -> bool {
         purple_garden_is_cut(
             script.as_ptr(), script.len(), tokens.as_ptr(), tokens.len(),
             errors.as_ptr(), errors.len(),
+        )
+    }
+}
+
+/// Cutting into both tables and reading into the five arrays: the number. `numbers` gets it too, with
+/// the error's five numbers and the six counts, unless the call is refused.
+#[rustfmt::skip]
+#[inline]
+pub fn parse(
+    mode: Mode, script: &[u8], tables: [&mut [u32]; 2], arrays: [&mut [u32]; 5], numbers: &mut [u32; 12],
+) -> u32 {
+    let call = match mode {
+        Mode::Strict => purple_garden_parse,
+        Mode::Collecting => purple_garden_parse_collect,
+    };
+    let [tokens, errors] = tables;
+    let [nodes, types, lists, roots, diagnostics] = arrays;
+    // SAFETY: each pointer comes with its slice's length; twelve cells for the answer.
+    unsafe {
+        call(
+            script.as_ptr(), script.len(), tokens.as_mut_ptr(), tokens.len(),
+            errors.as_mut_ptr(), errors.len(), nodes.as_mut_ptr(), nodes.len(),
+            types.as_mut_ptr(), types.len(), lists.as_mut_ptr(), lists.len(),
+            roots.as_mut_ptr(), roots.len(), diagnostics.as_mut_ptr(), diagnostics.len(),
+            numbers,
+        )
+    }
+}
+
+/// The same from tables that cutting the script left: 43 where they are others.
+#[rustfmt::skip]
+#[inline]
+pub fn read(
+    mode: Mode, script: &[u8], tables: [&[u32]; 2], arrays: [&mut [u32]; 5], numbers: &mut [u32; 12],
+) -> u32 {
+    let call = match mode {
+        Mode::Strict => purple_garden_read,
+        Mode::Collecting => purple_garden_read_collect,
+    };
+    let [tokens, errors] = tables;
+    let [nodes, types, lists, roots, diagnostics] = arrays;
+    // SAFETY: each pointer comes with its slice's length; twelve cells for the answer.
+    unsafe {
+        call(
+            script.as_ptr(), script.len(), tokens.as_ptr(), tokens.len(),
+            errors.as_ptr(), errors.len(), nodes.as_mut_ptr(), nodes.len(),
+            types.as_mut_ptr(), types.len(), lists.as_mut_ptr(), lists.len(),
+            roots.as_mut_ptr(), roots.len(), diagnostics.as_mut_ptr(), diagnostics.len(),
+            numbers,
         )
     }
 }

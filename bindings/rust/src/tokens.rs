@@ -1,7 +1,8 @@
 //! A script cut into tokens.
 use crate::{ffi, Diagnostic, Error, Kind, Token, MAX_BYTES};
 
-/// A script and its tokens, Eof last, with what the lexer passed over as errors.
+/// A script and its tokens, Eof last, with what the lexer passed over as errors. [`Tree::read`](crate::Tree::read) and
+/// [`Tree::read_collect`](crate::Tree::read_collect) read its tree from them.
 ///
 /// ```
 /// use purple_garden_reader::{Kind, Tokens};
@@ -15,9 +16,8 @@ use crate::{ffi, Diagnostic, Error, Kind, Token, MAX_BYTES};
 /// # Ok::<(), purple_garden_reader::Error>(())
 /// ```
 pub struct Tokens {
-    script: Vec<u8>,
-    tokens: Vec<u32>,
-    errors: Vec<u32>,
+    pub(crate) script: Vec<u8>,
+    pub(crate) tables: ffi::Tables,
 }
 
 impl Tokens {
@@ -27,8 +27,8 @@ impl Tokens {
         if script.len() > MAX_BYTES {
             return Err(Error::TooLong { bytes: script.len() });
         }
-        let (tokens, errors) = ffi::cut(&script).unwrap_or_else(|number| panic!("refused with {number}, though the tables have their lengths"));
-        Ok(Tokens { script, tokens, errors })
+        let tables = ffi::Tables::cut(&script).unwrap_or_else(|number| panic!("refused with {number}, though the tables have their lengths"));
+        Ok(Tokens { script, tables })
     }
 
     pub fn script(&self) -> &[u8] {
@@ -37,7 +37,7 @@ impl Tokens {
 
     /// Each token with its spelling: of a string what stands between its quotes, of a doc its line.
     pub fn iter(&self) -> impl ExactSizeIterator<Item = (Token, &str)> {
-        self.tokens.chunks_exact(ffi::TOKEN_CELLS).map(|cells| {
+        self.tables.tokens().chunks_exact(ffi::TOKEN_CELLS).map(|cells| {
             let token = Token { kind: Kind::from_number(cells[0]).expect("a kind"), start: cells[1], len: cells[2] };
             let spelling = token.kind.fixed_spelling().unwrap_or_else(|| {
                 let bytes = &self.script[cells[3] as usize..][..token.len as usize];
@@ -49,7 +49,7 @@ impl Tokens {
 
     /// Each error of the lexer, and how many tokens were cut before it.
     pub fn errors(&self) -> impl ExactSizeIterator<Item = (Diagnostic, usize)> + '_ {
-        self.errors.chunks_exact(ffi::ERROR_CELLS).map(|cells| {
+        self.tables.errors().chunks_exact(ffi::ERROR_CELLS).map(|cells| {
             let [number, start, len, wanted, seen, before] = cells.try_into().expect("six cells");
             (Diagnostic::new(&self.script, [number, start, len, wanted, seen]), before as usize)
         })
