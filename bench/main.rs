@@ -16,24 +16,31 @@ use purple_garden_allocators::bump::Bump;
 use std::hint::black_box;
 use std::time::Instant;
 
-/// The five arrays, each of its least length for the script.
-struct Arrays([Vec<u32>; 5]);
+/// The five arrays and the two tables, each of its least length for the script.
+struct Arrays {
+    arrays: [Vec<u32>; 5],
+    tables: [Vec<u32>; 2],
+}
 
 impl Arrays {
     fn new(script: &[u8]) -> Self {
-        Arrays(c::CELLS.map(|cells| vec![0; cells * script.len()]))
+        Arrays {
+            arrays: c::CELLS.map(|cells| vec![0; cells * script.len()]),
+            tables: c::table_lengths(script.len()).map(|cells| vec![0; cells]),
+        }
     }
 
     /// What the reading answers: its number, and how many nodes it made.
     fn read(&mut self, script: &[u8]) -> (u32, u32) {
         let mut numbers = [0; 12];
-        let arrays = self.0.each_mut().map(Vec::as_mut_slice);
-        let number = c::read(Mode::Strict, script, arrays, &mut numbers);
+        let arrays = self.arrays.each_mut().map(Vec::as_mut_slice);
+        let [tokens, errors] = &mut self.tables;
+        let number = c::parse(Mode::Strict, script, tokens, errors, arrays, &mut numbers);
         (number, numbers[6])
     }
 
     fn clear(&mut self) {
-        for array in &mut self.0 {
+        for array in self.arrays.iter_mut().chain(&mut self.tables) {
             array.fill(0);
             black_box(array.as_mut_ptr());
         }

@@ -18,7 +18,7 @@ fn spelling_start(script: &[u8], start: usize, t: &Type<'_>) -> usize {
 }
 
 /// The records of both tables, by the Rust's lexer.
-fn tables(script: &[u8]) -> [Vec<u32>; 2] {
+pub fn tables(script: &[u8]) -> [Vec<u32>; 2] {
     let (mut lexer, numbered) = (Lexer::new(script), Script::new(script));
     let (mut tokens, mut errors) = (Vec::new(), Vec::new());
     loop {
