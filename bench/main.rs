@@ -34,8 +34,8 @@ impl Arrays {
     fn read(&mut self, script: &[u8]) -> (u32, u32) {
         let mut numbers = [0; 12];
         let arrays = self.arrays.each_mut().map(Vec::as_mut_slice);
-        let [tokens, errors] = &mut self.tables;
-        let number = c::parse(Mode::Strict, script, tokens, errors, arrays, &mut numbers);
+        let tables = self.tables.each_mut().map(Vec::as_mut_slice);
+        let number = c::parse(Mode::Strict, script, tables, arrays, &mut numbers);
         (number, numbers[6])
     }
 

@@ -52,7 +52,7 @@ impl Tree {
         let [mut tokens, mut errors] = c::table_lengths(script.len()).map(|cells| vec![0; cells]);
         let mut numbers = [0; 12];
         let arrays = [&mut nodes[..], &mut types, &mut lists, &mut roots, &mut diagnostics];
-        let number = c::parse(Mode::Strict, &script, &mut tokens, &mut errors, arrays, &mut numbers);
+        let number = c::parse(Mode::Strict, &script, [&mut tokens, &mut errors], arrays, &mut numbers);
         assert_eq!(number, 0, "error {:?} in {:?}", &numbers[1..6], String::from_utf8_lossy(&script[..script.len().min(80)]));
         Tree { script, nodes, types, lists, roots, counts: numbers[6..].try_into().unwrap() }
     }

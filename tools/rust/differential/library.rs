@@ -95,14 +95,14 @@ impl Lent {
 
     /// Cutting and reading.
     pub fn parse(&mut self, mode: Mode, script: &[u8]) -> u32 {
-        let (arrays, [tokens, errors], numbers) = self.all();
-        c::parse(mode, script, tokens, errors, arrays, numbers)
+        let (arrays, tables, numbers) = self.all();
+        c::parse(mode, script, tables, arrays, numbers)
     }
 
     /// Reading from the tables as they are.
     pub fn read(&mut self, mode: Mode, script: &[u8]) -> u32 {
         let (arrays, [tokens, errors], numbers) = self.all();
-        c::read(mode, script, tokens, errors, arrays, numbers)
+        c::read(mode, script, [tokens, errors], arrays, numbers)
     }
 
     fn lent<'a>(&'a self, script: &'a [u8]) -> c::Lent<'a> {
