@@ -1,6 +1,7 @@
 //! Times strict reading by the library (libc_api.a) beside the unchanged Rust, on the same scripts.
 //!
 //! bench [--table]                          a Markdown table
+//! bench --cut                              a Markdown table of cutting, beside the Rust's lexer alone
 //! bench --once INPUT BYTES COUNT READER    READER (rust, library or clear) reads one input COUNT times
 #![feature(allocator_api, portable_simd)]
 
@@ -15,24 +16,31 @@ use purple_garden_allocators::bump::Bump;
 use std::hint::black_box;
 use std::time::Instant;
 
-/// The five arrays, each of its least length for the script.
-struct Arrays([Vec<u32>; 5]);
+/// The five arrays and the two tables, each of its least length for the script.
+struct Arrays {
+    arrays: [Vec<u32>; 5],
+    tables: [Vec<u32>; 2],
+}
 
 impl Arrays {
     fn new(script: &[u8]) -> Self {
-        Arrays(c::CELLS.map(|cells| vec![0; cells * script.len()]))
+        Arrays {
+            arrays: c::CELLS.map(|cells| vec![0; cells * script.len()]),
+            tables: c::table_lengths(script.len()).map(|cells| vec![0; cells]),
+        }
     }
 
     /// What the reading answers: its number, and how many nodes it made.
     fn read(&mut self, script: &[u8]) -> (u32, u32) {
         let mut numbers = [0; 12];
-        let arrays = self.0.each_mut().map(Vec::as_mut_slice);
-        let number = c::read(Mode::Strict, script, arrays, &mut numbers);
+        let arrays = self.arrays.each_mut().map(Vec::as_mut_slice);
+        let tables = self.tables.each_mut().map(Vec::as_mut_slice);
+        let number = c::parse(Mode::Strict, script, tables, arrays, &mut numbers);
         (number, numbers[6])
     }
 
     fn clear(&mut self) {
-        for array in &mut self.0 {
+        for array in self.arrays.iter_mut().chain(&mut self.tables) {
             array.fill(0);
             black_box(array.as_mut_ptr());
         }
@@ -174,6 +182,37 @@ fn table() {
     }
 }
 
+/// Cutting and the test for it beside the Rust's lexer, which keeps none of its tokens.
+fn cut_table() {
+    println!("| input | bytes | tokens | Rust's lexer, ns/byte | cut | clearing | is_cut | cut without clearing / Rust | is_cut / Rust |");
+    println!("|---|---|---|---|---|---|---|---|---|");
+    for bytes in [1 << 10, 1 << 16] {
+        for (name, script) in inputs(bytes) {
+            let [mut table, mut errors] = c::table_lengths(script.len()).map(|cells| vec![0; cells]);
+            let mut counts = [0; 2];
+            let made = tokens(&script);
+            assert_eq!((c::cut(&script, &mut table, &mut errors, &mut counts), counts[0] as usize), (0, made), "{name}: the two differ");
+            let count = (NANOSECONDS / time(1, || { black_box(c::cut(black_box(&script), &mut table, &mut errors, &mut counts)); })).ceil() as usize;
+            let [mut by_rust, mut cutting, mut clearing, mut testing] = [f64::MAX; 4];
+            for _ in 0..ROUNDS {
+                by_rust = by_rust.min(time(count, || { black_box(tokens(black_box(&script))); }));
+                clearing = clearing.min(time(count, || {
+                    table.fill(0);
+                    errors.fill(0);
+                    black_box((table.as_mut_ptr(), errors.as_mut_ptr()));
+                }));
+                cutting = cutting.min(time(count, || { black_box(c::cut(black_box(&script), &mut table, &mut errors, &mut counts)); }));
+                testing = testing.min(time(count, || { black_box(c::is_cut(black_box(&script), &table, &errors)); }));
+            }
+            let n = script.len() as f64;
+            println!(
+                "| {name} | {} | {made} | {:.2} | {:.2} | {:.2} | {:.2} | {:.2} | {:.2} |",
+                script.len(), by_rust / n, cutting / n, clearing / n, testing / n, (cutting - clearing) / by_rust, testing / by_rust
+            );
+        }
+    }
+}
+
 fn once(name: &str, bytes: usize, count: usize, reader: &str) {
     let (_, script) = inputs(bytes).into_iter().find(|(n, _)| *n == name).expect("the name of an input");
     let mut rust = Rust { arena: Bump::new(1 << 26), scratch: Bump::new(1 << 26) };
@@ -192,12 +231,13 @@ fn main() {
     let words: Vec<String> = std::env::args().skip(1).collect();
     match words.iter().map(String::as_str).collect::<Vec<_>>()[..] {
         [] | ["--table"] => table(),
+        ["--cut"] => cut_table(),
         ["--once", name, bytes, count, reader] => once(name, bytes.parse().expect("a number"), count.parse().expect("a number"), reader),
         _ => usage(),
     }
 }
 
 fn usage() -> ! {
-    eprintln!("usage: bench [--table | --once INPUT BYTES COUNT rust|library|clear]");
+    eprintln!("usage: bench [--table | --cut | --once INPUT BYTES COUNT rust|library|clear]");
     std::process::exit(2)
 }

@@ -10,7 +10,7 @@
  *   `counts` and the arrays for an answer have the lengths that are written here.
  * - What a function writes to overlaps nothing else that is passed to it, and nobody else uses it
  *   during the call.
- * - There is stack enough. A reading takes up to 110 KB (the deepest nests measured took 105 KB), a
+ * - There is stack enough. A reading takes up to 120 KB (the deepest nests measured took 110.5), a
  *   lookup 16 KB on arrays of any depth, and a comparison of trees that readings returned 64 KB. A
  *   comparison of arrays that no reading made goes as deep as they do: nests in the last member of
  *   the last list take no more, any other 320 bytes a level, record types in one another 144. With
@@ -24,7 +24,7 @@
  *   1, the script has over 65,536 bytes; 2, an array is shorter than its least length;
  *   3, the node, type or position asked about lies outside; 4, something visited is malformed;
  *   41, a line's buffer is too short; 42, the numbers are no error of a script;
- *   44, a sheet's buffer is too short;
+ *   43, the tables are not what cutting this script leaves; 44, a sheet's buffer is too short;
  *   47, over 16 lines of a practice sheet; 48, its buffer is too short;
  *   with 1 to 4 and 41 to 48 nothing that is lent changes;
  *   10 to 23, the script's own error, which ends the reading; 31 to 34 are only gathered, by
@@ -33,6 +33,7 @@
 #ifndef PURPLE_GARDEN_H
 #define PURPLE_GARDEN_H
 
+#include <stdbool.h>
 #include <stddef.h>
 #include <stdint.h>
 
@@ -125,11 +126,42 @@ enum {
     PURPLE_GARDEN_KIND_RECORD         /* 43 */
 };
 
-/* Strict reading: the tree of the script, or the first error. Lengths count elements. Returns the
- * number, which `numbers[0]` has too.
+/* ---- cutting */
+
+/* The cells of a record of tokens and of one of lexer errors. The least lengths of the two tables
+ * are 4 cells for each byte of the script and 4 more, and 6 cells for each byte. They always
+ * suffice. */
+#define PURPLE_GARDEN_TOKEN_CELLS 4
+#define PURPLE_GARDEN_ERROR_CELLS 6
+
+/* Cuts a script into its tokens and its lexer errors (31 to 34). A record of `tokens` is the kind,
+ * the start, the length of the spelling and where the spelling begins: behind a string's quote,
+ * behind a doc's `#!` and one blank, else at the start, also for a kind with a fixed spelling. The
+ * last token is Eof. A record of `errors` is the five numbers of the error and how many tokens were
+ * cut before it. `counts` gets how many records each table has; behind them lie zeros.
+ *   1, 2: nothing changed, `counts` neither. */
+uint32_t purple_garden_cut(const uint8_t *script, size_t script_len,
+                           uint32_t *tokens, size_t tokens_len,
+                           uint32_t *errors, size_t errors_len, uint32_t counts[2]);
+
+/* Whether both tables are exactly what purple_garden_cut leaves in them for this script, the zeros
+ * behind included; false too where it would be refused. Writes nothing. */
+bool purple_garden_is_cut(const uint8_t *script, size_t script_len,
+                          const uint32_t *tokens, size_t tokens_len,
+                          const uint32_t *errors, size_t errors_len);
+
+/* ---- reading */
+
+/* Cutting and strict reading, one after the other: the tables of the script, and its tree or the
+ * first error. Lengths count elements. Both tables, of the least lengths above, and the five arrays
+ * are lent to be written. Returns the number, which `numbers[0]` has too. 1 is tested first, then
+ * 2, for all seven.
  *   0: the arrays hold the tree, and zeros behind it. 10 to 23: every cell of the arrays is zero.
+ *   With both, the tables are as purple_garden_cut leaves them, with zeros behind.
  *   1, 2: nothing changed, `numbers` neither. */
 uint32_t purple_garden_parse(const uint8_t *script, size_t script_len,
+                             uint32_t *tokens, size_t tokens_len,
+                             uint32_t *errors, size_t errors_len,
                              uint32_t *nodes, size_t nodes_len,
                              uint32_t *types, size_t types_len,
                              uint32_t *lists, size_t lists_len,
@@ -137,16 +169,49 @@ uint32_t purple_garden_parse(const uint8_t *script, size_t script_len,
                              uint32_t *diagnostics, size_t diagnostics_len,
                              uint32_t numbers[12]);
 
-/* Collecting reading: the tree of what could be read, and all errors of the script (11 to 23, 31 to
- * 34) in `diagnostics`, five cells each, as many as `numbers[PURPLE_GARDEN_DIAGNOSTICS]`. Returns 0
- * for a tree, whatever was gathered; 10, with every cell of the arrays zero; 1 or 2 as above. */
+/* Cutting and collecting reading: the tables, the tree of what could be read, and all errors of the
+ * script (11 to 23, 31 to 34) in `diagnostics`, five cells each, as many as
+ * `numbers[PURPLE_GARDEN_DIAGNOSTICS]`. Returns 0 for a tree, whatever was gathered; 10, with every
+ * cell of the arrays zero; 1 or 2 as above. */
 uint32_t purple_garden_parse_collect(const uint8_t *script, size_t script_len,
+                                     uint32_t *tokens, size_t tokens_len,
+                                     uint32_t *errors, size_t errors_len,
                                      uint32_t *nodes, size_t nodes_len,
                                      uint32_t *types, size_t types_len,
                                      uint32_t *lists, size_t lists_len,
                                      uint32_t *roots, size_t roots_len,
                                      uint32_t *diagnostics, size_t diagnostics_len,
                                      uint32_t numbers[12]);
+
+/* Strict reading from tables that are there already, as purple_garden_cut or a call above left them
+ * for this script. They are only read. The zeros behind their records belong to them: lend them
+ * whole. Answer and arrays are those of purple_garden_parse. 1 is tested first, then 2, for all
+ * seven, then 43.
+ *   43: a table is not exactly what cutting this script leaves, zeros behind included.
+ *   1, 2, 43: nothing changed, `numbers` neither. */
+uint32_t purple_garden_read(const uint8_t *script, size_t script_len,
+                            const uint32_t *tokens, size_t tokens_len,
+                            const uint32_t *errors, size_t errors_len,
+                            uint32_t *nodes, size_t nodes_len,
+                            uint32_t *types, size_t types_len,
+                            uint32_t *lists, size_t lists_len,
+                            uint32_t *roots, size_t roots_len,
+                            uint32_t *diagnostics, size_t diagnostics_len,
+                            uint32_t numbers[12]);
+
+/* Collecting reading from such tables: answer and arrays are those of purple_garden_parse_collect;
+ * 1, 2 and 43 as above. */
+uint32_t purple_garden_read_collect(const uint8_t *script, size_t script_len,
+                                    const uint32_t *tokens, size_t tokens_len,
+                                    const uint32_t *errors, size_t errors_len,
+                                    uint32_t *nodes, size_t nodes_len,
+                                    uint32_t *types, size_t types_len,
+                                    uint32_t *lists, size_t lists_len,
+                                    uint32_t *roots, size_t roots_len,
+                                    uint32_t *diagnostics, size_t diagnostics_len,
+                                    uint32_t numbers[12]);
+
+/* ---- lookups and comparison */
 
 /* The lookups and the comparison take the script, the arrays that a reading left and its six
  * counts. They take arrays from anywhere: what is malformed is refused with 4. They write their

@@ -68,10 +68,14 @@ int main(int argc, char **argv) {
     size_t nodes_len = PURPLE_GARDEN_NODE_CELLS * n, types_len = PURPLE_GARDEN_TYPE_CELLS * n;
     size_t lists_len = PURPLE_GARDEN_LIST_CELLS * n, roots_len = PURPLE_GARDEN_ROOT_CELLS * n;
     size_t diagnostics_len = PURPLE_GARDEN_DIAGNOSTIC_CELLS * n;
+    size_t tokens_len = PURPLE_GARDEN_TOKEN_CELLS * (n + 1);
+    size_t errors_len = PURPLE_GARDEN_ERROR_CELLS * n;
+    uint32_t *tokens = array(tokens_len), *errors = array(errors_len);
     uint32_t *nodes = array(nodes_len), *types = array(types_len), *lists = array(lists_len);
     uint32_t *roots = array(roots_len), *diagnostics = array(diagnostics_len);
     uint32_t numbers[PURPLE_GARDEN_NUMBERS] = {0};
-    uint32_t number = purple_garden_parse(script, n, nodes, nodes_len, types, types_len,
+    uint32_t number = purple_garden_parse(script, n, tokens, tokens_len, errors, errors_len,
+                                          nodes, nodes_len, types, types_len,
                                           lists, lists_len, roots, roots_len,
                                           diagnostics, diagnostics_len, numbers);
     uint64_t place[2];
@@ -99,6 +103,8 @@ int main(int argc, char **argv) {
         printf("root %u: node %u, line %lu, column %lu\n", (unsigned)i, (unsigned)roots[i],
                (unsigned long)place[0], (unsigned long)place[1]);
     }
+    free(tokens);
+    free(errors);
     free(nodes);
     free(types);
     free(lists);

@@ -5,17 +5,41 @@
 #[rustfmt::skip]
 unsafe extern "C" {
     fn purple_garden_parse(
-        script: *const u8, script_len: usize, nodes: *mut u32, nodes_len: usize,
+        script: *const u8, script_len: usize, tokens: *mut u32, tokens_len: usize,
+        errors: *mut u32, errors_len: usize, nodes: *mut u32, nodes_len: usize,
         types: *mut u32, types_len: usize, lists: *mut u32, lists_len: usize,
         roots: *mut u32, roots_len: usize, diagnostics: *mut u32, diagnostics_len: usize,
         numbers: *mut [u32; 12],
     ) -> u32;
     fn purple_garden_parse_collect(
-        script: *const u8, script_len: usize, nodes: *mut u32, nodes_len: usize,
+        script: *const u8, script_len: usize, tokens: *mut u32, tokens_len: usize,
+        errors: *mut u32, errors_len: usize, nodes: *mut u32, nodes_len: usize,
         types: *mut u32, types_len: usize, lists: *mut u32, lists_len: usize,
         roots: *mut u32, roots_len: usize, diagnostics: *mut u32, diagnostics_len: usize,
         numbers: *mut [u32; 12],
     ) -> u32;
+    fn purple_garden_read(
+        script: *const u8, script_len: usize, tokens: *const u32, tokens_len: usize,
+        errors: *const u32, errors_len: usize, nodes: *mut u32, nodes_len: usize,
+        types: *mut u32, types_len: usize, lists: *mut u32, lists_len: usize,
+        roots: *mut u32, roots_len: usize, diagnostics: *mut u32, diagnostics_len: usize,
+        numbers: *mut [u32; 12],
+    ) -> u32;
+    fn purple_garden_read_collect(
+        script: *const u8, script_len: usize, tokens: *const u32, tokens_len: usize,
+        errors: *const u32, errors_len: usize, nodes: *mut u32, nodes_len: usize,
+        types: *mut u32, types_len: usize, lists: *mut u32, lists_len: usize,
+        roots: *mut u32, roots_len: usize, diagnostics: *mut u32, diagnostics_len: usize,
+        numbers: *mut [u32; 12],
+    ) -> u32;
+    fn purple_garden_cut(
+        script: *const u8, script_len: usize, tokens: *mut u32, tokens_len: usize,
+        errors: *mut u32, errors_len: usize, counts: *mut [u32; 2],
+    ) -> u32;
+    fn purple_garden_is_cut(
+        script: *const u8, script_len: usize, tokens: *const u32, tokens_len: usize,
+        errors: *const u32, errors_len: usize,
+    ) -> bool;
     fn purple_garden_node_start(
         script: *const u8, script_len: usize, nodes: *const u32, nodes_len: usize,
         types: *const u32, types_len: usize, lists: *const u32, lists_len: usize,
@@ -76,20 +100,83 @@ pub enum Mode {
     Collecting,
 }
 
-/// A reading into the five arrays: its number. `numbers` gets it too, with the error's five numbers
-/// and the six counts, unless the call is refused.
+/// The cells of a record of tokens, and of one of lexer errors.
+pub const TOKEN_CELLS: usize = 4;
+pub const ERROR_CELLS: usize = 6;
+
+/// The least lengths of the tables of tokens and of lexer errors, for a script of `n` bytes.
+pub fn table_lengths(n: usize) -> [usize; 2] {
+    [TOKEN_CELLS * n + TOKEN_CELLS, ERROR_CELLS * n]
+}
+
+/// Cuts a script into both tables; `counts` gets how many records each has, unless it is refused.
 #[rustfmt::skip]
 #[inline]
-pub fn read(mode: Mode, script: &[u8], arrays: [&mut [u32]; 5], numbers: &mut [u32; 12]) -> u32 {
+pub fn cut(script: &[u8], tokens: &mut [u32], errors: &mut [u32], counts: &mut [u32; 2]) -> u32 {
+    // SAFETY: each pointer comes with its slice's length; two cells for the counts.
+    unsafe {
+        purple_garden_cut(
+            script.as_ptr(), script.len(), tokens.as_mut_ptr(), tokens.len(),
+            errors.as_mut_ptr(), errors.len(), counts,
+        )
+    }
+}
+
+/// Whether both tables are exactly what cutting leaves.
+#[rustfmt::skip]
+#[inline]
+pub fn is_cut(script: &[u8], tokens: &[u32], errors: &[u32]) -> bool {
+    // SAFETY: each pointer comes with its slice's length.
+    unsafe {
+        purple_garden_is_cut(
+            script.as_ptr(), script.len(), tokens.as_ptr(), tokens.len(),
+            errors.as_ptr(), errors.len(),
+        )
+    }
+}
+
+/// Cutting into both tables and reading into the five arrays: the number. `numbers` gets it too, with
+/// the error's five numbers and the six counts, unless the call is refused.
+#[rustfmt::skip]
+#[inline]
+pub fn parse(
+    mode: Mode, script: &[u8], tables: [&mut [u32]; 2], arrays: [&mut [u32]; 5], numbers: &mut [u32; 12],
+) -> u32 {
     let call = match mode {
         Mode::Strict => purple_garden_parse,
         Mode::Collecting => purple_garden_parse_collect,
     };
+    let [tokens, errors] = tables;
     let [nodes, types, lists, roots, diagnostics] = arrays;
     // SAFETY: each pointer comes with its slice's length; twelve cells for the answer.
     unsafe {
         call(
-            script.as_ptr(), script.len(), nodes.as_mut_ptr(), nodes.len(),
+            script.as_ptr(), script.len(), tokens.as_mut_ptr(), tokens.len(),
+            errors.as_mut_ptr(), errors.len(), nodes.as_mut_ptr(), nodes.len(),
+            types.as_mut_ptr(), types.len(), lists.as_mut_ptr(), lists.len(),
+            roots.as_mut_ptr(), roots.len(), diagnostics.as_mut_ptr(), diagnostics.len(),
+            numbers,
+        )
+    }
+}
+
+/// The same from tables that cutting the script left: 43 where they are others.
+#[rustfmt::skip]
+#[inline]
+pub fn read(
+    mode: Mode, script: &[u8], tables: [&[u32]; 2], arrays: [&mut [u32]; 5], numbers: &mut [u32; 12],
+) -> u32 {
+    let call = match mode {
+        Mode::Strict => purple_garden_read,
+        Mode::Collecting => purple_garden_read_collect,
+    };
+    let [tokens, errors] = tables;
+    let [nodes, types, lists, roots, diagnostics] = arrays;
+    // SAFETY: each pointer comes with its slice's length; twelve cells for the answer.
+    unsafe {
+        call(
+            script.as_ptr(), script.len(), tokens.as_ptr(), tokens.len(),
+            errors.as_ptr(), errors.len(), nodes.as_mut_ptr(), nodes.len(),
             types.as_mut_ptr(), types.len(), lists.as_mut_ptr(), lists.len(),
             roots.as_mut_ptr(), roots.len(), diagnostics.as_mut_ptr(), diagnostics.len(),
             numbers,

@@ -3,7 +3,7 @@ use crate::c::{self, Lent};
 use crate::{Error, Kind, Token, MAX_BYTES};
 use std::ops::Range;
 
-pub use crate::c::Mode;
+pub use crate::c::{Mode, ERROR_CELLS, TOKEN_CELLS};
 
 /// How many nodes, types, list cells, roots, values and diagnostics a reading made.
 pub struct Counts([u32; 6]);
@@ -52,6 +52,14 @@ fn answered<A>(number: u32, answer: A) -> Result<A, u32> {
     }
 }
 
+/// How a reading ended, by its number and its twelve numbers.
+fn ended(number: u32, numbers: [u32; 12]) -> Result<Counts, [u32; 5]> {
+    let [_, e0, e1, e2, e3, e4, counts @ ..] = numbers;
+    let refused = matches!(number, 1 | 2 | 43);
+    assert!(!refused, "refused with {number}, though the arrays have their lengths and the tables are the script's");
+    answered(number, Counts(counts)).map_err(|_| [e0, e1, e2, e3, e4])
+}
+
 impl Arrays {
     pub fn new(script: &[u8]) -> Result<Arrays, Error> {
         let n = script.len();
@@ -62,14 +70,23 @@ impl Arrays {
         Ok(Arrays { nodes, types, lists, roots, diagnostics })
     }
 
-    /// The counts, or the five numbers of the error.
-    pub fn read(&mut self, mode: Mode, script: &[u8]) -> Result<Counts, [u32; 5]> {
-        let mut numbers = [0; 12];
+    fn lend(&mut self) -> [&mut [u32]; 5] {
         let Arrays { nodes, types, lists, roots, diagnostics } = self;
-        let number = c::read(mode, script, [nodes, types, lists, roots, diagnostics], &mut numbers);
-        let [_, e0, e1, e2, e3, e4, counts @ ..] = numbers;
-        assert!(number == 0 || number >= 10, "refused with {number}, though the arrays have their lengths");
-        answered(number, Counts(counts)).map_err(|_| [e0, e1, e2, e3, e4])
+        [nodes, types, lists, roots, diagnostics]
+    }
+
+    /// Cutting and reading: the counts, or the five numbers of the error.
+    pub fn parse(&mut self, mode: Mode, script: &[u8]) -> Result<Counts, [u32; 5]> {
+        let (mut tables, mut numbers) = (Tables::new(script), [0; 12]);
+        let number = c::parse(mode, script, [&mut tables.tokens, &mut tables.errors], self.lend(), &mut numbers);
+        ended(number, numbers)
+    }
+
+    /// The same from the tables of the script.
+    pub fn read(&mut self, mode: Mode, script: &[u8], tables: &Tables) -> Result<Counts, [u32; 5]> {
+        let mut numbers = [0; 12];
+        let number = c::read(mode, script, [&tables.tokens, &tables.errors], self.lend(), &mut numbers);
+        ended(number, numbers)
     }
 
     fn lent<'a>(&'a self, script: &'a [u8], counts: &'a Counts) -> Lent<'a> {
@@ -98,6 +115,37 @@ impl Arrays {
         let mut same = [0];
         let number = self.lent(script, counts).same_shape(&other.lent(script2, counts2), &mut same);
         answered(number, same[0] == 1)
+    }
+}
+
+/// The tables of a script's tokens and lexer errors, of their least lengths. The zeros behind the
+/// records belong to them: a reading asks for these too.
+pub struct Tables {
+    tokens: Vec<u32>,
+    errors: Vec<u32>,
+    counts: [u32; 2],
+}
+
+impl Tables {
+    fn new(script: &[u8]) -> Tables {
+        let [tokens, errors] = c::table_lengths(script.len()).map(|cells| vec![0; cells]);
+        Tables { tokens, errors, counts: [0; 2] }
+    }
+
+    pub fn cut(script: &[u8]) -> Result<Tables, u32> {
+        let mut tables = Tables::new(script);
+        let number = c::cut(script, &mut tables.tokens, &mut tables.errors, &mut tables.counts);
+        answered(number, tables)
+    }
+
+    /// The records of the tokens.
+    pub fn tokens(&self) -> &[u32] {
+        &self.tokens[..c::TOKEN_CELLS * self.counts[0] as usize]
+    }
+
+    /// The records of the lexer errors.
+    pub fn errors(&self) -> &[u32] {
+        &self.errors[..c::ERROR_CELLS * self.counts[1] as usize]
     }
 }
 

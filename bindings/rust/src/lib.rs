@@ -20,9 +20,11 @@ mod node;
 mod span;
 pub mod practice;
 mod sheet;
+mod tokens;
 
 pub use error::{Diagnostic, Error, Problem};
 pub use kind::Kind;
+pub use tokens::Tokens;
 pub use node::{Case, Field, Function, List, Member, Node, NodeId, Parameter, Token, Type, TypeId};
 
 use ffi::Mode;
@@ -39,20 +41,38 @@ pub struct Tree {
 }
 
 impl Tree {
-    /// Strict reading: the tree, or the first error.
+    /// Strict reading: the tree, or the first error. The script is cut into tokens, and these are read.
     pub fn parse(script: impl Into<Vec<u8>>) -> Result<Tree, Error> {
-        Tree::read(Mode::Strict, script.into())
+        Tree::new(script.into(), |arrays, script| arrays.parse(Mode::Strict, script))
     }
 
     /// Collecting reading: the tree of what could be read, with all errors of the script as its diagnostics. Only a script that is too long or
     /// nested too deep has no tree.
     pub fn parse_collect(script: impl Into<Vec<u8>>) -> Result<Tree, Error> {
-        Tree::read(Mode::Collecting, script.into())
+        Tree::new(script.into(), |arrays, script| arrays.parse(Mode::Collecting, script))
     }
 
-    fn read(mode: Mode, script: Vec<u8>) -> Result<Tree, Error> {
+    /// Strict reading from tokens: what [`Tree::parse`] gives of their script.
+    ///
+    /// ```
+    /// use purple_garden_reader::{Tokens, Tree};
+    ///
+    /// let tokens = Tokens::cut("let x = a -1")?;
+    /// assert!(Tree::read(&tokens)?.same_shape(&Tree::parse("let x = a -1")?));
+    /// # Ok::<(), purple_garden_reader::Error>(())
+    /// ```
+    pub fn read(tokens: &Tokens) -> Result<Tree, Error> {
+        Tree::new(tokens.script.clone(), |arrays, script| arrays.read(Mode::Strict, script, &tokens.tables))
+    }
+
+    /// Collecting reading from tokens: what [`Tree::parse_collect`] gives of their script.
+    pub fn read_collect(tokens: &Tokens) -> Result<Tree, Error> {
+        Tree::new(tokens.script.clone(), |arrays, script| arrays.read(Mode::Collecting, script, &tokens.tables))
+    }
+
+    fn new(script: Vec<u8>, read: impl FnOnce(&mut ffi::Arrays, &[u8]) -> Result<ffi::Counts, [u32; 5]>) -> Result<Tree, Error> {
         let mut arrays = ffi::Arrays::new(&script)?;
-        match arrays.read(mode, &script) {
+        match read(&mut arrays, &script) {
             Ok(counts) => Ok(Tree { script, arrays, counts }),
             Err(numbers) => Err(Error::Script(Diagnostic::new(&script, numbers))),
         }

@@ -1,7 +1,7 @@
 -- Where a tree's records lie in the lent arrays.
 use mathlib.Core.List.{List, [], _∷_, _++_}
-use Prim.Native.Nat.{ℕ, _-_}
-use lib.ListN.{length, replicate}
+use Prim.Native.Nat.{ℕ}
+pub use Rattle.lex.specs.Cells.{zeros, padded}
 use Rattle.lex.specs.declared.diagnostic.Diagnostic.{Diagnostic}
 use Rattle.lex.specs.declared.tok.Token.{Token}
 use Rattle.ast.specs.declared.Run.{Run}
@@ -19,13 +19,6 @@ typeWidth = 8
 
 abbrev pub diagnosticWidth : ℕ
 diagnosticWidth = 5
-
-abbrev pub zeros : ℕ → List ℕ
-zeros n = replicate n 0
-
--- zeros behind, up to a length
-abbrev pub padded : ℕ → List ℕ → List ℕ
-padded n xs = xs ++ zeros (n - length xs)
 
 -- the list cells that are lent at least for each byte of the script
 abbrev pub cellsPerByte : ℕ

@@ -21,9 +21,11 @@ use Rattle.text.proofs.EmitLaws.{and-left}
 use Rattle.words.specs.Words.{isScriptError, isWanted, isSeen, hasWords, errorOf}
 use Rattle.words.proofs.Forms.{script-error-two-digits}
 use Rattle.words.proofs.Readings.{errorIn, Described, strict-described, collecting-described}
-use Rattle.c_api.specs.Numbers.{numberCells, readingCells, Returned, asNumbers}
+use Rattle.parser.specs.Steps.{readPromised, parsePromised}
+use Rattle.c_api.specs.Numbers.{numberCells, readingCells, Returned, asNumbers, bothNumbers}
+use Rattle.c_api.proofs.Calls.{Steps, both, second, due, of-all}
 
--- a reading is refused with 1 or 2 alone
+-- with 1 or 2 alone is it refused
 pub record Small (o : Outcome) : Type 0 where
   pub refusal : (n : ℕ) → o .answer ≡ P.Refused n → (1 ≤ n) × (n ≤ 2)
 
@@ -75,11 +77,48 @@ told o out d s = record { error = error (o .answer) refl; gathered = gathered (o
     gathered (P.Error x) e z i h = absurd (let k = number-large x (d .error x e) in omega arith)
     gathered (P.Refused n) e z i h = absurd (let k = s .refusal n e in omega arith)
 
-module _ (script : List ℕ) (l : Arrays) (out : List ℕ) where
+module _ (script tokens errors : List ℕ) (l : Arrays) (out : List ℕ) where
+  module _ (how : List ℕ → Reading) where
+    small-both : Small (due both how script tokens errors l)
+    small-both =
+        of-all how script tokens errors l both Small (refused-small how script l 1 (omega arith) (omega arith)) (refused-small how script l 2 (omega arith) (omega arith))
+        (λ u. absurd (let z : _≡_ {A = ℕ} 0 1 = cc in omega arith)) (small how script l)
+
+    -- 43 is the only other refusal
+    abbrev Other43 : Outcome → Type 0
+    Other43 o = (numbersOf (o .answer) .number ≡ 43 → ⊥) → Small o
+
+    small-second : Other43 (due second how script tokens errors l)
+    unfolding numbersOf
+    small-second =
+        of-all how script tokens errors l second Other43 (λ h. refused-small how script l 1 (omega arith) (omega arith)) (λ h. refused-small how script l 2 (omega arith) (omega arith))
+        (λ u h. absurd (h refl)) (λ h. small how script l)
+
+    due-described : (steps : Steps) → Described (promised how script l) → Described (due steps how script tokens errors l)
+    due-described steps h = of-all how script tokens errors l steps Described (refused-described 1) (refused-described 2) (λ u. refused-described 43) h
+      where
+        refused-described : (n : ℕ) → Described (record { answer = P.Refused n; arrays = l })
+        refused-described n = record {
+          error = λ e p. absurd (let z : _≡_ {A = ℕ} 0 1 = cc in omega arith);
+          gathered = λ c p i k. absurd (let z : _≡_ {A = ℕ} 0 1 = cc in omega arith);
+        }
+
   -- `purple_garden_parse`
-  pub parse-told : Told (asNumbers (promised (parse stageOne) script l) out)
-  parse-told = told (promised (parse stageOne) script l) out (strict-described stageOne script l) (small (parse stageOne) script l)
+  pub parse-told : Told (bothNumbers (parsePromised (parse stageOne) script tokens errors l) out .reading)
+  unfolding bothNumbers
+  parse-told = told (due both (parse stageOne) script tokens errors l) out (due-described (parse stageOne) both (strict-described stageOne script l)) (small-both (parse stageOne))
 
   -- `purple_garden_parse_collect`, whose script is made of bytes
-  pub parse-collect-told : plain script ≡ true → Told (asNumbers (promised (parseCollect stageOne) script l) out)
-  parse-collect-told bytes = told (promised (parseCollect stageOne) script l) out (collecting-described stageOne script l bytes) (small (parseCollect stageOne) script l)
+  pub parse-collect-told : plain script ≡ true → Told (bothNumbers (parsePromised (parseCollect stageOne) script tokens errors l) out .reading)
+  unfolding bothNumbers
+  parse-collect-told bytes = told (due both (parseCollect stageOne) script tokens errors l) out (due-described (parseCollect stageOne) both (collecting-described stageOne script l bytes)) (small-both (parseCollect stageOne))
+
+  -- `purple_garden_read`: all but 43 as `purple_garden_parse`
+  pub read-told : (asNumbers (readPromised (parse stageOne) script tokens errors l) out .number ≡ 43 → ⊥) → Told (asNumbers (readPromised (parse stageOne) script tokens errors l) out)
+  unfolding asNumbers
+  read-told h = told (due second (parse stageOne) script tokens errors l) out (due-described (parse stageOne) second (strict-described stageOne script l)) (small-second (parse stageOne) h)
+
+  -- `purple_garden_read_collect`, likewise
+  pub read-collect-told : plain script ≡ true → (asNumbers (readPromised (parseCollect stageOne) script tokens errors l) out .number ≡ 43 → ⊥) → Told (asNumbers (readPromised (parseCollect stageOne) script tokens errors l) out)
+  unfolding asNumbers
+  read-collect-told bytes h = told (due second (parseCollect stageOne) script tokens errors l) out (due-described (parseCollect stageOne) second (collecting-described stageOne script l bytes)) (small-second (parseCollect stageOne) h)

@@ -1,6 +1,7 @@
--- Demand 3 of what is delivered: what `parser::parse` and `parser::parse_collect` ensure of two
--- readings and `compare::same_shape` of the arrays that these leave, composed with unique reading.
-use mathlib.Core.Path.{_≡_, sym, ap, ap₂}
+-- Demand 3 of what is delivered: what the four readings of `parser` (`parse`, `parse_collect`, `read`,
+-- `read_collect`) ensure of two readings and `compare::same_shape` of the arrays that these leave,
+-- composed with unique reading.
+use mathlib.Core.Path.{_≡_, refl, sym, ap, ap₂, _∙_}
 use mathlib.Core.Bool.{Bool, true}
 use mathlib.Core.List.{List}
 use Prim.Native.Nat.{ℕ}
@@ -21,24 +22,45 @@ use Rattle.compare.specs.Compare.{compare, comparisonAnswer}
 use Rattle.compare.specs.Returned.{Mode, strict, reading, returned, YesOrNo, yes, no}
 use Rattle.compare.specs.declared.Comparison.{Comparison}
 use Rattle.compare.proofs.Held.{strict-read, compared}
+use Rattle.parser.specs.Steps.{turnedAway}
+use Rattle.c_api.proofs.Calls.{Steps, due, of-all}
 
--- a reading of the script has left these arrays and counts, whatever the arrays held before: what
--- `parse` and `parse_collect` ensure
+-- a reading of the script has left these arrays and counts, whatever arrays and tables held before:
+-- what the four ensure
 pub record Read (mode : Mode) (script : List ℕ) (left : Arrays) (counts : Counts) : Type 0 where
+  pub steps : Steps
+  pub tokens : List ℕ
+  pub errors : List ℕ
   pub lent : Arrays
-  pub ensured : promised (reading mode) script lent ≡ record { answer = P.Tree counts; arrays = left }
+  pub ensured : due steps (reading mode) script tokens errors lent ≡ record { answer = P.Tree counts; arrays = left }
+
+read-promised : (mode : Mode) (script : List ℕ) (left : Arrays) (counts : Counts) (r : Read mode script left counts) → promised (reading mode) script (r .lent) ≡ record { answer = P.Tree counts; arrays = left }
+read-promised mode script left counts r =
+    of-all (reading mode) script (r .tokens) (r .errors) (r .lent) (r .steps) same (λ p. refused 1 p) (λ p. refused 2 p) (λ u p. refused 43 p) (λ p. refl) (ap (λ (o : Outcome). o .answer) (r .ensured)) ∙ r .ensured
+  where
+    same : Outcome → Type 0
+    same o = o .answer ≡ P.Tree counts → promised (reading mode) script (r .lent) ≡ o
+
+    refused : (n : ℕ) → P.Refused n ≡ P.Tree counts → promised (reading mode) script (r .lent) ≡ turnedAway n (r .lent)
+    refused n p = absurd (let z : _≡_ {A = ℕ} 0 1 = cc in omega arith)
 
 abbrev pub lentBy : List ℕ → Arrays → Counts → Lent
 lentBy script l c = lent script (l .nodes) (l .types) (l .lists) (l .roots) c
 
 module _ (m₁ m₂ : Mode) (s₁ s₂ : List ℕ) (l₁ l₂ : Arrays) (c₁ c₂ : Counts) (first : Read m₁ s₁ l₁ c₁) (second : Read m₂ s₂ l₂ c₂) where
+  first′ : promised (reading m₁) s₁ (first .lent) ≡ record { answer = P.Tree c₁; arrays = l₁ }
+  first′ = read-promised m₁ s₁ l₁ c₁ first
+
+  second′ : promised (reading m₂) s₂ (second .lent) ≡ record { answer = P.Tree c₂; arrays = l₂ }
+  second′ = read-promised m₂ s₂ l₂ c₂ second
+
   as-returned : compare (lentBy s₁ l₁ c₁) (lentBy s₂ l₂ c₂) ≡ compare (returned m₁ s₁ (first .lent) c₁) (returned m₂ s₂ (second .lent) c₂)
-  as-returned = ap₂ (λ (o p : Outcome). compare (lentBy s₁ (o .arrays) c₁) (lentBy s₂ (p .arrays) c₂)) (sym (first .ensured)) (sym (second .ensured))
+  as-returned = ap₂ (λ (o p : Outcome). compare (lentBy s₁ (o .arrays) c₁) (lentBy s₂ (p .arrays) c₂)) (sym first′) (sym second′)
 
   -- of two readings, each in either mode: the comparison of their trees is yes or no, and yes
   -- exactly where the shapes are the same
   pub compared-trees : (t₁ : Tree) × (t₂ : Tree) × (es₁ : List Diagnostic) × (es₂ : List Diagnostic) × (reading m₁ s₁ ≡ read t₁ es₁) × (reading m₂ s₂ ≡ read t₂ es₂) × YesOrNo s₁ t₁ s₂ t₂ (compare (lentBy s₁ l₁ c₁) (lentBy s₂ l₂ c₂))
-  compared-trees = rw as-returned (compared m₁ m₂ s₁ s₂ (first .lent) (second .lent) c₁ c₂ (ap (λ (o : Outcome). o .answer) (first .ensured)) (ap (λ (o : Outcome). o .answer) (second .ensured)))
+  compared-trees = rw as-returned (compared m₁ m₂ s₁ s₂ (first .lent) (second .lent) c₁ c₂ (ap (λ (o : Outcome). o .answer) first′) (ap (λ (o : Outcome). o .answer) second′))
 
   -- and so is what `same_shape` answers
   pub answers : (x : Comparison) → comparisonAnswer x ≡ compare (lentBy s₁ l₁ c₁) (lentBy s₂ l₂ c₂)

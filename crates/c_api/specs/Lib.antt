@@ -1,4 +1,5 @@
 -- What the exported functions return and write.
 pub mod LexerCells
 pub mod Numbers
+pub mod Tables
 pub mod Texts

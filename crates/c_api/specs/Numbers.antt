@@ -7,6 +7,7 @@ use Prim.Native.Nat.{ℕ}
 use lib.ListN.{getD}
 use Rattle.ast.specs.Layout.{diagnosticCells}
 use Rattle.rules.specs.Promise.{Arrays, Outcome, Numbers, numbersOf}
+use Rattle.parser.specs.Steps.{WholeOutcome}
 use Rattle.ast.specs.declared.Counts.{Counts}
 use Rattle.ast.specs.declared.Parsed.{Parsed}
 use Rattle.ast.specs.declared.Parsed.the-variants as P
@@ -51,6 +52,24 @@ asNumbers o out =
       number = numbersOf (o .answer) .number;
       numbers = readingCells (o .answer) out;
       arrays = o .arrays;
+    }
+
+-- of both steps: the same, and the tables as they are left
+pub record BothReturned : Type 0 where
+  pub reading : Returned
+  pub tokens : List ℕ
+  pub errors : List ℕ
+
+-- the answer and the arrays of both steps
+abbrev pub readingOf : WholeOutcome → Outcome
+readingOf o = record { answer = o .answer; arrays = o .arrays }
+
+unfoldable pub bothNumbers : WholeOutcome → List ℕ → BothReturned
+bothNumbers o out =
+    record {
+      reading = asNumbers (readingOf o) out;
+      tokens = o .tokens;
+      errors = o .errors;
     }
 
 -- ---- a lookup or a comparison

@@ -1,5 +1,6 @@
 // The reader for programs in other languages: readings, lookups and comparison on numbers and
 // slices.
+mod cutting;
 mod describe;
 mod lexer;
 mod places;
@@ -20,6 +21,8 @@ use lookups::node_start;
 use lookups::type_token;
 use parser::parse;
 use parser::parse_collect;
+use parser::read;
+use parser::read_collect;
 use positions::Position;
 use positions::Span;
 use positions::SpanRead;
@@ -28,14 +31,15 @@ ghost use mathlib.Core.Path.{_≡_};
 ghost use Rattle.rules.specs.Rules.{stageOne};
 ghost use Rattle.ast.specs.Layout.{tokenCells};
 ghost use Rattle.rules.specs.Parse.{parse, parseCollect};
-ghost use Rattle.rules.specs.Promise.{arraysOf, promised, numbersOf};
+ghost use Rattle.rules.specs.Promise.{arraysOf, numbersOf};
+ghost use Rattle.parser.specs.Steps.{readPromised, parsePromised};
 ghost use Rattle.ast.specs.Answer.{lent};
 ghost use Rattle.lookups.specs.Lookup.{nodeStart, typeToken, startAnswer, typeTokenAnswer};
 ghost use Rattle.positions.specs.Span.{tokenSpan};
 ghost use Rattle.positions.specs.Position.{placeAt};
 ghost use Rattle.compare.specs.Compare.{compare, comparisonAnswer};
-ghost use Rattle.c_api.specs.Numbers.{countsAt, readingCells, asNumbers, startCells};
-ghost use Rattle.c_api.specs.Numbers.{spanCells, placeCells, yesCells, Answers};
+ghost use Rattle.c_api.specs.Numbers.{countsAt, readingCells, asNumbers, bothNumbers};
+ghost use Rattle.c_api.specs.Numbers.{startCells, spanCells, placeCells, yesCells, Answers};
 
 // ---- readings
 
@@ -85,10 +89,12 @@ fn put_numbers(numbers: &mut [u32; 12], answer: Parsed) -> u32
     }
 }
 
-// Strict reading: the tree, or the first error.
+// Cutting and strict reading: both tables, and the tree or the first error.
 #[no_mangle]
 pub extern "C" fn purple_garden_parse(
     script: &[u8],
+    tokens: &mut [u32],
+    errors: &mut [u32],
     nodes: &mut [u32],
     types: &mut [u32],
     lists: &mut [u32],
@@ -105,18 +111,36 @@ pub extern "C" fn purple_garden_parse(
         arraysOf (now (nodes .exit)) (now (types .exit)) (now (lists .exit))
         (now (roots .exit)) (now (diagnostics .exit))
         in
-        let due = promised (parse stageOne) (now (script .entry)) before in
-        ⌜ asNumbers due (now (numbers .entry))
-        ≡ record { number = r; numbers = now (numbers .exit); arrays = after } ⌝ }
+        let due =
+        parsePromised (parse stageOne) (now (script .entry)) (now (tokens .entry))
+        (now (errors .entry)) before
+        in
+        ⌜ bothNumbers due (now (numbers .entry))
+        ≡ record {
+          reading = record { number = r; numbers = now (numbers .exit); arrays = after };
+          tokens = now (tokens .exit);
+          errors = now (errors .exit);
+        } ⌝ }
 {
-    let answer = parse(script, nodes, types, lists, roots, diagnostics);
+    let answer = parse(
+        script,
+        tokens,
+        errors,
+        nodes,
+        types,
+        lists,
+        roots,
+        diagnostics,
+    );
     put_numbers(numbers, answer)
 }
 
-// Collecting reading: the tree with all errors of the script.
+// Cutting and collecting reading: both tables, and the tree with all errors of the script.
 #[no_mangle]
 pub extern "C" fn purple_garden_parse_collect(
     script: &[u8],
+    tokens: &mut [u32],
+    errors: &mut [u32],
     nodes: &mut [u32],
     types: &mut [u32],
     lists: &mut [u32],
@@ -133,11 +157,111 @@ pub extern "C" fn purple_garden_parse_collect(
         arraysOf (now (nodes .exit)) (now (types .exit)) (now (lists .exit))
         (now (roots .exit)) (now (diagnostics .exit))
         in
-        let due = promised (parseCollect stageOne) (now (script .entry)) before in
+        let due =
+        parsePromised (parseCollect stageOne) (now (script .entry)) (now (tokens .entry))
+        (now (errors .entry)) before
+        in
+        ⌜ bothNumbers due (now (numbers .entry))
+        ≡ record {
+          reading = record { number = r; numbers = now (numbers .exit); arrays = after };
+          tokens = now (tokens .exit);
+          errors = now (errors .exit);
+        } ⌝ }
+{
+    let answer = parse_collect(
+        script,
+        tokens,
+        errors,
+        nodes,
+        types,
+        lists,
+        roots,
+        diagnostics,
+    );
+    put_numbers(numbers, answer)
+}
+
+// Strict reading from tables that cutting the script left: the tree, or the first error.
+#[no_mangle]
+pub extern "C" fn purple_garden_read(
+    script: &[u8],
+    tokens: &[u32],
+    errors: &[u32],
+    nodes: &mut [u32],
+    types: &mut [u32],
+    lists: &mut [u32],
+    roots: &mut [u32],
+    diagnostics: &mut [u32],
+    numbers: &mut [u32; 12],
+) -> u32
+    ensures { λ r.
+        let before =
+        arraysOf (now (nodes .entry)) (now (types .entry)) (now (lists .entry))
+        (now (roots .entry)) (now (diagnostics .entry))
+        in
+        let after =
+        arraysOf (now (nodes .exit)) (now (types .exit)) (now (lists .exit))
+        (now (roots .exit)) (now (diagnostics .exit))
+        in
+        let due =
+        readPromised (parse stageOne) (now (script .entry)) (now (tokens .entry))
+        (now (errors .entry)) before
+        in
         ⌜ asNumbers due (now (numbers .entry))
         ≡ record { number = r; numbers = now (numbers .exit); arrays = after } ⌝ }
 {
-    let answer = parse_collect(script, nodes, types, lists, roots, diagnostics);
+    let answer = read(
+        script,
+        tokens,
+        errors,
+        nodes,
+        types,
+        lists,
+        roots,
+        diagnostics,
+    );
+    put_numbers(numbers, answer)
+}
+
+// Collecting reading from such tables: the tree with all errors of the script.
+#[no_mangle]
+pub extern "C" fn purple_garden_read_collect(
+    script: &[u8],
+    tokens: &[u32],
+    errors: &[u32],
+    nodes: &mut [u32],
+    types: &mut [u32],
+    lists: &mut [u32],
+    roots: &mut [u32],
+    diagnostics: &mut [u32],
+    numbers: &mut [u32; 12],
+) -> u32
+    ensures { λ r.
+        let before =
+        arraysOf (now (nodes .entry)) (now (types .entry)) (now (lists .entry))
+        (now (roots .entry)) (now (diagnostics .entry))
+        in
+        let after =
+        arraysOf (now (nodes .exit)) (now (types .exit)) (now (lists .exit))
+        (now (roots .exit)) (now (diagnostics .exit))
+        in
+        let due =
+        readPromised (parseCollect stageOne) (now (script .entry)) (now (tokens .entry))
+        (now (errors .entry)) before
+        in
+        ⌜ asNumbers due (now (numbers .entry))
+        ≡ record { number = r; numbers = now (numbers .exit); arrays = after } ⌝ }
+{
+    let answer = read_collect(
+        script,
+        tokens,
+        errors,
+        nodes,
+        types,
+        lists,
+        roots,
+        diagnostics,
+    );
     put_numbers(numbers, answer)
 }
 

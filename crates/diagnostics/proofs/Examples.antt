@@ -3,34 +3,27 @@
 use mathlib.Core.Path.{_≡_, refl}
 use mathlib.Core.List.{List, [], _∷_, foldl}
 use Prim.Native.Nat.{ℕ}
-use Rattle.lex.specs.Bytes.{or, between, isWs, isDigit, isIdentStart, isIdentCont, countWhile, differsFrom, before, findByte}
-use Rattle.lex.specs.Kind.{sameBytes, keywords, nameKind, punctuators, punctuatorKinds, punctuatorKind}
-use Rattle.lex.specs.Lex.{beginsComment, skipped, punctuator, punctuation, name, symbol, piece, standsAt, stepAt, diagnosticOf}
+use Rattle.lex.specs.Lex.{Occurrence}
 use Rattle.lex.specs.declared.diagnostic.Diagnostic.{Diagnostic}
 use Rattle.ast.specs.Layout.{diagnosticCells}
 use Rattle.diagnostics.specs.Records.{diagnostics, pushed}
-use Rattle.diagnostics.specs.Faults.{faultsFrom, faultsBetween}
+use Rattle.diagnostics.specs.Faults.{diagnosticsIn, early, late}
 
 -- an unknown `$`
 abbrev unknown : ℕ → Diagnostic
 unknown at = record { number = 33; start = at; len = 1; wanted = 0; seen = 36 }
 
--- `$ a $`
-abbrev script : List ℕ
-script = 36 ∷ 32 ∷ 97 ∷ 32 ∷ 36 ∷ []
+-- before any token, before token 1 and before token 3
+abbrev faultsMet : List Occurrence
+faultsMet = record { after = 0; diagnostic = unknown 0 } ∷ record { after = 1; diagnostic = unknown 4 } ∷ record { after = 3; diagnostic = unknown 8 } ∷ []
 
 pub faults :
-    -- up to the name, from the name on, and all
-    (faultsBetween script 0 3 ≡ unknown 0 ∷ [])
-    × (faultsBetween script 3 5 ≡ unknown 4 ∷ [])
-    × (faultsBetween script 0 5 ≡ unknown 0 ∷ unknown 4 ∷ [])
-    -- none where nothing is left
-    × (faultsBetween script 3 3 ≡ [])
-    × (faultsBetween script 7 9 ≡ [])
-unfolding
-    faultsBetween faultsFrom diagnosticOf stepAt standsAt skipped beginsComment isWs or piece isIdentStart between isDigit name isIdentCont countWhile nameKind keywords sameBytes
-    symbol punctuation punctuator punctuatorKind punctuators punctuatorKinds findByte before differsFrom
-faults = (refl, refl, refl, refl, refl)
+    (diagnosticsIn (early 0 faultsMet) ≡ unknown 0 ∷ [])
+    × (diagnosticsIn (early 2 faultsMet) ≡ unknown 0 ∷ unknown 4 ∷ [])
+    × (diagnosticsIn (late 2 faultsMet) ≡ unknown 8 ∷ [])
+    × (late 3 faultsMet ≡ [])
+unfolding early late
+faults = (refl, refl, refl, refl)
 
 pub pushes :
     -- a record in six cells; three in eleven, of which the last has no room

@@ -3,14 +3,14 @@
 -- Assumes nothing.
 use mathlib.Core.Path.{_≡_, refl, _∙_, sym, ap}
 use mathlib.Core.List.{List, [], _∷_, _++_, map, flatten, foldl, append-assoc, append-nil}
-use Prim.Native.Nat.{ℕ, suc, _+_, _*_, _-_, _≤_, _<_}
+use Prim.Native.Nat.{ℕ, suc, _+_, _*_, _≤_, _<_}
 use native.Mathlib.Omega.{arith}
-use lib.ListN.{length, take, drop, set, length-append, length-replicate, replicate-append-replicate}
-use lib.Seq.{sets-eq, take-at, drop-append-add}
+use lib.ListN.{length, take, drop, set, length-append, length-drop}
+use lib.Seq.{sets-eq, take-at, length-take-le}
 use borrow.Author.Tests.{lt-ltb, le-ltb, le-leb, lt-leb}
 use Rattle.lex.specs.declared.diagnostic.Diagnostic.{Diagnostic}
-use Rattle.ast.specs.Layout.{zeros, padded, diagnosticCells}
-use Rattle.diagnostics.specs.Records.{Diagnostics, diagnostics, holding, maxCount, pushed}
+use Rattle.ast.specs.Layout.{diagnosticCells}
+use Rattle.diagnostics.specs.Records.{Diagnostics, diagnostics, Holding, maxCount, pushed}
 
 -- ---- one record
 
@@ -55,38 +55,38 @@ unfolding flatten diagnosticCells
 cells-length [] = refl
 cells-length (d ∷ ds) = omega (arith, cells-length ds)
 
-module _ (size : ℕ) where
-  holding-one : (ds : List Diagnostic) (d : Diagnostic) → 5 * length ds + 5 ≤ size → length ds < maxCount → pushed (holding size ds) d ≡ holding size (ds ++ (d ∷ []))
-  unfolding flatten diagnosticCells
-  holding-one ds d h k =
-      let n : ℕ = length ds in
-      let z : ℕ = size - 5 * n in
-      let front : List ℕ = flatten (map diagnosticCells ds) in
-      let wide : length front ≡ 5 * n = cells-length ds in
-      let room : 5 * n + 5 ≤ length (front ++ zeros z) = omega (arith, length-append front (zeros z), length-replicate {A = ℕ} z 0) in
-      let split : zeros z ≡ zeros 5 ++ zeros (z - 5) = let sum : z ≡ 5 + (z - 5) = omega arith in ap zeros sum ∙ sym (replicate-append-replicate 5 (z - 5) 0) in
-      let before : take (5 * n) (front ++ zeros z) ≡ front = take-at front (zeros z) (5 * n) wide in
-      let behind : drop (5 * n + 5) (front ++ zeros z) ≡ zeros (z - 5) =
-      ap (λ (m : ℕ). drop (m + 5) (front ++ zeros z)) (sym wide) ∙ drop-append-add front (zeros z) 5 ∙ ap (drop 5) split in
-      let more : front ++ diagnosticCells d ≡ flatten (map diagnosticCells (ds ++ (d ∷ []))) = sym (cells-append ds (d ∷ [])) in
-      let count : n + 1 ≡ length (ds ++ (d ∷ [])) = sym (length-append ds (d ∷ [])) in
-      let left : z - 5 ≡ size - 5 * length (ds ++ (d ∷ [])) = omega arith in
-      pushed-room (front ++ zeros z) n d k room ∙ rw (before, behind) (λ i. diagnostics (more i ++ zeros (left i)) (count i))
+holding-one : {a : Diagnostics} {ds : List Diagnostic} (d : Diagnostic) → Holding a ds → 5 * length ds + 5 ≤ length (a .cells) → length ds < maxCount → Holding (pushed a d) (ds ++ (d ∷ []))
+unfolding flatten diagnosticCells
+holding-one {a} {ds} d h k few =
+    let n : ℕ = length ds in
+    let front : List ℕ = flatten (map diagnosticCells ds) in
+    let wide : length front ≡ 5 * n = cells-length ds in
+    let made : pushed a d ≡ diagnostics (take (5 * n) (a .cells) ++ diagnosticCells d ++ drop (5 * n + 5) (a .cells)) (n + 1) =
+    ap (λ (j : ℕ). pushed (diagnostics (a .cells) j) d) (h .counted) ∙ pushed-room (a .cells) n d few k in
+    let before : take (5 * n) (a .cells) ≡ front = ap (take (5 * n)) (h .laid) ∙ take-at front (h .behind) (5 * n) wide in
+    record {
+      behind = drop (5 * n + 5) (a .cells);
+      laid = ap (λ (x : Diagnostics). x .cells) made ∙ ap (λ (l : List ℕ). l ++ diagnosticCells d ++ drop (5 * n + 5) (a .cells)) before
+          ∙ ap (λ (l : List ℕ). l ++ drop (5 * n + 5) (a .cells)) (sym (cells-append ds (d ∷ [])));
+      counted = ap (λ (x : Diagnostics). x .count) made ∙ sym (length-append ds (d ∷ []));
+    }
 
-  -- what is pushed is held behind what was held
-  pub holding-pushed : (ds xs : List Diagnostic) → 5 * (length ds + length xs) ≤ size → length ds + length xs ≤ maxCount → foldl pushed (holding size ds) xs ≡ holding size (ds ++ xs)
-  holding-pushed ds [] h k = ap (holding size) (sym (append-nil ds))
-  holding-pushed ds (x ∷ xs) h k =
-      let n : length (ds ++ (x ∷ [])) ≡ length ds + 1 = length-append ds (x ∷ []) in
-      ap (λ (a : Diagnostics). foldl pushed a xs) (holding-one ds x (omega arith) (omega arith))
-      ∙ holding-pushed (ds ++ (x ∷ [])) xs (omega arith) (omega arith)
-      ∙ ap (holding size) (append-assoc ds (x ∷ []) xs)
+pushed-length : {a : Diagnostics} {ds : List Diagnostic} (d : Diagnostic) → Holding a ds → 5 * length ds + 5 ≤ length (a .cells) → length ds < maxCount → length (pushed a d .cells) ≡ length (a .cells)
+unfolding diagnosticCells
+pushed-length {a} {ds} d h k few =
+    let n : ℕ = length ds in
+    let made : pushed a d ≡ diagnostics (take (5 * n) (a .cells) ++ diagnosticCells d ++ drop (5 * n + 5) (a .cells)) (n + 1) =
+    ap (λ (j : ℕ). pushed (diagnostics (a .cells) j) d) (h .counted) ∙ pushed-room (a .cells) n d few k in
+    omega (arith, ap (λ (x : Diagnostics). length (x .cells)) made ∙ length-append (take (5 * n) (a .cells) ++ diagnosticCells d) (drop (5 * n + 5) (a .cells)), length-append (take (5 * n) (a .cells)) (diagnosticCells d), length-take-le (5 * n) (a .cells) (omega arith), length-drop (5 * n + 5) (a .cells))
 
-  -- an array of zeros holds nothing
-  pub holding-none : diagnostics (zeros size) 0 ≡ holding size []
-  unfolding flatten
-  holding-none = let all : size ≡ size - 5 * 0 = omega arith in ap (λ (n : ℕ). diagnostics (zeros n) 0) all
+-- what is pushed is held behind what was held
+pub holding-pushed : {a : Diagnostics} {ds : List Diagnostic} (xs : List Diagnostic) → Holding a ds → 5 * (length ds + length xs) ≤ length (a .cells) → length ds + length xs ≤ maxCount → Holding (foldl pushed a xs) (ds ++ xs)
+holding-pushed {a} {ds} [] h k few = rw (append-nil ds) h
+holding-pushed {a} {ds} (x ∷ xs) h k few =
+    let n : length (ds ++ (x ∷ [])) ≡ length ds + 1 = length-append ds (x ∷ []) in
+    rw (← append-assoc ds (x ∷ []) xs) (holding-pushed xs (holding-one x h (omega arith) (omega arith)) (omega (arith, pushed-length x h (omega arith) (omega arith))) (omega arith))
 
-  -- what lies in it is what the promise says
-  pub holding-padded : (ds : List Diagnostic) → holding size ds .cells ≡ padded size (flatten (map diagnosticCells ds))
-  holding-padded ds = ap (λ (n : ℕ). flatten (map diagnosticCells ds) ++ zeros (size - n)) (sym (cells-length ds))
+-- an array holds nothing at first
+pub holding-none : {cells : List ℕ} → Holding (diagnostics cells 0) []
+unfolding flatten
+holding-none {cells} = record { behind = cells; laid = refl; counted = refl }

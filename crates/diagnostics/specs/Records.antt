@@ -1,11 +1,12 @@
 -- The diagnostics array: a record is pushed behind those in use.
+use mathlib.Core.Path.{_≡_}
 use mathlib.Core.Bool.{true, false}
 use mathlib.Core.List.{List, _++_, map, flatten}
-use Prim.Native.Nat.{ℕ, _+_, _*_, _-_}
+use Prim.Native.Nat.{ℕ, _+_, _*_}
 use lib.Dec.{leb, ltb}
 use lib.ListN.{length, take, drop}
 use Rattle.lex.specs.declared.diagnostic.Diagnostic.{Diagnostic}
-use Rattle.ast.specs.Layout.{diagnosticWidth, zeros, diagnosticCells}
+use Rattle.ast.specs.Layout.{diagnosticWidth, diagnosticCells}
 
 -- the array's cells, and how many of its records are in use
 pub record Diagnostics : Type 0 where
@@ -15,11 +16,11 @@ pub record Diagnostics : Type 0 where
 abbrev pub diagnostics : List ℕ → ℕ → Diagnostics
 diagnostics cells n = record { cells = cells; count = n }
 
--- an array of `size` cells that holds `ds`, with zeros behind them
-abbrev pub holding : ℕ → List Diagnostic → Diagnostics
-holding size ds =
-    diagnostics (flatten (map diagnosticCells ds) ++ zeros (size - diagnosticWidth * length ds))
-    (length ds)
+-- an array that holds `ds`, whatever lies behind them
+pub record Holding (a : Diagnostics) (ds : List Diagnostic) : Type 0 where
+  pub behind : List ℕ
+  pub laid : a .cells ≡ flatten (map diagnosticCells ds) ++ behind
+  pub counted : a .count ≡ length ds
 
 -- the greatest count, for it has 32 bits
 abbrev pub maxCount : ℕ

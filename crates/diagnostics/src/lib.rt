@@ -2,13 +2,13 @@
 // in which they are met.
 use ast::DIAGNOSTIC_WIDTH;
 use lex::Diagnostic;
-use lex::Fault;
-use lex::Step;
+use tokens::ERROR_WIDTH;
+use tokens::error_at;
 ghost use mathlib.Core.Path.{_≡_};
-ghost use mathlib.Core.List.{map, foldl};
-ghost use Rattle.lex.specs.Lex.{diagnosticOf};
+ghost use mathlib.Core.List.{foldl};
+ghost use Rattle.tokens.specs.Table.{errorsFrom};
 ghost use Rattle.diagnostics.specs.Records.{diagnostics as diagnosticsOf, pushed};
-ghost use Rattle.diagnostics.specs.Faults.{faultsBetween, low as lowOf, lowDiagnostic};
+ghost use Rattle.diagnostics.specs.Faults.{diagnosticsIn, early, late};
 
 // Writes record `n` and answers how many there are then. Nothing changes where it has no room.
 pub fn push_diagnostic(diagnostics: &mut [u32], n: u32, d: Diagnostic) -> u32
@@ -31,44 +31,42 @@ pub fn push_diagnostic(diagnostics: &mut [u32], n: u32, d: Diagnostic) -> u32
     n + 1
 }
 
-// The low 32 bits.
-fn low(n: usize) -> u32
-    ensures { λ r. ⌜ r ≡ lowOf n ⌝ }
-{
-    (n % 4294967296) as u32
+// How many diagnostics there are, and how many records of the error table are among them.
+pub struct Listed {
+    pub diagnostics: u32,
+    pub errors: usize,
 }
 
-// What the array holds of a fault.
-fn diagnostic_of(f: Fault) -> Diagnostic
-    ensures { λ r. ⌜ r ≡ lowDiagnostic (diagnosticOf f) ⌝ }
-{
-    Diagnostic {
-        number: f.number,
-        start: low(f.start),
-        len: low(f.len),
-        wanted: 0,
-        seen: f.seen as u32,
-    }
-}
-
-// The faults that are met from one position on until another is reached.
-pub fn push_faults(script: &[u8], diagnostics: &mut [u32], n: u32, from: usize, to: usize) -> u32
+// The faults from record `from` of the error table on that are met before the token of record `at`.
+pub fn push_faults(errors: &[u32], diagnostics: &mut [u32], n: u32, from: usize, at: u32) -> Listed
     ensures { λ r.
         let before = diagnosticsOf (now (diagnostics .entry)) n in
-        let faults = map lowDiagnostic (faultsBetween (now (script .entry)) from to) in
-        ⌜ diagnosticsOf (now (diagnostics .exit)) r ≡ foldl pushed before faults ⌝ }
+        let after = diagnosticsOf (now (diagnostics .exit)) (r .diagnostics) in
+        let faults = errorsFrom (now (errors .entry)) from in
+        ⌜ (after ≡ foldl pushed before (diagnosticsIn (early at faults)))
+        × (errorsFrom (now (errors .entry)) (r .errors) ≡ late at faults) ⌝ }
 {
     let mut count = n;
-    let mut pos = from;
-    while pos < to {
-        match lex::step(script, pos) {
-            Step::Token { token: _, next } => pos = next,
-            Step::Fault { fault, next } => {
-                count = push_diagnostic(diagnostics, count, diagnostic_of(fault));
-                pos = next;
-            }
-            Step::End { at: _ } => return count,
+    let mut i = from;
+    while i < errors.len() / ERROR_WIDTH {
+        let e = error_at(errors, i);
+        if e.error.number == 0 {
+            return Listed {
+                diagnostics: count,
+                errors: i,
+            };
         }
+        if at < e.after {
+            return Listed {
+                diagnostics: count,
+                errors: i,
+            };
+        }
+        count = push_diagnostic(diagnostics, count, e.error);
+        i += 1;
     }
-    count
+    Listed {
+        diagnostics: count,
+        errors: i,
+    }
 }

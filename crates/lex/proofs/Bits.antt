@@ -1,24 +1,34 @@
 -- The bits of a byte's class: each is set where the byte has the property, shown at all 256 bytes
 -- by a table that antt computes. A greater number has none.
 -- Assumes nothing.
-use mathlib.Core.Path.{_≡_, refl, _∙_, sym}
+use mathlib.Core.Path.{_≡_, refl, _∙_, sym, ap}
 use mathlib.Core.Bool.{Bool, true, false, not, _||_}
-use Prim.Native.Nat.{ℕ, _<_, _≤_}
+use mathlib.Core.List.{List, [], _∷_}
+use Prim.Native.Nat.{ℕ, zero, suc, _<_, _≤_}
 use native.Mathlib.Omega.{arith}
 use lib.Bits.{bitAnd, bitOr}
 use lib.Dec.{leb, ltb, eqb}
 use lib.ListN.{getD}
 use borrow.Author.Tests.{le-leb, lt-leb, leb-true, ltb-true, ltb-false, ne-eqb}
-use Rattle.lex.specs.Bytes.{classOf, bit, isLetter, isIdentCont, isIdentStart, isDigit, isNumCont, isWs, or, between}
+use Rattle.lex.specs.Bytes.{classOf, classesFrom, classTable, bit, isLetter, isIdentCont, isIdentStart, isDigit, isNumCont, isWs, or, between}
 use Rattle.lex.proofs.Laws.{cases, table, table-at, agree, at-each}
 
--- the table that the code has
-pub classes : (b : ℕ) → b < 256 → getD (table classOf 0 256) b 0 ≡ classOf b
-classes b h = table-at classOf 0 256 b h
+classes-from : (b n : ℕ) → classesFrom b n ≡ table classOf b n
+classes-from b zero = refl
+classes-from b (suc n) = ap (λ (l : List ℕ). classOf b ∷ l) (classes-from (suc b) n)
+
+-- what the table has at a byte
+class-at : (cs : List ℕ) (b : ℕ) → cs ≡ classTable → b < 256 → getD cs b 0 ≡ classOf b
+unfolding classTable
+class-at cs b e h = ap (λ (l : List ℕ). getD l b 0) (e ∙ classes-from 0 256) ∙ table-at classOf 0 256 b h
 
 -- a byte's class has the bit
 abbrev pub hasBit : ℕ → ℕ → Bool
 hasBit m b = not (eqb (bitAnd (classOf b) m) 0)
+
+-- a bit that is looked up in the table
+pub looked : (m : ℕ) (cs : List ℕ) (b : ℕ) → cs ≡ classTable → b < 256 → not (eqb (bitAnd (getD cs b 0) m) 0) ≡ hasBit m b
+looked m cs b e h = ap (λ (n : ℕ). not (eqb (bitAnd n m) 0)) (class-at cs b e h)
 
 pub below : (low high b : ℕ) → b < low → between low high b ≡ false
 unfolding between

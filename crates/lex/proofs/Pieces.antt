@@ -45,7 +45,7 @@ name-kind name = name-above keywords name (omega arith)
 
 abbrev pub Within : ℕ → Piece → Type 0
 Within n (Piece.Token kind len taken) = (1 < kind) × (0 < taken) × (len ≤ taken) × (taken ≤ n)
-Within n (Piece.Fault number len seen taken) = (0 < taken) × (len ≤ taken) × (taken ≤ n)
+Within n (Piece.Fault number len seen taken) = (0 < taken) × (len ≤ taken) × (taken ≤ n) × (31 ≤ number)
 
 punctuator-within : (b n : ℕ) → 0 < n → Within n (punctuator b)
 unfolding punctuator

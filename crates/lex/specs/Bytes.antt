@@ -1,7 +1,7 @@
 -- The classes of bytes, runs of bytes, and the first place of a byte.
 use mathlib.Core.Bool.{Bool, true, false, not, _&&_}
 use mathlib.Core.List.{List, [], _∷_}
-use Prim.Native.Nat.{ℕ, suc, _+_}
+use Prim.Native.Nat.{ℕ, zero, suc, _+_}
 use lib.Dec.{leb, ltb, eqb}
 use lib.ListN.{length}
 use Rattle.lex.specs.declared.byte_search.Found.{Found}
@@ -50,6 +50,15 @@ classOf b =
     + bit (isDigit b) 4
     + bit (isNumCont b) 8
     + bit (isWs b) 16
+
+-- the classes of `n` bytes from `b` on
+abbrev pub classesFrom : ℕ → ℕ → List ℕ
+classesFrom b zero = []
+classesFrom b (suc n) = classOf b ∷ classesFrom (suc b) n
+
+-- the table of all classes
+unfoldable pub classTable : List ℕ
+classTable = classesFrom 0 256
 
 -- how many bytes in front have the property
 unfoldable pub countWhile : (ℕ → Bool) → List ℕ → ℕ

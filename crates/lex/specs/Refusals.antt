@@ -25,6 +25,10 @@ rLineTooShort = 41
 abbrev pub rNoWords : ℕ
 rNoWords = 42
 
+-- the tables are not those that cutting the script gives
+abbrev pub rNotCut : ℕ
+rNotCut = 43
+
 -- the buffer for a correction sheet is too short
 abbrev pub rSheetTooShort : ℕ
 rSheetTooShort = 44

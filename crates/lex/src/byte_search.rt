@@ -1,14 +1,15 @@
 // Byte-level scans for the lexer.
+use crate::class::begins_number;
+use crate::class::continues_name;
+use crate::class::continues_number;
 use crate::class::is_digit;
 use crate::class::is_ident_cont;
-use crate::class::is_letter;
-use crate::class::is_num_cont;
 ghost use mathlib.Core.Path.{_≡_};
 ghost use Prim.Native.Nat.{_+_, _≤_};
 ghost use lib.Dec.{leb, eqb};
 ghost use lib.ListN.{length, getD, drop};
 ghost use Rattle.lex.specs.Bytes.{isDigit, isIdentCont, isNumCont, isPlain};
-ghost use Rattle.lex.specs.Bytes.{inSet, countWhile, before, findByte};
+ghost use Rattle.lex.specs.Bytes.{classTable, inSet, countWhile, before, findByte};
 
 // What a search found.
 pub enum Found {
@@ -114,20 +115,21 @@ pub(crate) fn line_end(haystack: &[u8]) -> usize
     skip_set(ByteSet::EXCEPT, b'\n', haystack, 0)
 }
 
-// Whether the byte is in the set. Letters first: most bytes of names are.
-fn in_set_letters_first(set: u8, except: u8, b: u8) -> bool
+// Whether the byte is in the set, by its class where the set is one.
+fn in_set_by_class(classes: &[u8; 256], set: u8, except: u8, b: u8) -> bool
+    requires { ⌜ now classes ≡ classTable ⌝ }
     ensures { λ r. ⌜ r ≡ inSet set except b ⌝ }
 {
-    if set == ByteSet::IDENT_CONT {
-        if is_letter(b) {
-            return true;
-        }
+    match set {
+        ByteSet::IDENT_CONT => continues_name(classes, b),
+        ByteSet::DIGIT => begins_number(classes, b),
+        _ => in_set(set, except, b),
     }
-    in_set(set, except, b)
 }
 
 // How many bytes in front are in the set. The first 8 are tested one by one: most runs end there.
-fn skip_front(set: u8, except: u8, haystack: &[u8]) -> usize
+fn skip_front(classes: &[u8; 256], set: u8, except: u8, haystack: &[u8]) -> usize
+    requires { ⌜ now classes ≡ classTable ⌝ }
     ensures { λ r. ⌜ r ≡ countWhile (inSet set except) (now (haystack .entry)) ⌝ }
 {
     if haystack.len() < 8 {
@@ -135,7 +137,7 @@ fn skip_front(set: u8, except: u8, haystack: &[u8]) -> usize
     }
     let mut i = 0;
     while i < 8 {
-        if !in_set_letters_first(set, except, haystack[i]) {
+        if !in_set_by_class(classes, set, except, haystack[i]) {
             return i;
         }
         i += 1;
@@ -144,33 +146,37 @@ fn skip_front(set: u8, except: u8, haystack: &[u8]) -> usize
 }
 
 // How many bytes in front are digits.
-pub(crate) fn skip_digits(haystack: &[u8]) -> usize
+pub(crate) fn skip_digits(classes: &[u8; 256], haystack: &[u8]) -> usize
+    requires { ⌜ now classes ≡ classTable ⌝ }
     ensures { λ r. ⌜ r ≡ countWhile isDigit (now (haystack .entry)) ⌝ }
 {
-    skip_front(ByteSet::DIGIT, ByteSet::NO_ASCII, haystack)
+    skip_front(classes, ByteSet::DIGIT, ByteSet::NO_ASCII, haystack)
 }
 
 // How many bytes in front can continue a name.
-pub(crate) fn skip_ident_cont(haystack: &[u8]) -> usize
+pub(crate) fn skip_ident_cont(classes: &[u8; 256], haystack: &[u8]) -> usize
+    requires { ⌜ now classes ≡ classTable ⌝ }
     ensures { λ r. ⌜ r ≡ countWhile isIdentCont (now (haystack .entry)) ⌝ }
 {
-    skip_front(ByteSet::IDENT_CONT, ByteSet::NO_ASCII, haystack)
+    skip_front(classes, ByteSet::IDENT_CONT, ByteSet::NO_ASCII, haystack)
 }
 
 // How many bytes in front are of ASCII and not `needle`.
-pub(crate) fn skip_plain(needle: u8, haystack: &[u8]) -> usize
+pub(crate) fn skip_plain(classes: &[u8; 256], needle: u8, haystack: &[u8]) -> usize
+    requires { ⌜ now classes ≡ classTable ⌝ }
     ensures { λ r. ⌜ r ≡ countWhile (isPlain needle) (now (haystack .entry)) ⌝ }
 {
-    skip_front(ByteSet::PLAIN, needle, haystack)
+    skip_front(classes, ByteSet::PLAIN, needle, haystack)
 }
 
 // How many bytes in front can continue a number.
-pub(crate) fn skip_num_cont(haystack: &[u8]) -> usize
+pub(crate) fn skip_num_cont(classes: &[u8; 256], haystack: &[u8]) -> usize
+    requires { ⌜ now classes ≡ classTable ⌝ }
     ensures { λ r. ⌜ r ≡ countWhile isNumCont (now (haystack .entry)) ⌝ }
 {
     let mut i = 0;
     while i < haystack.len() {
-        if !is_num_cont(haystack[i]) {
+        if !continues_number(classes, haystack[i]) {
             return i;
         }
         i += 1;

@@ -1,7 +1,7 @@
 // The class of a byte: five bits, looked up in one table.
 ghost use mathlib.Core.Path.{_≡_};
 ghost use Rattle.lex.specs.Bytes.{isWs, isLetter, isDigit, isIdentStart};
-ghost use Rattle.lex.specs.Bytes.{isIdentCont, isNumCont, classOf};
+ghost use Rattle.lex.specs.Bytes.{isIdentCont, isNumCont, classTable};
 
 // The bits of a class: what the byte can be or begin.
 pub(crate) struct Class(pub u8);
@@ -19,8 +19,8 @@ impl Class {
 }
 
 // The class of each byte. The compiled code writes a constant array onto the stack at each use: so
-// the commonest bytes are tested without it.
-pub(crate) const CLASS: [u8; 256] = [
+// who looks up many takes it once and lends it.
+pub const CLASS: [u8; 256] = [
     0,
     0,
     0,
@@ -315,32 +315,42 @@ pub(crate) fn is_ident_cont(b: u8) -> bool
     is_letter(b) | is_digit(b) | (b == b'_')
 }
 
-// The class of a byte.
-fn class_of(b: u8) -> u8
-    ensures { λ r. ⌜ r ≡ classOf b ⌝ }
-{
-    if is_letter(b) {
-        return Class::IDENT_START | Class::IDENT_CONT;
-    }
-    if is_digit(b) {
-        return Class::DIGIT | Class::IDENT_CONT | Class::NUM_CONT;
-    }
-    if is_ws(b) {
-        return Class::WS;
-    }
-    CLASS[b as usize]
-}
-
-// Whether the byte can begin a name.
-pub(crate) fn is_ident_start(b: u8) -> bool
+// Whether the byte can begin a name, by the table; here and below it is taken once and lent.
+pub(crate) fn begins_name(classes: &[u8; 256], b: u8) -> bool
+    requires { ⌜ now classes ≡ classTable ⌝ }
     ensures { λ r. ⌜ r ≡ isIdentStart b ⌝ }
 {
-    class_of(b) & Class::IDENT_START != 0
+    classes[b as usize] & Class::IDENT_START != 0
+}
+
+// Whether the byte can continue a name.
+pub(crate) fn continues_name(classes: &[u8; 256], b: u8) -> bool
+    requires { ⌜ now classes ≡ classTable ⌝ }
+    ensures { λ r. ⌜ r ≡ isIdentCont b ⌝ }
+{
+    classes[b as usize] & Class::IDENT_CONT != 0
+}
+
+// Whether the byte is a digit.
+pub(crate) fn begins_number(classes: &[u8; 256], b: u8) -> bool
+    requires { ⌜ now classes ≡ classTable ⌝ }
+    ensures { λ r. ⌜ r ≡ isDigit b ⌝ }
+{
+    classes[b as usize] & Class::DIGIT != 0
 }
 
 // Whether the byte can continue a number.
-pub(crate) fn is_num_cont(b: u8) -> bool
+pub(crate) fn continues_number(classes: &[u8; 256], b: u8) -> bool
+    requires { ⌜ now classes ≡ classTable ⌝ }
     ensures { λ r. ⌜ r ≡ isNumCont b ⌝ }
 {
-    is_digit(b) | (b == b'.')
+    classes[b as usize] & Class::NUM_CONT != 0
+}
+
+// Whether the byte separates.
+pub(crate) fn separates(classes: &[u8; 256], b: u8) -> bool
+    requires { ⌜ now classes ≡ classTable ⌝ }
+    ensures { λ r. ⌜ r ≡ isWs b ⌝ }
+{
+    classes[b as usize] & Class::WS != 0
 }

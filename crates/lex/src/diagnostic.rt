@@ -66,6 +66,8 @@ impl Refusal {
 
     pub const NO_WORDS: u32 = 42; // the numbers are no error of a script
 
+    pub const NOT_CUT: u32 = 43; // the tables are not those that cutting the script gives
+
     pub const SHEET_TOO_SHORT: u32 = 44; // the buffer for a correction sheet is too short
 
     pub const TOO_MANY_LINES: u32 = 47; // a practice sheet has at most 16 lines

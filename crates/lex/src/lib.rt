@@ -14,9 +14,11 @@ use byte_search::skip_digits;
 use byte_search::skip_ident_cont;
 use byte_search::skip_num_cont;
 use byte_search::skip_plain;
-use class::is_digit;
-use class::is_ident_start;
+pub use class::CLASS;
+use class::begins_name;
+use class::begins_number;
 use class::is_ws;
+use class::separates;
 pub use diagnostic::Diagnostic;
 pub use diagnostic::Refusal;
 pub use tok::Fault;
@@ -28,6 +30,7 @@ pub use tok::Type;
 pub use tok::as_str_len;
 pub use tok::same_bytes;
 pub use tok::spelling;
+pub use tok::spelling_offset;
 pub use tok::well_formed;
 pub use utf8::is_utf8;
 ghost use mathlib.Core.Path.{_≡_};
@@ -35,7 +38,7 @@ ghost use mathlib.Core.Bool.{false};
 ghost use Prim.Native.Nat.{_+_, _<_, _≤_};
 ghost use lib.ListN.{length, getD, drop};
 ghost use Rattle.lex.specs.declared.tok.Piece.{Piece};
-ghost use Rattle.lex.specs.Bytes.{isNumCont, countWhile};
+ghost use Rattle.lex.specs.Bytes.{isNumCont, countWhile, classTable};
 ghost use Rattle.lex.specs.Kind.{punctuatorKind};
 ghost use Rattle.lex.specs.Errors.{eUnknownCharacter};
 ghost use Rattle.lex.specs.Lex.{beginsComment, skipped, punctuation as punctuationOf};
@@ -77,13 +80,14 @@ fn begins_comment(b: u8, next: u8) -> bool
 }
 
 // The position after blanks and comments.
-fn skip_separators(script: &[u8], pos: usize) -> usize
+fn skip_separators(classes: &[u8; 256], script: &[u8], pos: usize) -> usize
+    requires { ⌜ now classes ≡ classTable ⌝ }
     ensures { λ r. ⌜ r ≡ pos + skipped false (drop pos (now (script .entry))) ⌝ }
 {
     let mut p = pos;
     while p < script.len() {
         let b = script[p];
-        if is_ws(b) {
+        if separates(classes, b) {
             p = skip_byte(b' ', script, p + 1);
         } else if begins_comment(b, peek(script, p + 1)) {
             p += line_end(&script[p..]);
@@ -95,7 +99,8 @@ fn skip_separators(script: &[u8], pos: usize) -> usize
 }
 
 // The position after blanks and comments: mostly one space, or nothing.
-fn skip_whitespace(script: &[u8], pos: usize) -> usize
+fn skip_whitespace(classes: &[u8; 256], script: &[u8], pos: usize) -> usize
+    requires { ⌜ now classes ≡ classTable ⌝ }
     ensures { λ r. ⌜ r ≡ pos + skipped false (drop pos (now (script .entry))) ⌝ }
 {
     let mut p = pos;
@@ -108,7 +113,7 @@ fn skip_whitespace(script: &[u8], pos: usize) -> usize
             return p;
         }
     }
-    skip_separators(script, p)
+    skip_separators(classes, script, p)
 }
 
 // A sign of two bytes, or that of one byte, which has this kind.
@@ -153,10 +158,11 @@ fn leading_space(line: &[u8]) -> usize
 
 // A doc, of which `rest` is what follows `#!`. Most are of ASCII and are read in one pass, as
 // strings are.
-fn doc(rest: &[u8]) -> Piece
+fn doc(classes: &[u8; 256], rest: &[u8]) -> Piece
+    requires { ⌜ now classes ≡ classTable ⌝ }
     ensures { λ r. ⌜ r ≡ docOf (now (rest .entry)) ⌝ }
 {
-    let plain = skip_plain(b'\n', rest);
+    let plain = skip_plain(classes, b'\n', rest);
     if peek(rest, plain) == b'\n' {
         return Piece::Token {
             kind: Type::DOC,
@@ -184,10 +190,11 @@ fn doc(rest: &[u8]) -> Piece
 }
 
 // A string, of which `rest` is what follows the quote. Most are of ASCII and are read in one pass.
-fn string(rest: &[u8]) -> Piece
+fn string(classes: &[u8; 256], rest: &[u8]) -> Piece
+    requires { ⌜ now classes ≡ classTable ⌝ }
     ensures { λ r. ⌜ r ≡ stringOf (now (rest .entry)) ⌝ }
 {
-    let plain = skip_plain(b'"', rest);
+    let plain = skip_plain(classes, b'"', rest);
     if peek(rest, plain) == b'"' {
         return Piece::Token {
             kind: Type::S,
@@ -222,13 +229,13 @@ fn string(rest: &[u8]) -> Piece
 
 // A number with a dot before `from`: digits; a second dot ends it where a name follows, and else is
 // a fault over the whole run of digits and dots.
-fn double(rest: &[u8], from: usize) -> Piece
-    requires { ⌜ from ≤ length (now rest) ⌝ }
+fn double(classes: &[u8; 256], rest: &[u8], from: usize) -> Piece
+    requires { ⌜ (now classes ≡ classTable) × (from ≤ length (now rest)) ⌝ }
     ensures { λ r.
         let bytes = now (rest .entry) in
         ⌜ r ≡ doubleIn (from + countWhile isNumCont (drop from bytes)) from bytes ⌝ }
 {
-    let second = from + skip_digits(&rest[from..]);
+    let second = from + skip_digits(classes, &rest[from..]);
     if peek(rest, second) != b'.' {
         return Piece::Token {
             kind: Type::D,
@@ -236,14 +243,14 @@ fn double(rest: &[u8], from: usize) -> Piece
             taken: second,
         };
     }
-    if is_ident_start(peek(rest, second + 1)) {
+    if begins_name(classes, peek(rest, second + 1)) {
         return Piece::Token {
             kind: Type::D,
             len: second,
             taken: second,
         };
     }
-    let n = second + skip_num_cont(&rest[second..]);
+    let n = second + skip_num_cont(classes, &rest[second..]);
     Piece::Fault {
         number: Diagnostic::INVALID_NUMBER,
         len: n,
@@ -253,10 +260,11 @@ fn double(rest: &[u8], from: usize) -> Piece
 }
 
 // A number: it ends at a dot that a name follows, which is the parser's.
-fn number(rest: &[u8]) -> Piece
+fn number(classes: &[u8; 256], rest: &[u8]) -> Piece
+    requires { ⌜ now classes ≡ classTable ⌝ }
     ensures { λ r. ⌜ r ≡ numberOf (now (rest .entry)) ⌝ }
 {
-    let first = skip_digits(rest);
+    let first = skip_digits(classes, rest);
     if peek(rest, first) != b'.' {
         return Piece::Token {
             kind: Type::I,
@@ -264,21 +272,22 @@ fn number(rest: &[u8]) -> Piece
             taken: first,
         };
     }
-    if is_ident_start(peek(rest, first + 1)) {
+    if begins_name(classes, peek(rest, first + 1)) {
         return Piece::Token {
             kind: Type::I,
             len: first,
             taken: first,
         };
     }
-    double(rest, first + 1)
+    double(classes, rest, first + 1)
 }
 
 // A name or a keyword.
-fn name(rest: &[u8]) -> Piece
+fn name(classes: &[u8; 256], rest: &[u8]) -> Piece
+    requires { ⌜ now classes ≡ classTable ⌝ }
     ensures { λ r. ⌜ r ≡ nameOf (now (rest .entry)) ⌝ }
 {
-    let n = skip_ident_cont(rest);
+    let n = skip_ident_cont(classes, rest);
     let kind = Type::from_keyword(&rest[..n]);
     Piece::Token {
         kind,
@@ -300,8 +309,10 @@ fn unknown_character(b: u8) -> Piece
 }
 
 // A doc or an unknown character, where no sign stands.
-fn symbol(rest: &[u8]) -> Piece
-    requires { ⌜ (0 < length (now rest)) × (punctuatorKind (getD (now rest) 0 0) ≡ 0) ⌝ }
+fn symbol(classes: &[u8; 256], rest: &[u8]) -> Piece
+    requires { ⌜ (now classes ≡ classTable)
+        × (0 < length (now rest))
+        × (punctuatorKind (getD (now rest) 0 0) ≡ 0) ⌝ }
     ensures { λ r. ⌜ r ≡ symbolOf (now (rest .entry)) ⌝ }
 {
     let b = rest[0];
@@ -311,12 +322,12 @@ fn symbol(rest: &[u8]) -> Piece
     if peek(rest, 1) != b'!' {
         return unknown_character(b);
     }
-    doc(&rest[2..])
+    doc(classes, &rest[2..])
 }
 
 // What stands where no blank or comment begins.
-fn piece(rest: &[u8]) -> Piece
-    requires { ⌜ 0 < length (now rest) ⌝ }
+fn piece(classes: &[u8; 256], rest: &[u8]) -> Piece
+    requires { ⌜ (now classes ≡ classTable) × (0 < length (now rest)) ⌝ }
     ensures { λ r. ⌜ r ≡ pieceOf (now (rest .entry)) ⌝ }
 {
     let b = rest[0];
@@ -324,27 +335,28 @@ fn piece(rest: &[u8]) -> Piece
     if 0 < kind {
         return punctuation(b, kind, peek(rest, 1));
     }
-    if is_digit(b) {
-        return number(rest);
+    if begins_number(classes, b) {
+        return number(classes, rest);
     }
     if b == b'"' {
-        return string(&rest[1..]);
+        return string(classes, &rest[1..]);
     }
-    if is_ident_start(b) {
-        return name(rest);
+    if begins_name(classes, b) {
+        return name(classes, rest);
     }
-    symbol(rest)
+    symbol(classes, rest)
 }
 
-// What stands at a position after blanks and comments.
-pub fn step(script: &[u8], pos: usize) -> Step
+// What stands at a position after blanks and comments, with the table of classes lent.
+pub fn step_with(classes: &[u8; 256], script: &[u8], pos: usize) -> Step
+    requires { ⌜ now classes ≡ classTable ⌝ }
     ensures { λ r. ⌜ r ≡ stepAt (now (script .entry)) pos ⌝ }
 {
-    let start = skip_whitespace(script, pos);
+    let start = skip_whitespace(classes, script, pos);
     if script.len() <= start {
         return Step::End { at: start };
     }
-    match piece(&script[start..]) {
+    match piece(classes, &script[start..]) {
         Piece::Token { kind, len, taken } => Step::Token {
             token: Token { kind, start, len },
             next: start + taken,
@@ -364,6 +376,14 @@ pub fn step(script: &[u8], pos: usize) -> Step
             next: start + taken,
         },
     }
+}
+
+// What stands at a position after blanks and comments.
+pub fn step(script: &[u8], pos: usize) -> Step
+    ensures { λ r. ⌜ r ≡ stepAt (now (script .entry)) pos ⌝ }
+{
+    let classes = CLASS;
+    step_with(&classes, script, pos)
 }
 
 // The first token at a position or after it, past all faults, and the position after it; Eof at the

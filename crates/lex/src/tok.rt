@@ -357,7 +357,7 @@ pub fn same_bytes(a: &[u8], b: &[u8]) -> bool
 }
 
 // How many bytes of a token stand before its spelling, `rest` being what begins with it.
-fn spelling_offset(kind: u32, rest: &[u8]) -> usize
+pub fn spelling_offset(kind: u32, rest: &[u8]) -> usize
     ensures { λ r. ⌜ r ≡ spellingOffset kind (now (rest .entry)) ⌝ }
 {
     if kind == Type::S {

@@ -38,6 +38,8 @@ pub fn print_script(script: &[u8], collecting: bool) {
         io::write_all(STDOUT_FILENO, b"(long)\n");
         return;
     }
+    let mut tokens = [0u32; 3844];
+    let mut errors = [0u32; 5760];
     let mut nodes = [0u32; 15360];
     let mut types = [0u32; 7680];
     let mut lists = [0u32; 7680];
@@ -46,6 +48,8 @@ pub fn print_script(script: &[u8], collecting: bool) {
     if collecting {
         let answer = parser::parse_collect(
             script,
+            &mut tokens,
+            &mut errors,
             &mut nodes,
             &mut types,
             &mut lists,
@@ -56,6 +60,8 @@ pub fn print_script(script: &[u8], collecting: bool) {
     } else {
         let answer = parser::parse(
             script,
+            &mut tokens,
+            &mut errors,
             &mut nodes,
             &mut types,
             &mut lists,

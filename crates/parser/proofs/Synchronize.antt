@@ -1,20 +1,20 @@
 -- A reading that has failed goes on at the next token that may begin a root.
 use mathlib.Core.Path.{_≡_, refl, sym, ap, subst, _∙_}
 use mathlib.Core.Bool.{Bool, true, false, not, _&&_}
-use mathlib.Core.List.{List, [], _++_, reverse}
+use mathlib.Core.List.{List, [], _++_, reverse, append-nil}
 use mathlib.Core.Logic.{_⊎_, inl, inr, ⊎-elim}
 use Prim.Native.Nat.{ℕ, _+_, _-_, _≤_, _<_}
 use native.Mathlib.Omega.{arith}
 use lib.Dec.{eqb}
-use lib.ListN.{length, take, length-append, length-reverse}
+use lib.ListN.{length}
 use borrow.Author.Tests.{not-true, ne-eqb, eqb-true, eqb-false}
 use Rattle.lex.specs.Bytes.{or}
 use Rattle.lex.specs.Kind.{kEof, kImport, kExtern, kLet, kFn, kMatch, kCurlyRight}
 use Rattle.lex.specs.declared.diagnostic.Diagnostic.{Diagnostic}
+use Rattle.tokens.specs.Table.{tokenOf}
 use Rattle.rules.specs.Tree.{State, Result, ok, err}
 use Rattle.rules.specs.Combinators.{Rule, _>>_, pure, advance, choose, withDocs, ControlFlow, continue, break}
 use Rattle.rules.specs.Parse.{synchronizeByKind, synchronizeStep, synchronizeRoot}
-use Rattle.ast.specs.Layout.{zeros}
 use Rattle.rules.proofs.Results as Results
 use Rattle.parser_state.specs.Represents.{Going, withUsed, withStatus, Code, code, isGoing, Represents, FailedAt}
 use Rattle.parser_state.specs.Refines.{Ends, stackUnchanged, Refines}
@@ -24,50 +24,40 @@ use Rattle.parser_state.proofs.Steps.{either, true≢false, and-both, at-kind, 
 use Rattle.parser_state.proofs.Leaves.{idle, through-used}
 use Rattle.parser_operators.proofs.Tables.{past, past-all}
 use Rattle.parser.specs.Whole.{Resumes, rootBoundary, skips, synchronizing}
-use Rattle.parser.proofs.Clear.{end-cleared}
 
--- ---- what was under construction is cleared
+-- ---- what was under construction is given up
 
 abbrev pub emptied : Used → Used
 emptied u = record { nodes = u .nodes; values = u .values; types = u .types; docs = u .docs; cells = u .cells; scratch = 0 }
 
-stack-cleared : {script nodes types lists lists′ : List ℕ} {p : Parser} {e : Diagnostic} {R L : ℕ} {stack : List ℕ} {m : State} → lists′ ≡ take (length lists - p .used .scratch) lists ++ zeros (length lists - (length lists - p .used .scratch))
-    → FailedAt script (code nodes types lists p) e R L stack m → Represents script (code nodes types lists′ (withStatus (withUsed p (emptied (p .used))) Going)) R L [] m
-stack-cleared {lists = lists} {p = p} {stack = stack} {m} w h =
-    let u : Used = p .used in
+stack-emptied : {tokens nodes types lists : List ℕ} {p : Parser} {e : Diagnostic} {R L : ℕ} {stack : List ℕ} {m : State} → FailedAt tokens (code nodes types lists p) e R L stack m
+    → Represents tokens (code nodes types lists (withStatus (withUsed p (emptied (p .used))) Going)) R L [] m
+stack-emptied {stack = stack} {m} h =
     let r = h .related in
     let old = r .lists in
-    let back : List ℕ = reverse (stack ++ h .over) in
-    let top : length back ≡ u .scratch = omega (arith, length-reverse (stack ++ h .over), old .stacked) in
-    let cells : length (m .arena .cells) ≡ u .cells + 0 = omega (arith, old .counted) in
-    let new = end-cleared (m .arena .cells) back (length lists - (u .cells + u .scratch)) (u .scratch) (u .cells + 0) (old .laid) top cells w in
     record {
       status = refl;
       related = record {
         left = r .left;
-        inRange = r .inRange;
-        lexed = r .lexed;
+        here = r .here;
+        near = r .near;
+        taken = r .taken;
+        few = r .few;
         nodes = r .nodes;
         types = r .types;
-        lists = record { laid = new .laid; counted = old .counted; stacked = refl };
+        lists = record { between = old .between ++ reverse (stack ++ h .over); laid = old .laid ∙ simp append-nil; counted = old .counted; stacked = refl };
+        bytes = r .bytes;
         credit = record { records = r .credit .records; numbers = r .credit .numbers; room = omega (arith, r .credit .room) };
-        lent = record { small = r .lent .small; nodes = r .lent .nodes; types = r .lent .types; lists = omega (arith, new .same, r .lent .lists) };
+        lent = r .lent;
       };
     }
 
 -- a failed parser whose stack is emptied, and whose status is set anew
-pub resuming : {script nodes types lists lists′ : List ℕ} {p q₁ q : Parser} {u : Used} {e : Diagnostic} {R L : ℕ} {stack : List ℕ} {m : State} → u ≡ p .used → q₁ ≡ withUsed p (emptied u) → q ≡ withStatus q₁ Going
-    → lists′ ≡ take (length lists - u .scratch) lists ++ zeros (length lists - (length lists - u .scratch)) → FailedAt script (code nodes types lists p) e R L stack m → Represents script (code nodes types lists′ q) R L [] m
-resuming {script} {nodes} {types} {lists} {lists′} {p} {R = R} {L} {m = m} f g k w h =
-    subst (λ (r : Parser). Represents script (code nodes types lists′ r) R L [] m) (sym k)
-    (through-used p emptied (λ (u : Used) (r : Parser). lists′ ≡ take (length lists - u .scratch) lists ++ zeros (length lists - (length lists - u .scratch)) → Represents script (code nodes types lists′ (withStatus r Going)) R L [] m)
-    f g (λ w. stack-cleared w h) w)
-
--- what is under construction lies in the array
-pub stack-fits : {script : List ℕ} {s : Code} {e : Diagnostic} {R L : ℕ} {stack : List ℕ} {m : State} → FailedAt script s e R L stack m → s .parser .used .scratch ≤ length (s .lists)
-stack-fits {s = s} {stack = stack} {m} h =
-    let old = h .related .lists in
-    omega (arith, old .stacked, length-reverse (stack ++ h .over), ap length (old .laid) ∙ length-append (m .arena .cells) _, length-append (zeros (length (s .lists) - (s .parser .used .cells + s .parser .used .scratch))) (reverse (stack ++ h .over)))
+pub resuming : {tokens nodes types lists : List ℕ} {p q₁ q : Parser} {u : Used} {e : Diagnostic} {R L : ℕ} {stack : List ℕ} {m : State} → u ≡ p .used → q₁ ≡ withUsed p (emptied u) → q ≡ withStatus q₁ Going
+    → FailedAt tokens (code nodes types lists p) e R L stack m → Represents tokens (code nodes types lists q) R L [] m
+resuming {tokens} {nodes} {types} {lists} {p} {R = R} {L} {m = m} f g k h =
+    subst (λ (r : Parser). Represents tokens (code nodes types lists r) R L [] m) (sym k)
+    (through-used p emptied (λ (u : Used) (r : Parser). Represents tokens (code nodes types lists (withStatus r Going)) R L [] m) f g (stack-emptied h))
 
 -- ---- to the next token that may begin a root
 
@@ -141,15 +131,15 @@ module _ (p : Parser) where
   skips-some e z = true≢false (ap rootBoundary z) (skips-both e .1)
 
 -- a step of the rule, by where the code stands
-module _ {script : List ℕ} {s s′ : Code} where
-  pub continues : skips (s .parser) ≡ true → Refines script 0 0 advance (λ t. t ≡ s .parser .cur) stackUnchanged 1 1 8 s s′ → Refines script 0 0 (synchronizeStep 0) (λ t. t ≡ continue 0) stackUnchanged 1 0 0 s s′
+module _ {tokens : List ℕ} {s s′ : Code} where
+  pub continues : skips (s .parser) ≡ true → Refines tokens 0 0 advance (λ t. t ≡ tokenOf (s .parser .cur)) stackUnchanged 1 1 8 s s′ → Refines tokens 0 0 (synchronizeStep 0) (λ t. t ≡ continue 0) stackUnchanged 1 0 0 s s′
   continues e p = at-kind (synchronizeByKind 0) (s .parser .cur .kind) (rw (by-tests 0 (s .parser .cur .kind), skips-both (s .parser) e .1) (enough (then p done) tt)) refl
 
-  pub breaks-past : Refines script 0 0 advance (λ t. t ≡ s .parser .cur) stackUnchanged 1 1 8 s s′ → s .parser .cur .kind ≡ kCurlyRight → Refines script 0 0 (synchronizeStep 0) (λ t. t ≡ break 0) stackUnchanged 0 0 0 s s′
+  pub breaks-past : Refines tokens 0 0 advance (λ t. t ≡ tokenOf (s .parser .cur)) stackUnchanged 1 1 8 s s′ → s .parser .cur .kind ≡ kCurlyRight → Refines tokens 0 0 (synchronizeStep 0) (λ t. t ≡ break 0) stackUnchanged 0 0 0 s s′
   unfolding choose
   breaks-past p e = at-kind (synchronizeByKind 0) kCurlyRight (enough (then p done) tt) e
 
-pub breaks-before : {script : List ℕ} (s : Code) → skips (s .parser) ≡ false → (s .parser .cur .kind ≡ kCurlyRight → ⊥) → Refines script 0 0 (synchronizeStep 0) (λ t. t ≡ break 0) stackUnchanged 0 0 0 s s
+pub breaks-before : {tokens : List ℕ} (s : Code) → skips (s .parser) ≡ false → (s .parser .cur .kind ≡ kCurlyRight → ⊥) → Refines tokens 0 0 (synchronizeStep 0) (λ t. t ≡ break 0) stackUnchanged 0 0 0 s s
 breaks-before s e f = either (isGoing (s .parser .status))
     (λ g. at-kind (synchronizeByKind 0) (s .parser .cur .kind) (rw (by-tests 0 (s .parser .cur .kind), skips-not (s .parser) e g, ne-eqb (s .parser .cur .kind) kCurlyRight f) done) refl)
     (λ g. idle g)
@@ -174,17 +164,17 @@ never-fails s = Results.loop-ok (λ n s′. Unit {0}) _ (λ n s₁ _.
     taken s₁ t = Results.then-ok {P = λ a s′. Unit {0}} _ _ s₁ (Results.ended-ok _ _ tt) (λ a s₂ _. Results.pure-ok t s₂ tt)
 
 -- where the rule goes on after an error, the code does
-pub record Recovered (script : List ℕ) (s : Code) (R L : ℕ) (m : State) : Type 0 where
+pub record Recovered (tokens : List ℕ) (s : Code) (R L : ℕ) (m : State) : Type 0 where
   pub after : State
   pub comes : synchronizeRoot m ≡ ok 0 after
-  pub represents : Represents script s R L [] after
+  pub represents : Represents tokens s R L [] after
   pub fewer : length (after .left) ≤ length (m .left)
 
-pub recovered : {script : List ℕ} {s s₁ s₂ : Code} {e : Diagnostic} {R L : ℕ} {stack : List ℕ} {m : State} → FailedAt script s e R L stack m → Resumes script s s₁ → Refines script 0 0 synchronizing (λ n. n ≡ 0) stackUnchanged 0 0 0 s₁ s₂ → Recovered script s₂ R L m
+pub recovered : {tokens : List ℕ} {s s₁ s₂ : Code} {e : Diagnostic} {R L : ℕ} {stack : List ℕ} {m : State} → FailedAt tokens s e R L stack m → Resumes tokens s s₁ → Refines tokens 0 0 synchronizing (λ n. n ≡ 0) stackUnchanged 0 0 0 s₁ s₂ → Recovered tokens s₂ R L m
 unfolding synchronizing synchronizeRoot
-recovered {script} {s} {s₁} {s₂} {e} {R} {L} {stack} {m} h r p = go (synchronizing (withDocs [] m)) refl (never-fails (withDocs [] m)) (p .simulates R L [] (withDocs [] m) (represents-less _ _ (omega arith) (omega arith) (r .resumes e R L stack m h)))
+recovered {tokens} {s} {s₁} {s₂} {e} {R} {L} {stack} {m} h r p = go (synchronizing (withDocs [] m)) refl (never-fails (withDocs [] m)) (p .simulates R L [] (withDocs [] m) (represents-less _ _ (omega arith) (omega arith) (r .resumes e R L stack m h)))
   where
-    go : (res : Result ℕ) → synchronizing (withDocs [] m) ≡ res → Results.Ends (λ n s′. Unit {0}) (λ s′. ⊥) res → Ends script (λ n. n ≡ 0) stackUnchanged s₂ R L 0 0 [] res → Recovered script s₂ R L m
+    go : (res : Result ℕ) → synchronizing (withDocs [] m) ≡ res → Results.Ends (λ n s′. Unit {0}) (λ s′. ⊥) res → Ends tokens (λ n. n ≡ 0) stackUnchanged s₂ R L 0 0 [] res → Recovered tokens s₂ R L m
     go (ok n m₂) c w d = record {
       after = m₂;
       comes = c ∙ ap (λ (j : ℕ). ok j m₂) (d .0);

@@ -4,56 +4,55 @@ use mathlib.Core.Bool.{Bool, true, false, not, _&&_}
 use mathlib.Core.List.{List, [], _∷_, _++_, map, flatten}
 use Prim.Native.Nat.{ℕ, _+_, _*_, _-_, _≤_}
 use lib.Dec.{eqb, ltb}
-use lib.ListN.{length, take, drop, set}
+use lib.ListN.{length, take, set}
+use Rattle.lex.specs.Answer.{maxBytes}
 use Rattle.lex.specs.Bytes.{or}
-use Rattle.lex.specs.Refusals.{rTooLong, rTooShort}
+use Rattle.lex.specs.Cells.{zeros, padded}
 use Rattle.lex.specs.Kind.{kEof, kImport, kExtern, kLet, kFn, kMatch, kCurlyRight}
+use Rattle.lex.specs.Refusals.{rTooLong, rTooShort, rNotCut}
 use Rattle.lex.specs.declared.diagnostic.Diagnostic.{Diagnostic}
-use Rattle.lex.specs.declared.tok.Next.{Next}
+use Rattle.tokens.specs.Tables.{tokenWidth, errorWidth, tokenTable, isCut}
+use Rattle.tokens.specs.Table.{tokenOf, tokenAt}
 use Rattle.rules.specs.Tree.{State, Result, ok, err}
 use Rattle.rules.specs.Combinators.{Rule, _>>=_, pure, ifKind, withDocs, ControlFlow, continue, break, loop}
 use Rattle.rules.specs.Rules.{maxLevels}
 use Rattle.rules.specs.Parse.{synchronizeStep}
-use Rattle.ast.specs.Layout.{nodeWidth, typeWidth, diagnosticWidth, cellsPerByte, zeros, padded, nodeCells, typeCells}
-use Rattle.lex.specs.Answer.{maxBytes}
-use Rattle.parser_state.specs.Represents.{lowToken, Going, Failed, Code, ahead, isGoing, EnoughLent, Represents, FailedAt}
-use Rattle.parser_state.specs.Refines.{deeper}
+use Rattle.ast.specs.Layout.{nodeWidth, typeWidth, diagnosticWidth, cellsPerByte, nodeCells, typeCells}
+use Rattle.parser_state.specs.Represents.{Going, Failed, Code, ahead, isGoing, EnoughLent, Represents, FailedAt}
+use Rattle.parser_state.specs.Refines.{rulesOf, deeper}
 use Rattle.parser_state.specs.declared.Parser.{Parser}
 use Rattle.parser_state.specs.declared.Used.{Used}
 
--- the number of a refusal, or 0, for a script of `n` bytes and the lengths of the arrays
-unfoldable pub refusal : ℕ → ℕ → ℕ → ℕ → ℕ → ℕ → ℕ
-refusal n nodes types lists roots diagnostics =
+-- the number of a refusal, or 0, for a script of `n` bytes and the lengths of the arrays and tables
+unfoldable pub refusal : ℕ → ℕ → ℕ → ℕ → ℕ → ℕ → ℕ → ℕ → ℕ
+refusal n nodes types lists roots diagnostics tokens errors =
     elim (ltb maxBytes n) [
       | true ↦ rTooLong
-      | false ↦ elim (or (ltb nodes (nodeWidth * n)) (or (ltb types (typeWidth * n)) (or (ltb lists (cellsPerByte * n)) (or (ltb roots n) (ltb diagnostics (diagnosticWidth * n)))))) [ true ↦ rTooShort | false ↦ 0 ]
+      | false ↦ elim (or (or (ltb nodes (nodeWidth * n)) (or (ltb types (typeWidth * n)) (or (ltb lists (cellsPerByte * n)) (or (ltb roots n) (ltb diagnostics (diagnosticWidth * n)))))) (or (ltb tokens (tokenWidth * n + tokenWidth)) (ltb errors (errorWidth * n)))) [ true ↦ rTooShort | false ↦ 0 ]
     ]
 
--- enough is lent, and it is all zeros
-pub record ZeroedArrays (script ns ts ls rs : List ℕ) : Type 0 where
-  pub lent : EnoughLent script ns ts ls
+-- the same, and 43 where the tables are not the script's
+unfoldable pub notRead : List ℕ → List ℕ → List ℕ → ℕ → ℕ → ℕ → ℕ → ℕ → ℕ
+notRead script tokens errors nodes types lists roots diagnostics =
+    let n = refusal (length script) nodes types lists roots diagnostics (length tokens) (length errors) in
+    elim (eqb n 0) [ true ↦ elim (isCut script tokens errors) [ true ↦ 0 | false ↦ rNotCut ] | false ↦ n ]
+
+-- enough is lent, and the token table is the script's
+pub record Begun (script tokens ns ts ls rs : List ℕ) : Type 0 where
+  pub lent : EnoughLent (length script) ns ts ls
   pub roots : length script ≤ length rs
-  pub zeroNodes : ns ≡ zeros (length ns)
-  pub zeroTypes : ts ≡ zeros (length ts)
-  pub zeroLists : ls ≡ zeros (length ls)
-  pub zeroRoots : rs ≡ zeros (length rs)
+  pub tabled : tokens ≡ padded (length tokens) (tokenTable script)
 
--- cells that are cleared from one place to another
-abbrev pub cleared : List ℕ → ℕ → ℕ → List ℕ
-cleared a from to = take from a ++ (zeros (to - from) ++ drop to a)
+-- a parser at the first token of a table
+pub record FirstToken (tokens : List ℕ) (p : Parser) : Type 0 where
+  pub cur : tokenOf (p .cur) ≡ tokenAt tokens 0
+  pub at : p .at ≡ 0
+  pub used : p .used ≡ record { nodes = 0; values = 0; types = 0; docs = 0; cells = 0; scratch = 0 }
+  pub status : p .status ≡ Going
 
--- an array that is zero but for so many cells in front and so many at the far end
-pub record ZeroBetween (array : List ℕ) (front back : ℕ) : Type 0 where
-  pub before : List ℕ
-  pub behind : List ℕ
-  pub between : ℕ
-  pub laid : array ≡ before ++ (zeros between ++ behind)
-  pub inFront : length before ≡ front
-  pub atEnd : length behind ≡ back
-
--- a parser at the first token
-abbrev pub fresh : Next → Parser
-fresh x = record { cur = lowToken (x .token); pos = x .next; used = record { nodes = 0; values = 0; types = 0; docs = 0; cells = 0; scratch = 0 }; status = Going }
+-- an array with zeros behind its first `n` cells
+abbrev pub behind : ℕ → List ℕ → List ℕ
+behind n a = take n a ++ zeros (length a - n)
 
 -- the parser behind the roots, and how many there are
 pub record RootsRead : Type 0 where
@@ -62,11 +61,13 @@ pub record RootsRead : Type 0 where
 
 -- one more root
 abbrev pub rootStep : List ℕ → List ℕ → Rule (ControlFlow (List ℕ))
-rootStep script roots = ifKind kEof (pure (break roots)) (deeper script maxLevels .prefix >>= (λ n. pure (continue (roots ++ (n .0 ∷ [])))))
+rootStep script roots = ifKind kEof (pure (break roots)) (deeper (rulesOf script) maxLevels .prefix >>= (λ n. pure (continue (roots ++ (n .0 ∷ [])))))
 
 -- the array holds `n` roots, each of which took a token
-abbrev pub RootsAre : List ℕ → List ℕ → ℕ → Code → List ℕ → Type 0
-RootsAre script array n s xs = (array ≡ xs ++ zeros (length array - n)) × (length xs ≡ n) × (length xs + length (ahead script s) ≤ length script + 1)
+pub record RootsAre (script tokens array : List ℕ) (n : ℕ) (s : Code) (xs : List ℕ) : Type 0 where
+  pub held : take n array ≡ xs
+  pub counted : length xs ≡ n
+  pub few : length xs + length (ahead tokens s) ≤ length script + 1
 
 -- one more root is pushed: the reading has not failed, and there is a cell behind the `n` that are
 -- there
@@ -82,35 +83,31 @@ pub record RootPushed (p : Parser) (roots : List ℕ) (n id : ℕ) (roots′ : L
 unfoldable pub dropDocs : Rule ℕ
 dropDocs = λ s. ok 0 (withDocs [] s)
 
--- the arrays and counts of a tree
+-- the used parts of the arrays, and the counts, are a tree's
 pub record Holds (nodes types lists roots : List ℕ) (r : RootsRead) (xs : List ℕ) (m : State) : Type 0 where
   pub going : r .parser .status ≡ Going
-  pub nodesHeld : nodes ≡ padded (length nodes) (flatten (map nodeCells (m .arena .nodes)))
-  pub typesHeld : types ≡ padded (length types) (flatten (map typeCells (m .arena .types)))
-  pub listsHeld : lists ≡ padded (length lists) (m .arena .cells)
-  pub rootsHeld : roots ≡ padded (length roots) xs
+  pub nodesHeld : take (nodeWidth * r .parser .used .nodes) nodes ≡ flatten (map nodeCells (m .arena .nodes))
+  pub typesHeld : take (typeWidth * r .parser .used .types) types ≡ flatten (map typeCells (m .arena .types))
+  pub listsHeld : take (r .parser .used .cells) lists ≡ m .arena .cells
+  pub rootsHeld : take (r .members) roots ≡ xs
   pub nodeCount : r .parser .used .nodes ≡ length (m .arena .nodes)
   pub typeCount : r .parser .used .types ≡ length (m .arena .types)
   pub cellCount : r .parser .used .cells ≡ length (m .arena .cells)
   pub valueCount : r .parser .used .values ≡ m .arena .values
   pub rootCount : r .members ≡ length xs
 
--- the arrays of a tree where a reading has failed
-abbrev pub LeftBehind : List ℕ → List ℕ → List ℕ → List ℕ → Used → ℕ → Type 0
-LeftBehind nodes types lists roots u members = ZeroBetween nodes (nodeWidth * u .nodes) 0 × ZeroBetween types (typeWidth * u .types) (3 * u .docs) × ZeroBetween lists (u .cells) (u .scratch) × ZeroBetween roots members 0
-
 -- by how the rule ends
 abbrev pub RootsEnd : List ℕ → List ℕ → List ℕ → List ℕ → RootsRead → Result (List ℕ) → Type 0
 RootsEnd nodes types lists roots r (ok xs m) = Holds nodes types lists roots r xs m
-RootsEnd nodes types lists roots r (err e m) = (r .parser .status ≡ Failed e) × LeftBehind nodes types lists roots (r .parser .used) (r .members)
+RootsEnd nodes types lists roots r (err e m) = r .parser .status ≡ Failed e
 
 -- ---- after an error
 
 -- a failed reading, whatever is under construction, goes on at the same token with nothing under
 -- construction and no pending docs
-pub record Resumes (script : List ℕ) (s s′ : Code) : Type 0 where
-  pub same : ahead script s′ ≡ ahead script s
-  pub resumes : (e : Diagnostic) (R L : ℕ) (stack : List ℕ) (m : State) → FailedAt script s e R L stack m → Represents script s′ R L [] (withDocs [] m)
+pub record Resumes (tokens : List ℕ) (s s′ : Code) : Type 0 where
+  pub same : ahead tokens s′ ≡ ahead tokens s
+  pub resumes : (e : Diagnostic) (R L : ℕ) (stack : List ℕ) (m : State) → FailedAt tokens s e R L stack m → Represents tokens s′ R L [] (withDocs [] m)
 
 -- what may begin a root, or ends a block or the script
 unfoldable pub rootBoundary : ℕ → Bool

@@ -1,5 +1,4 @@
 // How collecting mode goes on after an error.
-use crate::clear_from;
 use crate::drop_docs;
 use lex::Diagnostic;
 use lex::Type;
@@ -18,21 +17,15 @@ ghost use Rattle.parser_state.specs.Represents.{parserOf, code};
 ghost use Rattle.parser_state.specs.Refines.{Refines, stackUnchanged};
 ghost use Rattle.parser.specs.Whole.{Resumes, rootBoundary, skips, synchronizing};
 
-// What was under construction when a reading failed is cleared, its docs are dropped, and the
+// What was under construction when a reading failed is given up, its docs are dropped, and the
 // reading goes on.
-pub(crate) fn resume(types: &mut [u32], lists: &mut [u32], p: &mut State)
-    ensures { λ r. ⌜ ((script nodes : List ℕ) →
-        let before = code nodes (now (types .entry)) (now (lists .entry))
-        (parserOf (now (p .entry))) in
-        let after = code nodes (now (types .exit)) (now (lists .exit)) (parserOf (now (p .exit))) in
-        Resumes script before after) ⌝ }
+pub(crate) fn resume(p: &mut State)
+    ensures { λ r. ⌜ ((tokens nodes types lists : List ℕ) →
+        let before = code nodes types lists (parserOf (now (p .entry))) in
+        let after = code nodes types lists (parserOf (now (p .exit))) in
+        Resumes tokens before after) ⌝ }
 {
     let u = get_used(p);
-    let scratch = u.scratch as usize;
-    if lists.len() < scratch {
-        return;
-    }
-    clear_from(lists, lists.len() - scratch);
     set_used(
         p,
         Used {
@@ -55,7 +48,7 @@ pub(crate) fn resume(types: &mut [u32], lists: &mut [u32], p: &mut State)
             seen: 0,
         },
     );
-    drop_docs(types, p);
+    drop_docs(p);
 }
 
 // A token that may begin a root, or ends a block or the script.
@@ -84,17 +77,17 @@ fn skips(p: &State) -> bool
 }
 
 // To the next token that may begin a root, past it where it is `}`.
-pub(crate) fn synchronize_root(script: &[u8], p: &mut State)
+pub(crate) fn synchronize_root(tokens: &[u32], p: &mut State)
     ensures { λ r. ⌜ ((nodes types lists : List ℕ) →
         let before = code nodes types lists (parserOf (now (p .entry))) in
         let after = code nodes types lists (parserOf (now (p .exit))) in
-        Refines (now (script .entry)) 0 0 synchronizing (λ n. n ≡ 0) stackUnchanged 0 0 0
+        Refines (now (tokens .entry)) 0 0 synchronizing (λ n. n ≡ 0) stackUnchanged 0 0 0
         before after) ⌝ }
 {
     while skips(p) {
-        advance(script, p);
+        advance(tokens, p);
     }
     if kind(p) == Type::CURLY_RIGHT {
-        advance(script, p);
+        advance(tokens, p);
     }
 }

@@ -7,7 +7,6 @@ use ast::NodeId;
 use ast::NodeKind;
 use ast::Run;
 use lex::Diagnostic;
-use lex::Token;
 use lex::Type;
 use parser_operators::CasesRead;
 use parser_operators::Default;
@@ -27,6 +26,7 @@ use parser_operators::push_case;
 use parser_state::State;
 use parser_state::WideNode;
 use parser_state::advance;
+use parser_state::at;
 use parser_state::close;
 use parser_state::collect_docs;
 use parser_state::current;
@@ -48,14 +48,16 @@ use parser_types::fn_return;
 use parser_types::parse_args;
 use parser_types::parse_extern;
 use parser_types::parse_import;
+use tokens::Entry;
 ghost use mathlib.Core.Path.{_≡_};
 ghost use mathlib.Core.Bool.{true};
 ghost use Prim.Native.Nat.{_<_};
 ghost use Rattle.lex.specs.Kind.{kCurlyRight, kBraketRight};
+ghost use Rattle.tokens.specs.Table.{tokenAt};
 ghost use Rattle.rules.specs.Combinators.{listUntil, byKind};
 ghost use Rattle.rules.specs.Rules.{nodeMember, itemByKind, parseLet, parseFn, parseBody, parseMatch, nextCase, field, recordLiteral, arrayLiteral, group, unary, operand, call, postfixStep, postfix, binary, infixStep, infixes, prefixPower, stageOne};
-ghost use Rattle.parser_state.specs.Represents.{parserOf, code, lowToken};
-ghost use Rattle.parser_state.specs.Refines.{ReadsNode, ReadsStep, LoopsNode, ReadsList, ReadsMember, deeper, memberFollows};
+ghost use Rattle.parser_state.specs.Represents.{parserOf, code};
+ghost use Rattle.parser_state.specs.Refines.{ReadsNode, ReadsStep, LoopsNode, ReadsList, ReadsMember, rulesOf, deeper, memberFollows};
 ghost use Rattle.parser_state.proofs.Rounds.{Again};
 ghost use Rattle.parser_operators.specs.Tests.{postfixFollows, infixFollows};
 ghost use Rattle.parser_operators.specs.Matches.{casesGrown, CasesAre, caseCells, matchRest};
@@ -66,6 +68,7 @@ ghost use Rattle.parser_operators.specs.Matches.{casesGrown, CasesAre, caseCell
 // between, whose call takes a fourth of the time of a short one.
 pub fn member(
     script: &[u8],
+    tokens: &[u32],
     nodes: &mut [u32],
     types: &mut [u32],
     lists: &mut [u32],
@@ -77,20 +80,21 @@ pub fn member(
         (parserOf (now (p .entry))) in
         let after = code (now (nodes .exit)) (now (types .exit)) (now (lists .exit))
         (parserOf (now (p .exit))) in
-        ⌜ ReadsNode (now (script .entry)) ((deeper (now (script .entry)) levels) .prefix)
+        ⌜ ReadsNode (now (tokens .entry)) ((deeper (rulesOf (now (script .entry))) levels) .prefix)
         before after r ⌝ }
 {
     if levels != 0 {
         if begins_expr(p) {
-            return expr(script, nodes, types, lists, p, 0, levels - 1);
+            return expr(script, tokens, nodes, types, lists, p, 0, levels - 1);
         }
     }
-    prefix(script, nodes, types, lists, p, levels)
+    prefix(script, tokens, nodes, types, lists, p, levels)
 }
 
 // prefix = import | let | fn | match | expr
 fn prefix(
     script: &[u8],
+    tokens: &[u32],
     nodes: &mut [u32],
     types: &mut [u32],
     lists: &mut [u32],
@@ -102,7 +106,7 @@ fn prefix(
         (parserOf (now (p .entry))) in
         let after = code (now (nodes .exit)) (now (types .exit)) (now (lists .exit))
         (parserOf (now (p .exit))) in
-        ⌜ ReadsNode (now (script .entry)) ((deeper (now (script .entry)) levels) .prefix)
+        ⌜ ReadsNode (now (tokens .entry)) ((deeper (rulesOf (now (script .entry))) levels) .prefix)
         before after r ⌝ }
 {
     if levels == 0 {
@@ -110,15 +114,16 @@ fn prefix(
         return NodeId(0);
     }
     if begins_expr(p) {
-        return expr(script, nodes, types, lists, p, 0, levels - 1);
+        return expr(script, tokens, nodes, types, lists, p, 0, levels - 1);
     }
-    collect_docs(script, types, p);
-    item(script, nodes, types, lists, p, levels - 1)
+    collect_docs(tokens, types, p);
+    item(script, tokens, nodes, types, lists, p, levels - 1)
 }
 
 // A prefix behind its docs.
 fn item(
     script: &[u8],
+    tokens: &[u32],
     nodes: &mut [u32],
     types: &mut [u32],
     lists: &mut [u32],
@@ -130,32 +135,33 @@ fn item(
         (parserOf (now (p .entry))) in
         let after = code (now (nodes .exit)) (now (types .exit)) (now (lists .exit))
         (parserOf (now (p .exit))) in
-        ⌜ ReadsNode (now (script .entry))
-        (byKind (itemByKind (deeper (now (script .entry)) levels))) before after r ⌝ }
+        ⌜ ReadsNode (now (tokens .entry))
+        (byKind (itemByKind (deeper (rulesOf (now (script .entry))) levels))) before after r ⌝ }
 {
     let k = kind(p);
     if k == Type::IMPORT {
-        return parse_import(script, nodes, lists, p);
+        return parse_import(tokens, nodes, lists, p);
     }
     if k == Type::LET {
-        return parse_let(script, nodes, types, lists, p, levels);
+        return parse_let(script, tokens, nodes, types, lists, p, levels);
     }
     if k == Type::FN {
-        return parse_fn(script, nodes, types, lists, p, levels);
+        return parse_fn(script, tokens, nodes, types, lists, p, levels);
     }
     if k == Type::EXTERN {
-        return parse_extern(script, nodes, types, lists, p, levels);
+        return parse_extern(tokens, nodes, types, lists, p, levels);
     }
     require_no_docs(types, p);
     if kind(p) == Type::MATCH {
-        return parse_match(script, nodes, types, lists, p, levels);
+        return parse_match(script, tokens, nodes, types, lists, p, levels);
     }
-    expr(script, nodes, types, lists, p, 0, levels)
+    expr(script, tokens, nodes, types, lists, p, 0, levels)
 }
 
 // let = "let" ident "=" prefix
 fn parse_let(
     script: &[u8],
+    tokens: &[u32],
     nodes: &mut [u32],
     types: &mut [u32],
     lists: &mut [u32],
@@ -167,21 +173,22 @@ fn parse_let(
         (parserOf (now (p .entry))) in
         let after = code (now (nodes .exit)) (now (types .exit)) (now (lists .exit))
         (parserOf (now (p .exit))) in
-        ⌜ ReadsNode (now (script .entry)) (parseLet (deeper (now (script .entry)) levels))
+        ⌜ ReadsNode (now (tokens .entry)) (parseLet (deeper (rulesOf (now (script .entry))) levels))
         before after r ⌝ }
 {
     let docs = take_docs(types, lists, p);
-    expect(script, p, Type::LET);
+    expect(tokens, p, Type::LET);
     let name = current(p);
-    expect_ident(script, p);
-    expect(script, p, Type::EQUAL);
-    let rhs = prefix(script, nodes, types, lists, p, levels);
+    expect_ident(tokens, p);
+    expect(tokens, p, Type::EQUAL);
+    let rhs = prefix(script, tokens, nodes, types, lists, p, levels);
     push_let(nodes, p, docs, name, rhs)
 }
 
 // fn = "fn" ident "(" (ident ":" type)* ")" type? "{" prefix* "}"
 fn parse_fn(
     script: &[u8],
+    tokens: &[u32],
     nodes: &mut [u32],
     types: &mut [u32],
     lists: &mut [u32],
@@ -194,16 +201,16 @@ fn parse_fn(
         (parserOf (now (p .entry))) in
         let after = code (now (nodes .exit)) (now (types .exit)) (now (lists .exit))
         (parserOf (now (p .exit))) in
-        ⌜ ReadsNode (now (script .entry)) (parseFn (deeper (now (script .entry)) levels))
+        ⌜ ReadsNode (now (tokens .entry)) (parseFn (deeper (rulesOf (now (script .entry))) levels))
         before after r ⌝ }
 {
     let docs = take_docs(types, lists, p);
-    advance(script, p);
+    advance(tokens, p);
     let name = current(p);
-    expect_ident(script, p);
-    let args = parse_args(script, types, lists, p, levels);
-    let return_type = fn_return(script, types, lists, p, levels);
-    let body = parse_body(script, nodes, types, lists, p, levels);
+    expect_ident(tokens, p);
+    let args = parse_args(tokens, types, lists, p, levels);
+    let return_type = fn_return(tokens, types, lists, p, levels);
+    let body = parse_body(script, tokens, nodes, types, lists, p, levels);
     let more = args.len;
     let id = get_used(p).values;
     push_node(
@@ -224,6 +231,7 @@ fn parse_fn(
 // body = "{" prefix* "}"
 fn parse_body(
     script: &[u8],
+    tokens: &[u32],
     nodes: &mut [u32],
     types: &mut [u32],
     lists: &mut [u32],
@@ -235,16 +243,26 @@ fn parse_body(
         (parserOf (now (p .entry))) in
         let after = code (now (nodes .exit)) (now (types .exit)) (now (lists .exit))
         (parserOf (now (p .exit))) in
-        ⌜ ReadsList (now (script .entry)) (parseBody (deeper (now (script .entry)) levels))
+        ⌜ ReadsList (now (tokens .entry)) (parseBody (deeper (rulesOf (now (script .entry))) levels))
         before after r ⌝ }
 {
-    expect(script, p, Type::CURLY_LEFT);
-    items(script, nodes, types, lists, p, Type::CURLY_RIGHT, levels)
+    expect(tokens, p, Type::CURLY_LEFT);
+    items(
+        script,
+        tokens,
+        nodes,
+        types,
+        lists,
+        p,
+        Type::CURLY_RIGHT,
+        levels,
+    )
 }
 
 // prefix*, up to a closing token: a body, or the arguments of a call.
 fn items(
     script: &[u8],
+    tokens: &[u32],
     nodes: &mut [u32],
     types: &mut [u32],
     lists: &mut [u32],
@@ -258,23 +276,24 @@ fn items(
         (parserOf (now (p .entry))) in
         let after = code (now (nodes .exit)) (now (types .exit)) (now (lists .exit))
         (parserOf (now (p .exit))) in
-        ⌜ ReadsList (now (script .entry))
-        (listUntil stop (nodeMember ((deeper (now (script .entry)) levels) .prefix)))
+        ⌜ ReadsList (now (tokens .entry))
+        (listUntil stop (nodeMember ((deeper (rulesOf (now (script .entry))) levels) .prefix)))
         before after r ⌝ }
 {
     let mark = get_used(p).scratch;
     let mut members: u32 = 0;
     while member_follows(p, stop) {
-        let n = member(script, nodes, types, lists, p, levels);
+        let n = member(script, tokens, nodes, types, lists, p, levels);
         push_cell(lists, p, n.0);
         members = std::num::wrapping_add_u32(members, 1);
     }
-    close(script, lists, p, stop, mark, members)
+    close(tokens, lists, p, stop, mark, members)
 }
 
 // match = "match" "{" (expr "{" prefix* "}")* "{" prefix* "}" "}"
 fn parse_match(
     script: &[u8],
+    tokens: &[u32],
     nodes: &mut [u32],
     types: &mut [u32],
     lists: &mut [u32],
@@ -287,23 +306,24 @@ fn parse_match(
         (parserOf (now (p .entry))) in
         let after = code (now (nodes .exit)) (now (types .exit)) (now (lists .exit))
         (parserOf (now (p .exit))) in
-        ⌜ ReadsNode (now (script .entry)) (parseMatch (deeper (now (script .entry)) levels))
+        ⌜ ReadsNode (now (tokens .entry)) (parseMatch (deeper (rulesOf (now (script .entry))) levels))
         before after r ⌝ }
 {
-    advance(script, p);
-    let t = current(p);
-    expect(script, p, Type::CURLY_LEFT);
-    cases(script, nodes, types, lists, p, t, levels)
+    advance(tokens, p);
+    let i = at(p);
+    expect(tokens, p, Type::CURLY_LEFT);
+    cases(script, tokens, nodes, types, lists, p, i, levels)
 }
 
-// What follows the `{` of a match, `t` being that token.
+// What follows the `{` of a match, whose record is `at`.
 fn cases(
     script: &[u8],
+    tokens: &[u32],
     nodes: &mut [u32],
     types: &mut [u32],
     lists: &mut [u32],
     p: &mut State,
-    t: Token,
+    at: u32,
     levels: usize,
 ) -> NodeId
     ensures { λ r.
@@ -311,28 +331,34 @@ fn cases(
         (parserOf (now (p .entry))) in
         let after = code (now (nodes .exit)) (now (types .exit)) (now (lists .exit))
         (parserOf (now (p .exit))) in
-        ⌜ ReadsNode (now (script .entry))
-        (matchRest (deeper (now (script .entry)) levels) (lowToken t)) before after r ⌝ }
+        ⌜ ReadsNode (now (tokens .entry))
+        (matchRest (deeper (rulesOf (now (script .entry))) levels)
+        (tokenAt (now (tokens .entry)) at)) before after r ⌝ }
 {
     let mark = get_used(p).scratch;
     let mut members: u32 = 0;
     let mut d = Default {
         has: 0,
-        token: t,
+        token: Entry {
+            kind: 0,
+            start: 0,
+            len: 0,
+        },
         run: Run { start: 0, len: 0 },
     };
     while member_follows(p, Type::CURLY_RIGHT) {
-        let c = case(script, nodes, types, lists, p, d, members, levels);
+        let c = case(script, tokens, nodes, types, lists, p, d, members, levels);
         d = c.default;
         members = c.members;
     }
-    let run = close(script, lists, p, Type::CURLY_RIGHT, mark, members);
-    match_node(nodes, p, t, run, d)
+    let run = close(tokens, lists, p, Type::CURLY_RIGHT, mark, members);
+    match_node(tokens, nodes, p, at, run, d)
 }
 
 // The next block of a match.
 fn case(
     script: &[u8],
+    tokens: &[u32],
     nodes: &mut [u32],
     types: &mut [u32],
     lists: &mut [u32],
@@ -347,19 +373,19 @@ fn case(
         (parserOf (now (p .entry))) in
         let after = code (now (nodes .exit)) (now (types .exit)) (now (lists .exit))
         (parserOf (now (p .exit))) in
-        ⌜ Again (now (script .entry)) (nextCase (deeper (now (script .entry)) levels)) casesGrown
-        (CasesAre (now (script .entry)) d members before)
-        (CasesAre (now (script .entry)) (r .default) (r .members) after) before after ⌝ }
+        ⌜ Again (now (tokens .entry)) (nextCase (deeper (rulesOf (now (script .entry))) levels)) casesGrown
+        (CasesAre (now (tokens .entry)) d members before)
+        (CasesAre (now (tokens .entry)) (r .default) (r .members) after) before after ⌝ }
 {
     if kind(p) == Type::CURLY_LEFT {
         let token = current(p);
-        let run = parse_body(script, nodes, types, lists, p, levels);
+        let run = parse_body(script, tokens, nodes, types, lists, p, levels);
         return CasesRead {
             default: Default { has: 1, token, run },
             members,
         };
     }
-    condition(script, nodes, types, lists, p, levels);
+    condition(script, tokens, nodes, types, lists, p, levels);
     CasesRead {
         default: d,
         members: std::num::wrapping_add_u32(members, 1),
@@ -369,6 +395,7 @@ fn case(
 // A case = expr "{" prefix* "}"
 fn condition(
     script: &[u8],
+    tokens: &[u32],
     nodes: &mut [u32],
     types: &mut [u32],
     lists: &mut [u32],
@@ -380,12 +407,12 @@ fn condition(
         (parserOf (now (p .entry))) in
         let after = code (now (nodes .exit)) (now (types .exit)) (now (lists .exit))
         (parserOf (now (p .exit))) in
-        ⌜ ReadsMember (now (script .entry)) (caseCells (deeper (now (script .entry)) levels))
+        ⌜ ReadsMember (now (tokens .entry)) (caseCells (deeper (rulesOf (now (script .entry))) levels))
         before after ⌝ }
 {
     let t = current(p);
-    let n = expr(script, nodes, types, lists, p, 0, levels);
-    let run = parse_body(script, nodes, types, lists, p, levels);
+    let n = expr(script, tokens, nodes, types, lists, p, 0, levels);
+    let run = parse_body(script, tokens, nodes, types, lists, p, levels);
     push_case(lists, p, t, n, run);
 }
 
@@ -402,6 +429,7 @@ fn condition(
 //     "[" expr "]"
 fn expr(
     script: &[u8],
+    tokens: &[u32],
     nodes: &mut [u32],
     types: &mut [u32],
     lists: &mut [u32],
@@ -414,21 +442,22 @@ fn expr(
         (parserOf (now (p .entry))) in
         let after = code (now (nodes .exit)) (now (types .exit)) (now (lists .exit))
         (parserOf (now (p .exit))) in
-        ⌜ ReadsNode (now (script .entry)) ((deeper (now (script .entry)) levels) .expr least)
+        ⌜ ReadsNode (now (tokens .entry)) ((deeper (rulesOf (now (script .entry))) levels) .expr least)
         before after r ⌝ }
 {
     if levels == 0 {
         fail_expecting(p, Diagnostic::TOO_DEEP, 0);
         return NodeId(0);
     }
-    let x = operand(script, nodes, types, lists, p, levels - 1);
-    let y = postfix(script, nodes, types, lists, p, x, levels - 1);
-    infixes(script, nodes, types, lists, p, y, least, levels - 1)
+    let x = operand(script, tokens, nodes, types, lists, p, levels - 1);
+    let y = postfix(script, tokens, nodes, types, lists, p, x, levels - 1);
+    infixes(script, tokens, nodes, types, lists, p, y, least, levels - 1)
 }
 
 // What an expr begins with: all but `expr postfix-op` and `expr infix-op expr`.
 fn operand(
     script: &[u8],
+    tokens: &[u32],
     nodes: &mut [u32],
     types: &mut [u32],
     lists: &mut [u32],
@@ -440,27 +469,27 @@ fn operand(
         (parserOf (now (p .entry))) in
         let after = code (now (nodes .exit)) (now (types .exit)) (now (lists .exit))
         (parserOf (now (p .exit))) in
-        ⌜ ReadsNode (now (script .entry)) (operand (deeper (now (script .entry)) levels))
+        ⌜ ReadsNode (now (tokens .entry)) (operand (deeper (rulesOf (now (script .entry))) levels))
         before after r ⌝ }
 {
     let class = operand_class(kind(p));
     if class == 1 {
-        return record_lit(script, nodes, types, lists, p, levels);
+        return record_lit(script, tokens, nodes, types, lists, p, levels);
     }
     if class == 2 {
-        return array_lit(script, nodes, types, lists, p, levels);
+        return array_lit(script, tokens, nodes, types, lists, p, levels);
     }
     if class == 3 {
-        return atom(script, nodes, p);
+        return atom(tokens, nodes, p);
     }
     if class == 4 {
-        return ident(script, nodes, p);
+        return ident(tokens, nodes, p);
     }
     if class == 5 {
-        return group(script, nodes, types, lists, p, levels);
+        return group(script, tokens, nodes, types, lists, p, levels);
     }
     if class == 6 {
-        return unary(script, nodes, types, lists, p, levels);
+        return unary(script, tokens, nodes, types, lists, p, levels);
     }
     fail_expecting(p, Diagnostic::EXPECTED_EXPRESSION, 0);
     NodeId(0)
@@ -469,6 +498,7 @@ fn operand(
 // An expr = { ident ":" expr }
 fn record_lit(
     script: &[u8],
+    tokens: &[u32],
     nodes: &mut [u32],
     types: &mut [u32],
     lists: &mut [u32],
@@ -481,18 +511,19 @@ fn record_lit(
         (parserOf (now (p .entry))) in
         let after = code (now (nodes .exit)) (now (types .exit)) (now (lists .exit))
         (parserOf (now (p .exit))) in
-        ⌜ ReadsNode (now (script .entry)) (recordLiteral (deeper (now (script .entry)) levels))
+        ⌜ ReadsNode (now (tokens .entry)) (recordLiteral (deeper (rulesOf (now (script .entry))) levels))
         before after r ⌝ }
 {
     let src = current(p);
-    advance(script, p);
-    let fields = inits(script, nodes, types, lists, p, levels);
+    advance(tokens, p);
+    let fields = inits(script, tokens, nodes, types, lists, p, levels);
     push_token_node(nodes, p, NodeKind::RECORD, src, fields.start, fields.len)
 }
 
 // The fields of a record, up to `}`.
 fn inits(
     script: &[u8],
+    tokens: &[u32],
     nodes: &mut [u32],
     types: &mut [u32],
     lists: &mut [u32],
@@ -504,22 +535,23 @@ fn inits(
         (parserOf (now (p .entry))) in
         let after = code (now (nodes .exit)) (now (types .exit)) (now (lists .exit))
         (parserOf (now (p .exit))) in
-        ⌜ ReadsList (now (script .entry))
-        (listUntil kCurlyRight (field (deeper (now (script .entry)) levels)))
+        ⌜ ReadsList (now (tokens .entry))
+        (listUntil kCurlyRight (field (deeper (rulesOf (now (script .entry))) levels)))
         before after r ⌝ }
 {
     let mark = get_used(p).scratch;
     let mut members: u32 = 0;
     while member_follows(p, Type::CURLY_RIGHT) {
-        init(script, nodes, types, lists, p, levels);
+        init(script, tokens, nodes, types, lists, p, levels);
         members = std::num::wrapping_add_u32(members, 1);
     }
-    close(script, lists, p, Type::CURLY_RIGHT, mark, members)
+    close(tokens, lists, p, Type::CURLY_RIGHT, mark, members)
 }
 
 // <key>: <value>
 fn init(
     script: &[u8],
+    tokens: &[u32],
     nodes: &mut [u32],
     types: &mut [u32],
     lists: &mut [u32],
@@ -531,19 +563,20 @@ fn init(
         (parserOf (now (p .entry))) in
         let after = code (now (nodes .exit)) (now (types .exit)) (now (lists .exit))
         (parserOf (now (p .exit))) in
-        ⌜ ReadsMember (now (script .entry)) (field (deeper (now (script .entry)) levels))
+        ⌜ ReadsMember (now (tokens .entry)) (field (deeper (rulesOf (now (script .entry))) levels))
         before after ⌝ }
 {
     let key = current(p);
-    expect_ident(script, p);
-    expect(script, p, Type::COLON);
-    let id = expr(script, nodes, types, lists, p, 0, levels);
+    expect_ident(tokens, p);
+    expect(tokens, p, Type::COLON);
+    let id = expr(script, tokens, nodes, types, lists, p, 0, levels);
     push_named(lists, p, key, id.0);
 }
 
 // An expr = "[" expr "]"
 fn array_lit(
     script: &[u8],
+    tokens: &[u32],
     nodes: &mut [u32],
     types: &mut [u32],
     lists: &mut [u32],
@@ -556,18 +589,19 @@ fn array_lit(
         (parserOf (now (p .entry))) in
         let after = code (now (nodes .exit)) (now (types .exit)) (now (lists .exit))
         (parserOf (now (p .exit))) in
-        ⌜ ReadsNode (now (script .entry)) (arrayLiteral (deeper (now (script .entry)) levels))
+        ⌜ ReadsNode (now (tokens .entry)) (arrayLiteral (deeper (rulesOf (now (script .entry))) levels))
         before after r ⌝ }
 {
     let src = current(p);
-    advance(script, p);
-    let members = elems(script, nodes, types, lists, p, levels);
+    advance(tokens, p);
+    let members = elems(script, tokens, nodes, types, lists, p, levels);
     push_token_node(nodes, p, NodeKind::ARRAY, src, members.start, members.len)
 }
 
 // The members of an array, up to `]`.
 fn elems(
     script: &[u8],
+    tokens: &[u32],
     nodes: &mut [u32],
     types: &mut [u32],
     lists: &mut [u32],
@@ -579,23 +613,24 @@ fn elems(
         (parserOf (now (p .entry))) in
         let after = code (now (nodes .exit)) (now (types .exit)) (now (lists .exit))
         (parserOf (now (p .exit))) in
-        ⌜ ReadsList (now (script .entry))
-        (listUntil kBraketRight (nodeMember ((deeper (now (script .entry)) levels) .expr 0)))
+        ⌜ ReadsList (now (tokens .entry))
+        (listUntil kBraketRight (nodeMember ((deeper (rulesOf (now (script .entry))) levels) .expr 0)))
         before after r ⌝ }
 {
     let mark = get_used(p).scratch;
     let mut members: u32 = 0;
     while member_follows(p, Type::BRAKET_RIGHT) {
-        let n = expr(script, nodes, types, lists, p, 0, levels);
+        let n = expr(script, tokens, nodes, types, lists, p, 0, levels);
         push_cell(lists, p, n.0);
         members = std::num::wrapping_add_u32(members, 1);
     }
-    close(script, lists, p, Type::BRAKET_RIGHT, mark, members)
+    close(tokens, lists, p, Type::BRAKET_RIGHT, mark, members)
 }
 
 // An expr = "(" expr ")"
 fn group(
     script: &[u8],
+    tokens: &[u32],
     nodes: &mut [u32],
     types: &mut [u32],
     lists: &mut [u32],
@@ -608,18 +643,19 @@ fn group(
         (parserOf (now (p .entry))) in
         let after = code (now (nodes .exit)) (now (types .exit)) (now (lists .exit))
         (parserOf (now (p .exit))) in
-        ⌜ ReadsNode (now (script .entry)) (group (deeper (now (script .entry)) levels))
+        ⌜ ReadsNode (now (tokens .entry)) (group (deeper (rulesOf (now (script .entry))) levels))
         before after r ⌝ }
 {
-    advance(script, p);
-    let id = expr(script, nodes, types, lists, p, 0, levels);
-    expect(script, p, Type::BRACE_RIGHT);
+    advance(tokens, p);
+    let id = expr(script, tokens, nodes, types, lists, p, 0, levels);
+    expect(tokens, p, Type::BRACE_RIGHT);
     id
 }
 
 // An expr = prefix-op expr
 fn unary(
     script: &[u8],
+    tokens: &[u32],
     nodes: &mut [u32],
     types: &mut [u32],
     lists: &mut [u32],
@@ -632,18 +668,19 @@ fn unary(
         (parserOf (now (p .entry))) in
         let after = code (now (nodes .exit)) (now (types .exit)) (now (lists .exit))
         (parserOf (now (p .exit))) in
-        ⌜ ReadsNode (now (script .entry)) (unary (deeper (now (script .entry)) levels))
+        ⌜ ReadsNode (now (tokens .entry)) (unary (deeper (rulesOf (now (script .entry))) levels))
         before after r ⌝ }
 {
     let op = current(p);
-    advance(script, p);
-    let rhs = expr(script, nodes, types, lists, p, PREFIX_POWER, levels);
+    advance(tokens, p);
+    let rhs = expr(script, tokens, nodes, types, lists, p, PREFIX_POWER, levels);
     push_token_node(nodes, p, NodeKind::UNARY, op, rhs.0, 0)
 }
 
 // Postfix parsing loop: expr = expr postfix-op
 fn postfix(
     script: &[u8],
+    tokens: &[u32],
     nodes: &mut [u32],
     types: &mut [u32],
     lists: &mut [u32],
@@ -656,12 +693,12 @@ fn postfix(
         (parserOf (now (p .entry))) in
         let after = code (now (nodes .exit)) (now (types .exit)) (now (lists .exit))
         (parserOf (now (p .exit))) in
-        ⌜ LoopsNode (now (script .entry)) (postfix (deeper (now (script .entry)) levels) lhs)
+        ⌜ LoopsNode (now (tokens .entry)) (postfix (deeper (rulesOf (now (script .entry))) levels) lhs)
         before after r ⌝ }
 {
     let mut x = lhs;
     while postfix_follows(nodes, p, x) {
-        x = post_step(script, nodes, types, lists, p, x, levels);
+        x = post_step(script, tokens, nodes, types, lists, p, x, levels);
     }
     x
 }
@@ -669,6 +706,7 @@ fn postfix(
 // One more field or call.
 fn post_step(
     script: &[u8],
+    tokens: &[u32],
     nodes: &mut [u32],
     types: &mut [u32],
     lists: &mut [u32],
@@ -682,19 +720,20 @@ fn post_step(
         (parserOf (now (p .entry))) in
         let after = code (now (nodes .exit)) (now (types .exit)) (now (lists .exit))
         (parserOf (now (p .exit))) in
-        ⌜ ReadsStep (now (script .entry)) (postfixStep (deeper (now (script .entry)) levels) lhs)
+        ⌜ ReadsStep (now (tokens .entry)) (postfixStep (deeper (rulesOf (now (script .entry))) levels) lhs)
         before after r ⌝ }
 {
     if kind(p) == Type::DOT {
-        field_access(script, nodes, p, lhs)
+        field_access(tokens, nodes, p, lhs)
     } else {
-        call(script, nodes, types, lists, p, lhs, levels)
+        call(script, tokens, nodes, types, lists, p, lhs, levels)
     }
 }
 
 // An expr = expr "(" prefix* ")"
 fn call(
     script: &[u8],
+    tokens: &[u32],
     nodes: &mut [u32],
     types: &mut [u32],
     lists: &mut [u32],
@@ -708,17 +747,27 @@ fn call(
         (parserOf (now (p .entry))) in
         let after = code (now (nodes .exit)) (now (types .exit)) (now (lists .exit))
         (parserOf (now (p .exit))) in
-        ⌜ ReadsStep (now (script .entry)) (call (deeper (now (script .entry)) levels) lhs)
+        ⌜ ReadsStep (now (tokens .entry)) (call (deeper (rulesOf (now (script .entry))) levels) lhs)
         before after r ⌝ }
 {
-    advance(script, p);
-    let args = items(script, nodes, types, lists, p, Type::BRACE_RIGHT, levels);
+    advance(tokens, p);
+    let args = items(
+        script,
+        tokens,
+        nodes,
+        types,
+        lists,
+        p,
+        Type::BRACE_RIGHT,
+        levels,
+    );
     push_call(nodes, p, lhs, args)
 }
 
 // Infix parsing loop: expr = expr infix-op expr
 fn infixes(
     script: &[u8],
+    tokens: &[u32],
     nodes: &mut [u32],
     types: &mut [u32],
     lists: &mut [u32],
@@ -732,13 +781,13 @@ fn infixes(
         (parserOf (now (p .entry))) in
         let after = code (now (nodes .exit)) (now (types .exit)) (now (lists .exit))
         (parserOf (now (p .exit))) in
-        ⌜ LoopsNode (now (script .entry))
-        (infixes (deeper (now (script .entry)) levels) stageOne (now (script .entry)) least
+        ⌜ LoopsNode (now (tokens .entry))
+        (infixes (deeper (rulesOf (now (script .entry))) levels) stageOne (now (script .entry)) least
         lhs) before after r ⌝ }
 {
     let mut x = lhs;
     while infix_follows(script, p, least) {
-        x = climb(script, nodes, types, lists, p, x, least, levels);
+        x = climb(script, tokens, nodes, types, lists, p, x, least, levels);
     }
     x
 }
@@ -746,6 +795,7 @@ fn infixes(
 // One more cast, or one more sign with its right side.
 fn climb(
     script: &[u8],
+    tokens: &[u32],
     nodes: &mut [u32],
     types: &mut [u32],
     lists: &mut [u32],
@@ -760,25 +810,36 @@ fn climb(
         (parserOf (now (p .entry))) in
         let after = code (now (nodes .exit)) (now (types .exit)) (now (lists .exit))
         (parserOf (now (p .exit))) in
-        ⌜ ReadsStep (now (script .entry))
-        (infixStep (deeper (now (script .entry)) levels) stageOne (now (script .entry)) least
+        ⌜ ReadsStep (now (tokens .entry))
+        (infixStep (deeper (rulesOf (now (script .entry))) levels) stageOne (now (script .entry)) least
         lhs) before after r ⌝ }
 {
     let k = kind(p);
     if k == Type::AS {
-        return cast(script, nodes, types, lists, p, lhs, levels);
+        return cast(tokens, nodes, types, lists, p, lhs, levels);
     }
     let n = operator(k);
     if 9 <= n {
         return lhs;
     }
-    binary(script, nodes, types, lists, p, lhs, left_power(n), levels)
+    binary(
+        script,
+        tokens,
+        nodes,
+        types,
+        lists,
+        p,
+        lhs,
+        left_power(n),
+        levels,
+    )
 }
 
 // An expr = expr infix-op expr, `left` being the power on the left of the sign. The power on its
 // right is one more.
 fn binary(
     script: &[u8],
+    tokens: &[u32],
     nodes: &mut [u32],
     types: &mut [u32],
     lists: &mut [u32],
@@ -793,11 +854,11 @@ fn binary(
         (parserOf (now (p .entry))) in
         let after = code (now (nodes .exit)) (now (types .exit)) (now (lists .exit))
         (parserOf (now (p .exit))) in
-        ⌜ ReadsStep (now (script .entry)) (binary (deeper (now (script .entry)) levels) lhs left)
+        ⌜ ReadsStep (now (tokens .entry)) (binary (deeper (rulesOf (now (script .entry))) levels) lhs left)
         before after r ⌝ }
 {
     let op = current(p);
-    advance(script, p);
-    let rhs = expr(script, nodes, types, lists, p, left + 1, levels);
+    advance(tokens, p);
+    let rhs = expr(script, tokens, nodes, types, lists, p, left + 1, levels);
     push_token_node(nodes, p, NodeKind::BIN, op, lhs.0, rhs.0)
 }

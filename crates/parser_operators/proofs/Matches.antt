@@ -10,13 +10,15 @@ use lib.ListN.{length, length-append}
 use borrow.Author.Tests.{eq-eqb, ne-eqb}
 use Rattle.lex.specs.Kind.{kEof, kCurlyLeft, kCurlyRight}
 use Rattle.lex.specs.declared.tok.Token.{Token}
+use Rattle.tokens.specs.Table.{tokenOf}
+use Rattle.tokens.specs.declared.Entry.{Entry}
 use Rattle.rules.specs.Tree.{Notes, State, Result, ok, err}
 use Rattle.rules.specs.Combinators.{Rule, Readers, _>>=_, _>>_, pure, cur, current, ifKind, loop, ControlFlow, continue, break, allocSlice, expect}
 use Rattle.ast.specs.Layout.{tokenCells, runCells}
 use Rattle.rules.specs.Rules.{Cases, noteAfterDefault, defaultCase, conditionCase, nextCase, parseBody}
 use Rattle.ast.specs.declared.Run.{Run}
 use Rattle.ast.specs.declared.NodeId.{NodeId}
-use Rattle.parser_state.specs.Represents.{Code, going, ahead, lowToken, Represents, FailedAt}
+use Rattle.parser_state.specs.Represents.{Code, going, ahead, Represents, FailedAt}
 use Rattle.parser_state.specs.Refines.{Ends, stackUnchanged, grown, Refines, ReadsMember, Lists, failAt, memberFollows, closed}
 use Rattle.parser_state.proofs.Steps.{either, represents-less, represents-going, failed-fails, represents-noted, noted, current-represents, seq, read, looks, done, enough, ifKind-yes}
 use Rattle.parser_state.proofs.Cells.{flatten-snoc}
@@ -29,14 +31,14 @@ use Rattle.parser_operators.specs.declared.Default.{Default}
 
 pub default-none : (d : Default) → d .has ≡ 0 → defaultOf d ≡ none
 unfolding defaultOf
-default-none d e = ap (λ (b : Bool). elim b as (λ _. Option (Token × Run)) [ true ↦ none | false ↦ some (lowToken (d .token), d .run) ]) (eq-eqb (d .has) 0 e)
+default-none d e = ap (λ (b : Bool). elim b as (λ _. Option (Token × Run)) [ true ↦ none | false ↦ some (tokenOf (d .token), d .run) ]) (eq-eqb (d .has) 0 e)
 
-pub default-some : (d : Default) → (d .has ≡ 0 → ⊥) → defaultOf d ≡ some (lowToken (d .token), d .run)
+pub default-some : (d : Default) → (d .has ≡ 0 → ⊥) → defaultOf d ≡ some (tokenOf (d .token), d .run)
 unfolding defaultOf
-default-some d e = ap (λ (b : Bool). elim b as (λ _. Option (Token × Run)) [ true ↦ none | false ↦ some (lowToken (d .token), d .run) ]) (ne-eqb (d .has) 0 e)
+default-some d e = ap (λ (b : Bool). elim b as (λ _. Option (Token × Run)) [ true ↦ none | false ↦ some (tokenOf (d .token), d .run) ]) (ne-eqb (d .has) 0 e)
 
 -- what fails gives no value, of whatever type
-pub fail-any : {A : Type 0} {script : List ℕ} {Q : A → Type 0} {s s′ : Code} (number : ℕ) (t : Token) → Refines {A = ℕ} script 0 0 (failAt number t) (λ n. n ≡ 0) stackUnchanged 0 0 0 s s′ → Refines {A = A} script 0 0 (failAt number t) Q stackUnchanged 0 0 0 s s′
+pub fail-any : {A : Type 0} {tokens : List ℕ} {Q : A → Type 0} {s s′ : Code} (number : ℕ) (t : Token) → Refines {A = ℕ} tokens 0 0 (failAt number t) (λ n. n ≡ 0) stackUnchanged 0 0 0 s s′ → Refines {A = A} tokens 0 0 (failAt number t) Q stackUnchanged 0 0 0 s s′
 unfolding failAt
 fail-any number t p = record { sticky = p .sticky; monotone = p .monotone; progress = p .progress; simulates = λ R L stack m h. p .simulates R L stack m h }
 
@@ -80,67 +82,67 @@ module _ (deeper : Readers) where
       go t (ok n s) = body t n (parseBody deeper s)
       go t (err e s) = refl
 
-  module _ {script : List ℕ} {n n′ : ℕ} {s s′ : Code} (d d′ : Default) where
-    case-again : memberFollows (s .parser) kCurlyRight ≡ true → length (ahead script s′) ≤ length (ahead script s) → (going s′ ≡ true → length (ahead script s′) + 1 ≤ length (ahead script s))
-        → ((R L : ℕ) (stack : List ℕ) (c : Cases) (m : State) → CasesAre script d n s c → Represents script s R L (stack ++ flatten (c .cases)) m → Turned script (nextCase deeper) casesGrown (CasesAre script d′ n′ s′) s′ R L stack (block c m))
-        → Again script (nextCase deeper) casesGrown (CasesAre script d n s) (CasesAre script d′ n′ s′) s s′
+  module _ {tokens : List ℕ} {n n′ : ℕ} {s s′ : Code} (d d′ : Default) where
+    case-again : memberFollows (s .parser) kCurlyRight ≡ true → length (ahead tokens s′) ≤ length (ahead tokens s) → (going s′ ≡ true → length (ahead tokens s′) + 1 ≤ length (ahead tokens s))
+        → ((R L : ℕ) (stack : List ℕ) (c : Cases) (m : State) → CasesAre tokens d n s c → Represents tokens s R L (stack ++ flatten (c .cases)) m → Turned tokens (nextCase deeper) casesGrown (CasesAre tokens d′ n′ s′) s′ R L stack (block c m))
+        → Again tokens (nextCase deeper) casesGrown (CasesAre tokens d n s) (CasesAre tokens d′ n′ s′) s s′
     unfolding nextCase
     case-again w a b f = record {
       monotone = a;
       progress = b;
       flowValue = λ R L stack c m q h.
-          let cur : current (m .left) ≡ s .parser .cur = current-represents (h .related) in
-          subst (Turned script (nextCase deeper) casesGrown (CasesAre script d′ n′ s′) s′ R L stack)
+          let cur : current (m .left) ≡ tokenOf (s .parser .cur) = current-represents (h .related) in
+          subst (Turned tokens (nextCase deeper) casesGrown (CasesAre tokens d′ n′ s′) s′ R L stack)
           (sym (ifKind-is-no kEof _ _ m (rw cur (member-eof (s .parser) kCurlyRight w)) ∙ ifKind-is-no kCurlyRight _ _ m (rw cur (member-stop (s .parser) kCurlyRight w))))
-          (note-then c (block c) m (Turned script (nextCase deeper) casesGrown (CasesAre script d′ n′ s′) s′ R L stack) (λ u. f R L stack c (noted m u) q (represents-noted u h)));
+          (note-then c (block c) m (Turned tokens (nextCase deeper) casesGrown (CasesAre tokens d′ n′ s′) s′ R L stack) (λ u. f R L stack c (noted m u) q (represents-noted u h)));
     }
 
   -- the default, which replaces an earlier one
-  module _ {script : List ℕ} {n : ℕ} {run : Run} {s s′ : Code} (d : Default) where
-    default-own : memberFollows (s .parser) kCurlyRight ≡ true → s .parser .cur .kind ≡ kCurlyLeft → Refines script 0 0 (parseBody deeper) (λ a. a ≡ run) stackUnchanged 1 1 8 s s′
-        → Again script (nextCase deeper) casesGrown (CasesAre script d n s) (CasesAre script (record { has = 1; token = s .parser .cur; run = run }) n s′) s s′
+  module _ {tokens : List ℕ} {n : ℕ} {run : Run} {s s′ : Code} (d : Default) where
+    default-own : memberFollows (s .parser) kCurlyRight ≡ true → s .parser .cur .kind ≡ kCurlyLeft → Refines tokens 0 0 (parseBody deeper) (λ a. a ≡ run) stackUnchanged 1 1 8 s s′
+        → Again tokens (nextCase deeper) casesGrown (CasesAre tokens d n s) (CasesAre tokens (record { has = 1; token = s .parser .cur; run = run }) n s′) s s′
     unfolding defaultCase
     default-own w k p = case-again d (record { has = 1; token = s .parser .cur; run = run }) w (p .monotone) (p .progress) (λ R L stack c m q h.
-        let x : Refines script 0 0 (block c) (λ e. e ≡ continue (record { cases = c .cases; default = some (lowToken (s .parser .cur), run) })) stackUnchanged 1 0 0 s s′ =
+        let x : Refines tokens 0 0 (block c) (λ e. e ≡ continue (record { cases = c .cases; default = some (tokenOf (s .parser .cur), run) })) stackUnchanged 1 0 0 s s′ =
         enough (seq (λ e. pure (continue e)) (ifKind-yes (defaultCase deeper c) (conditionCase deeper c) (read _ looks refl (seq _ p done)) k) done) tt in
         go R L stack c q (block c m) (x .simulates R L (stack ++ flatten (c .cases)) m (represents-less _ _ (omega arith) (omega arith) h)))
       where
-        go : (R L : ℕ) (stack : List ℕ) (c : Cases) → CasesAre script d n s c → (r : Result (ControlFlow Cases)) → Ends script (λ e. e ≡ continue (record { cases = c .cases; default = some (lowToken (s .parser .cur), run) })) stackUnchanged s′ R L 0 0 (stack ++ flatten (c .cases)) r
-            → Turned script (nextCase deeper) casesGrown (CasesAre script (record { has = 1; token = s .parser .cur; run = run }) n s′) s′ R L stack r
+        go : (R L : ℕ) (stack : List ℕ) (c : Cases) → CasesAre tokens d n s c → (r : Result (ControlFlow Cases)) → Ends tokens (λ e. e ≡ continue (record { cases = c .cases; default = some (tokenOf (s .parser .cur), run) })) stackUnchanged s′ R L 0 0 (stack ++ flatten (c .cases)) r
+            → Turned tokens (nextCase deeper) casesGrown (CasesAre tokens (record { has = 1; token = s .parser .cur; run = run }) n s′) s′ R L stack r
         go R L stack c q (ok (continue b) m) h =
-            let e : continue b ≡ continue (record { cases = c .cases; default = some (lowToken (s .parser .cur), run) }) = h .0 in
-            let f : b ≡ record { cases = c .cases; default = some (lowToken (s .parser .cur), run) } = cc in
-            subst (λ (x : Cases). CasesAre script (record { has = 1; token = s .parser .cur; run = run }) n s′ x × Represents script s′ R L (stack ++ flatten (x .cases)) m) (sym f)
+            let e : continue b ≡ continue (record { cases = c .cases; default = some (tokenOf (s .parser .cur), run) }) = h .0 in
+            let f : b ≡ record { cases = c .cases; default = some (tokenOf (s .parser .cur), run) } = cc in
+            subst (λ (x : Cases). CasesAre tokens (record { has = 1; token = s .parser .cur; run = run }) n s′ x × Represents tokens s′ R L (stack ++ flatten (x .cases)) m) (sym f)
             ((sym (default-some (record { has = 1; token = s .parser .cur; run = run }) (λ z. omega arith)), (q .1 .0, omega (arith, q .1 .1, p .monotone))), represents-less _ _ (omega arith) (omega arith) (h .1))
-        go R L stack c q (ok (break b) m) h = let e : break b ≡ continue (record { cases = c .cases; default = some (lowToken (s .parser .cur), run) }) = h .0 in let z : _≡_ {A = ℕ} 0 1 = cc in omega arith
+        go R L stack c q (ok (break b) m) h = let e : break b ≡ continue (record { cases = c .cases; default = some (tokenOf (s .parser .cur), run) }) = h .0 in let z : _≡_ {A = ℕ} 0 1 = cc in omega arith
         go R L stack c q (err e m) h = record { status = h .status; over = flatten (c .cases) ++ h .over; related = rw (← append-assoc stack (flatten (c .cases)) (h .over)) (h .related) }
 
-    pub default-again : {t : Token} → memberFollows (s .parser) kCurlyRight ≡ true → t ≡ s .parser .cur → s .parser .cur .kind ≡ kCurlyLeft → Refines script 0 0 (parseBody deeper) (λ a. a ≡ run) stackUnchanged 1 1 8 s s′
-        → Again script (nextCase deeper) casesGrown (CasesAre script d n s) (CasesAre script (record { has = 1; token = t; run = run }) n s′) s s′
-    default-again w e k p = subst (λ (t : Token). Again script (nextCase deeper) casesGrown (CasesAre script d n s) (CasesAre script (record { has = 1; token = t; run = run }) n s′) s s′) (sym e) (default-own w k p)
+    pub default-again : {t : Entry} → memberFollows (s .parser) kCurlyRight ≡ true → t ≡ s .parser .cur → s .parser .cur .kind ≡ kCurlyLeft → Refines tokens 0 0 (parseBody deeper) (λ a. a ≡ run) stackUnchanged 1 1 8 s s′
+        → Again tokens (nextCase deeper) casesGrown (CasesAre tokens d n s) (CasesAre tokens (record { has = 1; token = t; run = run }) n s′) s s′
+    default-again w e k p = subst (λ (t : Entry). Again tokens (nextCase deeper) casesGrown (CasesAre tokens d n s) (CasesAre tokens (record { has = 1; token = t; run = run }) n s′) s s′) (sym e) (default-own w k p)
 
   -- a case
-  module _ {script : List ℕ} {n n′ : ℕ} {s s′ : Code} (d : Default) where
-    pub condition-again : memberFollows (s .parser) kCurlyRight ≡ true → (s .parser .cur .kind ≡ kCurlyLeft → ⊥) → ReadsMember script (caseCells deeper) s s′ → n′ ≡ (n + 1) % 2 ^ 32
-        → Again script (nextCase deeper) casesGrown (CasesAre script d n s) (CasesAre script d n′ s′) s s′
+  module _ {tokens : List ℕ} {n n′ : ℕ} {s s′ : Code} (d : Default) where
+    pub condition-again : memberFollows (s .parser) kCurlyRight ≡ true → (s .parser .cur .kind ≡ kCurlyLeft → ⊥) → ReadsMember tokens (caseCells deeper) s s′ → n′ ≡ (n + 1) % 2 ^ 32
+        → Again tokens (nextCase deeper) casesGrown (CasesAre tokens d n s) (CasesAre tokens d n′ s′) s s′
     condition-again w k p count = case-again d d w (p .monotone) (p .progress) (λ R L stack c m q h.
-        let cur : current (m .left) ≡ s .parser .cur = current-represents (h .related) in
-        subst (Turned script (nextCase deeper) casesGrown (CasesAre script d n′ s′) s′ R L stack) (sym (block-condition c m (rw cur (ne-eqb (s .parser .cur .kind) kCurlyLeft k))))
-        (go R L stack c q (h .related .lent .small) (caseCells deeper m) (p .simulates R L (stack ++ flatten (c .cases)) m (represents-less _ _ (omega arith) (omega arith) h))))
+        let cur : current (m .left) ≡ tokenOf (s .parser .cur) = current-represents (h .related) in
+        subst (Turned tokens (nextCase deeper) casesGrown (CasesAre tokens d n′ s′) s′ R L stack) (sym (block-condition c m (rw cur (ne-eqb (s .parser .cur .kind) kCurlyLeft k))))
+        (go R L stack c q (caseCells deeper m) (p .simulates R L (stack ++ flatten (c .cases)) m (represents-less _ _ (omega arith) (omega arith) h))))
       where
-        go : (R L : ℕ) (stack : List ℕ) (c : Cases) → CasesAre script d n s c → length script ≤ 65536 → (r : Result (List ℕ)) → Ends script (λ _. Unit {0}) grown s′ R L 0 0 (stack ++ flatten (c .cases)) r
-            → Turned script (nextCase deeper) casesGrown (CasesAre script d n′ s′) s′ R L stack (more c r)
-        go R L stack c q small (ok x m) h =
-            let t : length (ahead script s′) + 1 ≤ length (ahead script s) = p .progress (represents-going (h .1)) in
+        go : (R L : ℕ) (stack : List ℕ) (c : Cases) → CasesAre tokens d n s c → (r : Result (List ℕ)) → Ends tokens (λ _. Unit {0}) grown s′ R L 0 0 (stack ++ flatten (c .cases)) r
+            → Turned tokens (nextCase deeper) casesGrown (CasesAre tokens d n′ s′) s′ R L stack (more c r)
+        go R L stack c q (ok x m) h =
+            let t : length (ahead tokens s′) + 1 ≤ length (ahead tokens s) = p .progress (represents-going (h .1)) in
             let y : length (c .cases ++ (x ∷ [])) ≡ length (c .cases) + 1 = length-append (c .cases) (x ∷ []) in
             ((q .0, (omega (arith, q .1 .0, q .1 .1), omega (arith, q .1 .1))), rw (flatten-snoc (c .cases) x, ← append-assoc stack (flatten (c .cases)) x) (represents-less _ _ (omega arith) (omega arith) (h .1)))
-        go R L stack c q small (err e m) h = record { status = h .status; over = flatten (c .cases) ++ h .over; related = rw (← append-assoc stack (flatten (c .cases)) (h .over)) (h .related) }
+        go R L stack c q (err e m) h = record { status = h .status; over = flatten (c .cases) ++ h .over; related = rw (← append-assoc stack (flatten (c .cases)) (h .over)) (h .related) }
 
   -- ---- the end
 
-  module _ {script : List ℕ} {n mark d₂ r₂ l₂ : ℕ} {id : NodeId} {s₀ s s₂ : Code} (t : Token) (d : Default) where
-    pub match-end : LoopInvariant script (nextCase deeper) casesGrown (record { cases = []; default = none }) (CasesAre script d n s) s₀ s → memberFollows (s .parser) kCurlyRight ≡ false → mark ≡ s₀ .parser .used .scratch
-        → Lists script (matchEnd t (defaultOf d)) id d₂ r₂ l₂ mark n s s₂ → Refines script 0 0 (matchRest deeper t) (λ a. a ≡ id) stackUnchanged d₂ r₂ l₂ s₀ s₂
+  module _ {tokens : List ℕ} {n mark d₂ r₂ l₂ : ℕ} {id : NodeId} {s₀ s s₂ : Code} (t : Token) (d : Default) where
+    pub match-end : LoopInvariant tokens (nextCase deeper) casesGrown (record { cases = []; default = none }) (CasesAre tokens d n s) s₀ s → memberFollows (s .parser) kCurlyRight ≡ false → mark ≡ s₀ .parser .used .scratch
+        → Lists tokens (matchEnd t (defaultOf d)) id d₂ r₂ l₂ mark n s s₂ → Refines tokens 0 0 (matchRest deeper t) (λ a. a ≡ id) stackUnchanged d₂ r₂ l₂ s₀ s₂
     unfolding matchRest _>>=_ nextCase pure flatten
     match-end i w k q = record {
       sticky = λ e. let e₁ : s ≡ s₀ = p .sticky e in q .sticky (ap going e₁ ∙ e) ∙ e₁;
@@ -149,22 +151,22 @@ module _ (deeper : Readers) where
       simulates = λ R L stack m h. go R L stack (sym (k ∙ h .related .lists .stacked)) (loop (nextCase deeper) (record { cases = []; default = none }) m) (p .simulates R L stack m h);
     }
       where
-        out : (R L : ℕ) (stack : List ℕ) (c : Cases) (m : State) → CasesAre script d n s c → Represents script s R L stack m → nextCase deeper c m ≡ ok (break c) m
+        out : (R L : ℕ) (stack : List ℕ) (c : Cases) (m : State) → CasesAre tokens d n s c → Represents tokens s R L stack m → nextCase deeper c m ≡ ok (break c) m
         out R L stack c m q h =
-            let cur : current (m .left) ≡ s .parser .cur = current-represents (h .related) in
+            let cur : current (m .left) ≡ tokenOf (s .parser .cur) = current-represents (h .related) in
             either (eqb (s .parser .cur .kind) kEof)
             (λ g. ifKind-is-yes kEof _ _ m (rw cur g))
             (λ g. ifKind-is-no kEof _ _ m (rw cur g) ∙ ifKind-is-yes kCurlyRight _ _ m (rw cur (no-member (s .parser) kCurlyRight (represents-going h) w g)))
 
-        p : Refines script 0 0 (loop (nextCase deeper) (record { cases = []; default = none })) (CasesAre script d n s) casesGrown 0 0 0 s₀ s
+        p : Refines tokens 0 0 (loop (nextCase deeper) (record { cases = []; default = none })) (CasesAre tokens d n s) casesGrown 0 0 0 s₀ s
         p = round-out i (λ stack. append-nil stack) out
 
-        go : (R L : ℕ) (stack : List ℕ) → length stack ≡ mark → (r : Result Cases) → Ends script (CasesAre script d n s) casesGrown s R L 0 0 stack r
-            → Ends script (λ a. a ≡ id) stackUnchanged s₂ R L r₂ l₂ stack (elim r as (λ _. Result NodeId) [ ok c m ↦ matchEnd t (c .default) (c .cases) m | err e m ↦ err e m ])
+        go : (R L : ℕ) (stack : List ℕ) → length stack ≡ mark → (r : Result Cases) → Ends tokens (CasesAre tokens d n s) casesGrown s R L 0 0 stack r
+            → Ends tokens (λ a. a ≡ id) stackUnchanged s₂ R L r₂ l₂ stack (elim r as (λ _. Result NodeId) [ ok c m ↦ matchEnd t (c .default) (c .cases) m | err e m ↦ err e m ])
         go R L stack j (ok c m) h =
-            subst (λ (o : Option (Token × Run)). Ends script (λ a. a ≡ id) stackUnchanged s₂ R L r₂ l₂ stack (matchEnd t o (c .cases) m)) (sym (h .0 .0))
+            subst (λ (o : Option (Token × Run)). Ends tokens (λ a. a ≡ id) stackUnchanged s₂ R L r₂ l₂ stack (matchEnd t o (c .cases) m)) (sym (h .0 .0))
             (q .simulates R L stack (c .cases) m j (h .0 .1 .0) (omega (arith, h .0 .1 .1, ap length (h .1 .related .left))) (represents-less _ _ (omega arith) (omega arith) (h .1)))
-        go R L stack j (err e m) h = subst (λ (x : Code). FailedAt script x e R L stack m) (sym (q .sticky (failed-fails h))) h
+        go R L stack j (err e m) h = subst (λ (x : Code). FailedAt tokens x e R L stack m) (sym (q .sticky (failed-fails h))) h
 
   -- the rule as the code takes it apart
   pub match-rest : (t : Token) (m : State)

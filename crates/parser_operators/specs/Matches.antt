@@ -5,7 +5,6 @@ use mathlib.Core.Option.{Option, none, some}
 use mathlib.Core.List.{List, [], _∷_, _++_, flatten}
 use Prim.Native.Nat.{ℕ}
 use lib.Dec.{eqb}
-use Rattle.lex.specs.Errors.{eMatchWithoutADefault}
 use Rattle.lex.specs.Kind.{kCurlyRight}
 use Rattle.lex.specs.declared.tok.Token.{Token}
 use Rattle.rules.specs.Tree.{err}
@@ -15,19 +14,20 @@ use Rattle.rules.specs.Rules.{Cases, parseBody, nextCase}
 use Rattle.ast.specs.declared.Run.{Run}
 use Rattle.ast.specs.declared.NodeId.{NodeId}
 use Rattle.ast.specs.declared.Node.the-variants as N
-use Rattle.parser_state.specs.Represents.{Code, lowToken}
+use Rattle.tokens.specs.Table.{tokenOf}
+use Rattle.parser_state.specs.Represents.{Code}
 use Rattle.parser_state.specs.Refines.{Collected, closed}
 use Rattle.parser_operators.specs.declared.Default.{Default}
 
 unfoldable pub defaultOf : Default → Option (Token × Run)
-defaultOf d = elim (eqb (d .has) 0) [ true ↦ none | false ↦ some (lowToken (d .token), d .run) ]
+defaultOf d = elim (eqb (d .has) 0) [ true ↦ none | false ↦ some (tokenOf (d .token), d .run) ]
 
 abbrev pub casesGrown : Cases → List ℕ → List ℕ
 casesGrown c stack = stack ++ flatten (c .cases)
 
 -- the code has as many cases, and the same default
 abbrev pub CasesAre : List ℕ → Default → ℕ → Code → Cases → Type 0
-CasesAre script d n s c = (c .default ≡ defaultOf d) × Collected script n s (c .cases)
+CasesAre tokens d n s c = (c .default ≡ defaultOf d) × Collected tokens n s (c .cases)
 
 -- the cells of a case
 unfoldable pub caseCells : Readers → Rule (List ℕ)
@@ -40,7 +40,7 @@ caseCells deeper = do
 -- the node of a match, `t` being the token after `match`
 unfoldable pub matchNode : Token → Option (Token × Run) → Run → Rule NodeId
 matchNode t default cases = elim default [
-  | none ↦ (λ s. err (atToken eMatchWithoutADefault 0 t) s)
+  | none ↦ (λ s. err (atToken 18 0 t) s)
   | some d ↦ pushNode (λ id. N.Match id cases (d .0) (d .1))
 ]
 

@@ -6,8 +6,8 @@ use mathlib.Core.List.{List, [], _∷_}
 use Prim.Native.Nat.{ℕ, _*_}
 use lib.Dec.{eqb, ltb}
 use lib.ListN.{getD}
-use Rattle.lex.specs.Errors.{eExpectedExpression}
 use Rattle.lex.specs.Kind.{kPlus, kMinus, kAsteriks, kSlash, kPercent, kDoubleEqual, kLessThan, kGreaterThan, kDot, kBraceLeft, kBraketLeft, kCurlyLeft, kS, kD, kI, kIdent, kDoc, kMatch, kAs, kTrue, kFalse}
+use Rattle.tokens.specs.Table.{tokenOf}
 use Rattle.ast.specs.Layout.{nodeWidth}
 use Rattle.rules.specs.Combinators.{Rule, Readers, choose, fail}
 use Rattle.rules.specs.Rules.{stageOne, breaksOff, recordLiteral, arrayLiteral, atom, ident, group, unary}
@@ -24,7 +24,7 @@ unfoldable pub operandClass : ℕ → ℕ
 operandClass = choose operandClasses 0
 
 unfoldable pub operandOf : Readers → ℕ → Rule NodeId
-operandOf d = choose ((1, recordLiteral d) ∷ (2, arrayLiteral d) ∷ (3, atom) ∷ (4, ident) ∷ (5, group d) ∷ (6, unary d) ∷ []) (fail eExpectedExpression)
+operandOf d = choose ((1, recordLiteral d) ∷ (2, arrayLiteral d) ∷ (3, atom) ∷ (4, ident) ∷ (5, group d) ∷ (6, unary d) ∷ []) (fail 19)
 
 -- ---- binding powers
 
@@ -51,9 +51,13 @@ beginsExpr p = eqb (p .used .docs) 0 && (ltb (p .cur .kind) kDoc || ltb kMatch (
 
 -- ---- loops over an expression
 
--- the tag of a node is an Ident's or a Field's
-abbrev pub callAt : List ℕ → NodeId → Bool
-callAt nodes n = elim (eqb (getD nodes (nodeWidth * n .0) 0) 2) [ true ↦ true | false ↦ eqb (getD nodes (nodeWidth * n .0) 0) 9 ]
+-- the kind of an Ident or a Field
+abbrev pub callableKind : ℕ → Bool
+callableKind k = elim (eqb k 2) [ true ↦ true | false ↦ eqb k 9 ]
+
+-- one of `made` nodes is an Ident or a Field
+abbrev pub callAt : List ℕ → ℕ → NodeId → Bool
+callAt nodes made n = elim (ltb (n .0) made) [ true ↦ callableKind (getD nodes (nodeWidth * n .0) 0) | false ↦ false ]
 
 -- a postfix goes on
 unfoldable pub postfixBy : Bool → Bool → Bool → Bool → Bool
@@ -63,7 +67,7 @@ postfixBy true false false calls = false
 postfixBy true false true calls = calls
 
 abbrev pub postfixFollows : List ℕ → Parser → NodeId → Bool
-postfixFollows nodes p n = postfixBy (isGoing (p .status)) (eqb (p .cur .kind) kDot) (eqb (p .cur .kind) kBraceLeft) (callAt nodes n)
+postfixFollows nodes p n = postfixBy (isGoing (p .status)) (eqb (p .cur .kind) kDot) (eqb (p .cur .kind) kBraceLeft) (callAt nodes (p .used .nodes) n)
 
 -- an infix sign goes on that has the power `o` on its left
 unfoldable pub signFollows : Bool → ℕ → Option ℕ → Bool
@@ -78,4 +82,4 @@ infixBy true false sign = sign
 
 -- an infix goes on
 abbrev pub infixFollows : List ℕ → Parser → ℕ → Bool
-infixFollows script p least = infixBy (isGoing (p .status)) (eqb (p .cur .kind) kAs) (signFollows (breaksOff script (p .cur)) least (stageOne (p .cur .kind)))
+infixFollows script p least = infixBy (isGoing (p .status)) (eqb (p .cur .kind) kAs) (signFollows (breaksOff script (tokenOf (p .cur))) least (stageOne (p .cur .kind)))

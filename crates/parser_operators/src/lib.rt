@@ -5,7 +5,6 @@ use ast::NodeKind;
 use ast::Run;
 use ast::TypeExprId;
 use lex::Diagnostic;
-use lex::Token;
 use lex::Type;
 use lex::is_prefix_sign;
 use parser_state::State;
@@ -17,22 +16,23 @@ use parser_state::fail_at;
 use parser_state::get_used;
 use parser_state::going;
 use parser_state::kind;
-use parser_state::low_24_bits;
 use parser_state::push_cells;
 use parser_state::push_field;
 use parser_state::push_node;
 use parser_state::push_token_node;
 use parser_types::parse_type;
+use tokens::Entry;
 ghost use mathlib.Core.Path.{_≡_};
 ghost use mathlib.Core.List.{List, [], _∷_, _++_};
 ghost use Prim.Native.Nat.{ℕ, _<_};
 ghost use lib.ListN.{getD};
+ghost use Rattle.tokens.specs.Table.{tokenOf, tokenAt};
 ghost use Rattle.rules.specs.Combinators.{pushNode};
 ghost use Rattle.ast.specs.Layout.{tokenCells, runCells};
 ghost use Rattle.ast.specs.declared.Node.the-variants as N;
 ghost use Rattle.rules.specs.Rules.{atom, ident, fieldAccess, cast, breaksOff};
-ghost use Rattle.parser_state.specs.Represents.{parserOf, code, lowToken};
-ghost use Rattle.parser_state.specs.Refines.{Refines, stackUnchanged, ReadsNode, ReadsStep, Pushes, deeper};
+ghost use Rattle.parser_state.specs.Represents.{parserOf, code};
+ghost use Rattle.parser_state.specs.Refines.{Refines, stackUnchanged, ReadsNode, ReadsStep, Pushes, Rules, deeper};
 ghost use Rattle.parser_operators.specs.Tests.{operandClass, operatorNumber, leftPowers, beginsExpr, callAt, postfixFollows, infixFollows};
 ghost use Rattle.parser_operators.specs.Matches.{defaultOf, matchNode};
 
@@ -143,10 +143,13 @@ pub fn begins_expr(p: &State) -> bool
     Type::MATCH < k
 }
 
-// An Ident or a Field can be called.
-fn is_callable_target(nodes: &[u32], n: NodeId) -> bool
-    ensures { λ r. ⌜ r ≡ callAt (now (nodes .entry)) n ⌝ }
+// An Ident or a Field can be called. `made` nodes are there.
+fn is_callable_target(nodes: &[u32], made: u32, n: NodeId) -> bool
+    ensures { λ r. ⌜ r ≡ callAt (now (nodes .entry)) made n ⌝ }
 {
+    if made <= n.0 {
+        return false;
+    }
     let at = Node::WIDTH * n.0 as usize;
     if nodes.len() <= at {
         return false;
@@ -169,20 +172,20 @@ pub fn postfix_follows(nodes: &[u32], p: &State, n: NodeId) -> bool
         return true;
     }
     if k == Type::BRACE_LEFT {
-        return is_callable_target(nodes, n);
+        return is_callable_target(nodes, get_used(p).nodes, n);
     }
     false
 }
 
 // A sign that begins an operand ends the one before it.
-fn breaks_off(script: &[u8], t: Token) -> bool
-    ensures { λ r. ⌜ r ≡ breaksOff (now (script .entry)) t ⌝ }
+fn breaks_off(script: &[u8], t: Entry) -> bool
+    ensures { λ r. ⌜ r ≡ breaksOff (now (script .entry)) (tokenOf t) ⌝ }
 {
     if t.kind == Type::PLUS {
-        return is_prefix_sign(script, t.start);
+        return is_prefix_sign(script, t.start as usize);
     }
     if t.kind == Type::MINUS {
-        return is_prefix_sign(script, t.start);
+        return is_prefix_sign(script, t.start as usize);
     }
     false
 }
@@ -211,51 +214,51 @@ pub fn infix_follows(script: &[u8], p: &State, least: u32) -> bool
 // ---- nodes with none below them
 
 // An expr = atom
-pub fn atom(script: &[u8], nodes: &mut [u32], p: &mut State) -> NodeId
+pub fn atom(tokens: &[u32], nodes: &mut [u32], p: &mut State) -> NodeId
     requires { ⌜ 1 < parserOf (now p) .cur .kind ⌝ }
     ensures { λ r. ⌜ ((types lists : List ℕ) →
         let before = code (now (nodes .entry)) types lists (parserOf (now (p .entry))) in
         let after = code (now (nodes .exit)) types lists (parserOf (now (p .exit))) in
-        ReadsNode (now (script .entry)) atom before after r) ⌝ }
+        ReadsNode (now (tokens .entry)) atom before after r) ⌝ }
 {
     let raw = current(p);
-    advance(script, p);
+    advance(tokens, p);
     push_token_node(nodes, p, NodeKind::ATOM, raw, 0, 0)
 }
 
 // An expr = ident
-pub fn ident(script: &[u8], nodes: &mut [u32], p: &mut State) -> NodeId
+pub fn ident(tokens: &[u32], nodes: &mut [u32], p: &mut State) -> NodeId
     requires { ⌜ 1 < parserOf (now p) .cur .kind ⌝ }
     ensures { λ r. ⌜ ((types lists : List ℕ) →
         let before = code (now (nodes .entry)) types lists (parserOf (now (p .entry))) in
         let after = code (now (nodes .exit)) types lists (parserOf (now (p .exit))) in
-        ReadsNode (now (script .entry)) ident before after r) ⌝ }
+        ReadsNode (now (tokens .entry)) ident before after r) ⌝ }
 {
     let name = current(p);
-    advance(script, p);
+    advance(tokens, p);
     push_token_node(nodes, p, NodeKind::IDENT, name, 0, 0)
 }
 
 // An expr = expr "." ident
-pub fn field_access(script: &[u8], nodes: &mut [u32], p: &mut State, lhs: NodeId) -> NodeId
+pub fn field_access(tokens: &[u32], nodes: &mut [u32], p: &mut State, lhs: NodeId) -> NodeId
     requires { ⌜ 1 < parserOf (now p) .cur .kind ⌝ }
     ensures { λ r. ⌜ ((types lists : List ℕ) →
         let before = code (now (nodes .entry)) types lists (parserOf (now (p .entry))) in
         let after = code (now (nodes .exit)) types lists (parserOf (now (p .exit))) in
-        ReadsStep (now (script .entry)) (fieldAccess lhs) before after r) ⌝ }
+        ReadsStep (now (tokens .entry)) (fieldAccess lhs) before after r) ⌝ }
 {
-    advance(script, p);
+    advance(tokens, p);
     let name = current(p);
-    expect_ident(script, p);
+    expect_ident(tokens, p);
     push_field(nodes, p, lhs, name)
 }
 
 // A Cast is pushed from a node and a type, one of each.
-fn push_cast(nodes: &mut [u32], p: &mut State, src: Token, lhs: NodeId, rhs: TypeExprId) -> NodeId
-    ensures { λ r. ⌜ ((script types lists : List ℕ) →
+fn push_cast(nodes: &mut [u32], p: &mut State, src: Entry, lhs: NodeId, rhs: TypeExprId) -> NodeId
+    ensures { λ r. ⌜ ((tokens types lists : List ℕ) →
         let before = code (now (nodes .entry)) types lists (parserOf (now (p .entry))) in
         let after = code (now (nodes .exit)) types lists (parserOf (now (p .exit))) in
-        Refines script 1 0 (pushNode (λ id. N.Cast id (lowToken src) lhs rhs)) (λ i. i ≡ r)
+        Refines tokens 1 0 (pushNode (λ id. N.Cast id (tokenOf src) lhs rhs)) (λ i. i ≡ r)
         stackUnchanged 0 0 0 before after) ⌝ }
 {
     push_token_node(nodes, p, NodeKind::CAST, src, lhs.0, rhs.0)
@@ -263,7 +266,7 @@ fn push_cast(nodes: &mut [u32], p: &mut State, src: Token, lhs: NodeId, rhs: Typ
 
 // An expr = expr "as" type
 pub fn cast(
-    script: &[u8],
+    tokens: &[u32],
     nodes: &mut [u32],
     types: &mut [u32],
     lists: &mut [u32],
@@ -272,17 +275,16 @@ pub fn cast(
     levels: usize,
 ) -> NodeId
     requires { ⌜ 1 < parserOf (now p) .cur .kind ⌝ }
-    ensures { λ r.
+    ensures { λ r. ⌜ ((rules : Rules) →
         let before = code (now (nodes .entry)) (now (types .entry)) (now (lists .entry))
         (parserOf (now (p .entry))) in
         let after = code (now (nodes .exit)) (now (types .exit)) (now (lists .exit))
         (parserOf (now (p .exit))) in
-        ⌜ ReadsStep (now (script .entry)) (cast (deeper (now (script .entry)) levels) lhs)
-        before after r ⌝ }
+        ReadsStep (now (tokens .entry)) (cast (deeper rules levels) lhs) before after r) ⌝ }
 {
     let src = current(p);
-    advance(script, p);
-    let rhs = parse_type(script, types, lists, p, levels);
+    advance(tokens, p);
+    let rhs = parse_type(tokens, types, lists, p, levels);
     push_cast(nodes, p, src, lhs, rhs)
 }
 
@@ -291,7 +293,7 @@ pub fn cast(
 // The default of a match: its token and body, where `has` is not 0.
 pub struct Default {
     pub has: u32,
-    pub token: Token,
+    pub token: Entry,
     pub run: Run,
 }
 
@@ -302,34 +304,35 @@ pub struct CasesRead {
 }
 
 // The cells of a case.
-pub fn push_case(lists: &mut [u32], p: &mut State, t: Token, n: NodeId, body: Run)
-    ensures { λ r. ⌜ ((script nodes types : List ℕ) →
+pub fn push_case(lists: &mut [u32], p: &mut State, t: Entry, n: NodeId, body: Run)
+    ensures { λ r. ⌜ ((tokens nodes types : List ℕ) →
         let before = code nodes types (now (lists .entry)) (parserOf (now (p .entry))) in
         let after = code nodes types (now (lists .exit)) (parserOf (now (p .exit))) in
-        Pushes script 12 (tokenCells (lowToken t) ++ (n .0 ∷ runCells body)) before after) ⌝ }
+        Pushes tokens 12 (tokenCells (tokenOf t) ++ (n .0 ∷ runCells body)) before after) ⌝ }
 {
-    let cells = [
-        body.len,
-        body.start,
-        n.0,
-        low_24_bits(t.len),
-        low_24_bits(t.start),
-        t.kind,
-    ];
+    let cells = [body.len, body.start, n.0, t.len, t.start, t.kind];
     push_cells(lists, p, &cells);
 }
 
-// The node of a match, `t` being the token after `match`; the reading fails where it has no
-// default.
-pub fn match_node(nodes: &mut [u32], p: &mut State, t: Token, cases: Run, d: Default) -> NodeId
-    ensures { λ r. ⌜ ((script types lists : List ℕ) →
+// The node of a match, record `at` being that of the token after `match`; the reading fails where it
+// has no default.
+pub fn match_node(
+    tokens: &[u32],
+    nodes: &mut [u32],
+    p: &mut State,
+    at: u32,
+    cases: Run,
+    d: Default,
+) -> NodeId
+    ensures { λ r. ⌜ ((types lists : List ℕ) →
         let before = code (now (nodes .entry)) types lists (parserOf (now (p .entry))) in
         let after = code (now (nodes .exit)) types lists (parserOf (now (p .exit))) in
-        Refines script 1 0 (matchNode (lowToken t) (defaultOf d) cases) (λ n. n ≡ r)
+        Refines (now (tokens .entry)) 1 0
+        (matchNode (tokenAt (now (tokens .entry)) at) (defaultOf d) cases) (λ n. n ≡ r)
         stackUnchanged 0 0 0 before after) ⌝ }
 {
     if d.has == 0 {
-        fail_at(p, Diagnostic::MATCH_WITHOUT_A_DEFAULT, t);
+        fail_at(tokens, p, Diagnostic::MATCH_WITHOUT_A_DEFAULT, at);
         return NodeId(0);
     }
     let token = d.token;

@@ -4,19 +4,21 @@ use mathlib.Core.Bool.{Bool, true, false, _&&_}
 use mathlib.Core.List.{List, [], _∷_, _++_, map, flatten, reverse, reverse-cons, reverse-append, reverse-reverse, append-assoc, append-nil}
 use Prim.Native.Nat.{ℕ, suc, _+_, _*_, _-_, _≤_, _<_}
 use native.Mathlib.Omega.{arith}
-use lib.ListN.{drop-of-length-le, length, set, take, drop, getD, length-append, length-replicate, length-drop, length-reverse, replicate-append-replicate}
+use lib.ListN.{drop-of-length-le, length, take, drop, length-append, length-drop, length-reverse, take-append-drop, getD, set, List·getD-append}
 use lib.Dec.{leb, ltb}
-use borrow.Author.Tests.{leb-true, ltb-true, le-leb, lt-ltb}
+use borrow.Author.Tests.{leb-true, ltb-true, ltb-false, le-leb, lt-ltb}
 use borrow.Rule.Slice.PartMut.{midOf, putMid}
-use lib.Seq.{paste, length-paste, take-at, drop-at, set-at, getD-at, drop-append-add, take-all}
+use lib.Seq.{paste, length-paste, take-at, drop-at, drop-append-add, drop-append-le, take-all, length-take-le, take-paste, drop-paste, drop-drop, paste-suc, getD-at, getD-drop, getD-take}
+use Rattle.lex.specs.Answer.{maxBytes}
+use Rattle.lex.specs.declared.tok.Token.{Token}
 use Rattle.rules.specs.Combinators.{pure, pushNodeAnd, pushType, withArena, allocSlice}
-use Rattle.ast.specs.Layout.{tokenCells, runCells, zeros, nodeCells, typeCells}
+use Rattle.ast.specs.Layout.{tokenCells, runCells, nodeWidth, typeWidth, nodeCells, typeCells}
 use Rattle.ast.specs.declared.Node.{Node}
 use Rattle.ast.specs.declared.NodeId.{NodeId}
 use Rattle.ast.specs.declared.Node.the-variants as N
 use Rattle.ast.specs.declared.TypeExpr.{TypeExpr}
 use Rattle.ast.specs.declared.TypeExpr.the-variants as TE
-use Rattle.parser_state.specs.Represents.{code, withUsed, isGoing, docCells, ListsLaid}
+use Rattle.parser_state.specs.Represents.{code, withUsed, isGoing, docCells, NodesLaid, TypesLaid, ListsLaid}
 use Rattle.parser_state.specs.Refines.{stackUnchanged, Refines, Pushes, Lists, hasRoom}
 use Rattle.parser_state.specs.declared.Parser.{Parser}
 use Rattle.parser_state.specs.declared.Used.{Used}
@@ -34,69 +36,46 @@ pub map-snoc : {A B : Type 0} (f : A → B) (xs : List A) (x : A) → map f (xs 
 map-snoc f [] x = refl
 map-snoc f (y ∷ ys) x = ap (λ (l : List _). f y ∷ l) (map-snoc f ys x)
 
-pub zeros-length : (n : ℕ) → length (zeros n) ≡ n
-zeros-length n = length-replicate n 0
-
-pub zeros-split : (n k : ℕ) → k ≤ n → zeros n ≡ zeros k ++ zeros (n - k)
-zeros-split n k h = let e : k + (n - k) ≡ n = omega arith in ap zeros (sym e) ∙ sym (replicate-append-replicate k (n - k) 0)
-
 -- ---- records
 
--- cells laid over the zeros behind what is there
-laid-over : (xs vs back : List ℕ) (z n : ℕ) → length xs ≡ n → length vs ≤ z → paste (xs ++ (zeros z ++ back)) n vs (length vs) ≡ (xs ++ vs) ++ (zeros (z - length vs) ++ back)
-laid-over xs vs back z n e h =
-    let a : take n (xs ++ (zeros z ++ back)) ≡ xs = take-at xs (zeros z ++ back) n e in
+-- cells laid over the first of those behind what is there
+pub laid-over : (xs vs between back : List ℕ) (n : ℕ) → length xs ≡ n → length vs ≤ length between → paste (xs ++ (between ++ back)) n vs (length vs) ≡ (xs ++ vs) ++ (drop (length vs) between ++ back)
+laid-over xs vs between back n e h =
+    let a : take n (xs ++ (between ++ back)) ≡ xs = take-at xs (between ++ back) n e in
     let b : take (length vs) vs ≡ vs = take-all (length vs) vs (omega arith) in
-    let split : zeros z ++ back ≡ zeros (length vs) ++ (zeros (z - length vs) ++ back) = ap (λ (l : List ℕ). l ++ back) (zeros-split z (length vs) h) ∙ append-assoc (zeros (length vs)) (zeros (z - length vs)) back in
-    let c : drop (n + length vs) (xs ++ (zeros z ++ back)) ≡ zeros (z - length vs) ++ back =
-    subst (λ (k : ℕ). drop (k + length vs) (xs ++ (zeros z ++ back)) ≡ zeros (z - length vs) ++ back) e
-    (drop-append-add xs (zeros z ++ back) (length vs) ∙ ap (drop (length vs)) split ∙ drop-at (zeros (length vs)) _ (length vs) (zeros-length (length vs))) in
+    let c : drop (n + length vs) (xs ++ (between ++ back)) ≡ drop (length vs) between ++ back =
+    subst (λ (k : ℕ). drop (k + length vs) (xs ++ (between ++ back)) ≡ drop (length vs) between ++ back) e
+    (drop-append-add xs (between ++ back) (length vs) ∙ drop-append-le (length vs) between back h) in
     rw (a, b, c)
 
--- and the zeros that belong to them stay
-laid-padded : (xs vs back : List ℕ) (z n k : ℕ) → length xs ≡ n → length vs + k ≤ z → paste (xs ++ (zeros z ++ back)) n vs (length vs) ≡ (xs ++ (vs ++ zeros k)) ++ (zeros (z - (length vs + k)) ++ back)
-laid-padded xs vs back z n k e h =
-    let less : z - length vs - k ≡ z - (length vs + k) = omega arith in
-    laid-over xs vs back z n e (omega arith) ∙ rw (zeros-split (z - length vs) k (omega arith), less) (simp append-assoc)
-
--- cells laid over the last zeros
-pub laid-last : (xs vs back : List ℕ) (z n : ℕ) → length vs ≤ z → n ≡ length xs + (z - length vs) → paste (xs ++ (zeros z ++ back)) n vs (length vs) ≡ xs ++ (zeros (z - length vs) ++ (vs ++ back))
-laid-last xs vs back z n h e =
-    let k : ℕ = z - length vs in
-    let rest : z - k ≡ length vs = omega arith in
-    let split : xs ++ (zeros z ++ back) ≡ (xs ++ zeros k) ++ (zeros (length vs) ++ back) =
-    rw (zeros-split z k (omega arith), rest) (simp append-assoc) in
-    let none : zeros (length vs - length vs) ++ back ≡ back = ap (λ (j : ℕ). zeros j ++ back) {x = length vs - length vs} {y = 0} (omega arith) in
+-- cells laid over the last of them
+pub laid-last : (xs vs between back : List ℕ) (n : ℕ) → length vs ≤ length between → n ≡ length xs + (length between - length vs) → paste (xs ++ (between ++ back)) n vs (length vs) ≡ xs ++ (take (length between - length vs) between ++ (vs ++ back))
+laid-last xs vs between back n h e =
+    let k : ℕ = length between - length vs in
+    let front : List ℕ = take k between in
+    let rest : List ℕ = drop k between in
+    let split : xs ++ (between ++ back) ≡ (xs ++ front) ++ (rest ++ back) =
+    ap (λ (l : List ℕ). xs ++ (l ++ back)) (sym (take-append-drop k between)) ∙ simp append-assoc in
+    let many : length rest ≡ length vs = omega (arith, length-drop k between) in
+    let none : drop (length vs) rest ≡ [] = drop-of-length-le rest {i = length vs} (omega arith) in
     ap (λ (l : List ℕ). paste l n vs (length vs)) split
-    ∙ laid-over (xs ++ zeros k) vs back (length vs) n (omega (arith, length-append xs (zeros k), zeros-length k)) (omega arith)
-    ∙ ap (λ (l : List ℕ). ((xs ++ zeros k) ++ vs) ++ l) none
-    ∙ simp append-assoc
+    ∙ laid-over (xs ++ front) vs rest back n (omega (arith, length-append xs front, length-take-le k between (omega arith))) (omega arith)
+    ∙ rw none (simp append-assoc)
 
--- one more record of `w` cells, `cells` being those of each: the first of them are written, and `k` zeros behind them are there
-module _ {A : Type 0} (cells : A → List ℕ) (xs : List A) (x : A) (array array′ back vs : List ℕ) (n z k : ℕ) where
-  pub record Grown (w : ℕ) : Type 0 where
+-- one more record, `cells` being those of each
+module _ {A : Type 0} (cells : A → List ℕ) (xs : List A) (x : A) (array array′ between back vs : List ℕ) (n : ℕ) where
+  pub record Grown : Type 0 where
     pub same : length array′ ≡ length array
-    pub new : array′ ≡ flatten (map cells (xs ++ (x ∷ []))) ++ (zeros (z - w) ++ back)
+    pub new : array′ ≡ flatten (map cells (xs ++ (x ∷ []))) ++ (drop (length vs) between ++ back)
 
-  pub growing : array ≡ flatten (map cells xs) ++ (zeros z ++ back) → length (flatten (map cells xs)) ≡ n → length (cells x) ≤ z → vs ++ zeros k ≡ cells x → array′ ≡ paste array n vs (length vs) → Grown (length (cells x))
+  pub growing : array ≡ flatten (map cells xs) ++ (between ++ back) → length (flatten (map cells xs)) ≡ n → length vs ≤ length between → vs ≡ cells x → array′ ≡ paste array n vs (length vs) → Grown
   growing a f fits v e =
       let front : List ℕ = flatten (map cells xs) in
-      let wide : length vs + k ≡ length (cells x) = omega (arith, length-append vs (zeros k), zeros-length k, ap length v) in
-      let more : flatten (map cells (xs ++ (x ∷ []))) ≡ front ++ cells x = ap flatten (map-snoc cells xs x) ∙ flatten-snoc (map cells xs) (cells x) in
-      let new : array′ ≡ (front ++ cells x) ++ (zeros (z - length (cells x)) ++ back) =
-      e ∙ ap (λ (l : List ℕ). paste l n vs (length vs)) a ∙ laid-padded front vs back z n k f (omega arith) ∙ rw (v, wide) refl in
+      let more : flatten (map cells (xs ++ (x ∷ []))) ≡ front ++ vs = ap flatten (map-snoc cells xs x) ∙ flatten-snoc (map cells xs) (cells x) ∙ ap (λ (l : List ℕ). front ++ l) (sym v) in
+      let all : length array ≡ length front + (length between + length back) = ap length a ∙ length-append front (between ++ back) ∙ ap (λ (k : ℕ). length front + k) (length-append between back) in
       record {
-        same = omega (
-          arith,
-          ap length new ∙ length-append (front ++ cells x) (zeros (z - length (cells x)) ++ back),
-          length-append front (cells x),
-          length-append (zeros (z - length (cells x))) back,
-          zeros-length (z - length (cells x)),
-          ap length a ∙ length-append front (zeros z ++ back),
-          length-append (zeros z) back,
-          zeros-length z,
-        );
-        new = new ∙ ap (λ (l : List ℕ). l ++ (zeros (z - length (cells x)) ++ back)) (sym more);
+        same = ap length e ∙ length-paste array n vs (length vs) (omega arith) (omega arith);
+        new = e ∙ ap (λ (l : List ℕ). paste l n vs (length vs)) a ∙ laid-over front vs between back n f fits ∙ ap (λ (l : List ℕ). l ++ (drop (length vs) between ++ back)) (sym more);
       }
 
 -- ---- types
@@ -109,22 +88,28 @@ cells-length (TE.Option i) = refl
 cells-length (TE.Array i) = refl
 cells-length (TE.Record src fields) = refl
 
--- two cells that are what they should be, behind others
-pub two-cells : {a a′ b b′ : ℕ} (front more : List ℕ) → a ≡ a′ → b ≡ b′ → front ++ (a ∷ b ∷ more) ≡ front ++ (a′ ∷ b′ ∷ more)
-two-cells front more e f = λ i. front ++ (e i ∷ f i ∷ more)
-
 pub types-length : (ts : List TypeExpr) → length (flatten (map typeCells ts)) ≡ 8 * length ts
 unfolding flatten
 types-length [] = refl
 types-length (t ∷ ts) = omega (arith, length-append (typeCells t) (flatten (map typeCells ts)), cells-length t, types-length ts)
 
+pub docs-length : (ds : List Token) → length (docCells ds) ≡ 3 * length ds
+unfolding flatten tokenCells
+docs-length [] = refl
+docs-length (d ∷ ds) = omega (arith, docs-length ds)
+
+-- how many cells lie between the types and the docs
+pub types-room : {types : List ℕ} {c k : ℕ} {arena : List TypeExpr} {docs : List Token} (h : TypesLaid types c k arena docs) → length types ≡ 8 * c + (length (h .between) + 3 * k)
+types-room {types} {c} {k} {arena} {docs} h =
+    omega (arith, h .counted, h .docCounted, types-length arena, docs-length docs, length-reverse (docCells docs), ap length (h .laid) ∙ length-append (flatten (map typeCells arena)) _, length-append (h .between) (reverse (docCells docs)))
+
 abbrev pub typeMade : Used → Used
 typeMade u = record { nodes = u .nodes; values = u .values; types = u .types + 1; docs = u .docs; cells = u .cells; scratch = u .scratch }
 
-type-made : (script nodes types types′ lists cells : List ℕ) (p : Parser) (t : TypeExpr) → isGoing (p .status) ≡ true → cells ≡ typeCells t → types′ ≡ paste types (8 * p .used .types) cells (length cells)
-    → Refines script 1 0 (pushType t) (λ i. i ≡ record { 0 = p .used .types }) stackUnchanged 0 0 0 (code nodes types lists p) (code nodes types′ lists (withUsed p (typeMade (p .used))))
+type-made : (tokens nodes types types′ lists cells : List ℕ) (p : Parser) (t : TypeExpr) → isGoing (p .status) ≡ true → cells ≡ typeCells t → types′ ≡ paste types (typeWidth * p .used .types) cells (length cells)
+    → Refines tokens 1 0 (pushType t) (λ i. i ≡ record { 0 = p .used .types }) stackUnchanged 0 0 0 (code nodes types lists p) (code nodes types′ lists (withUsed p (typeMade (p .used))))
 unfolding pushType withArena
-type-made script nodes types types′ lists cells p t g w e = record {
+type-made tokens nodes types types′ lists cells p t g w e = record {
   sticky = λ f. absurd (true≢false g f);
   monotone = omega arith;
   progress = λ _. omega arith;
@@ -132,28 +117,30 @@ type-made script nodes types types′ lists cells p t g w e = record {
       let u : Used = p .used in
       let laid = h .related .types in
       let credit = h .related .credit in
-      let z : ℕ = length types - (8 * u .types + 3 * u .docs) in
       let some : 1 ≤ length (m .left) = left-some (h .related) in
-      let eight : length (typeCells t) ≡ 8 = cells-length t in
-      let n : length (flatten (map typeCells (m .arena .types))) ≡ 8 * u .types = omega (arith, types-length (m .arena .types), laid .counted) in
-      let room : length (typeCells t) ≤ z = omega (arith, credit .records, h .related .lent .types) in
-      let more = growing typeCells (m .arena .types) t types types′ (reverse (docCells (m .docs))) cells (8 * u .types) z 0 (laid .laid) n room (append-nil cells ∙ w) e in
-      let k : z - length (typeCells t) ≡ length types′ - (8 * (u .types + 1) + 3 * u .docs) = omega (arith, more .same) in (
+      let eight : length cells ≡ typeWidth = ap length w ∙ cells-length t in
+      let n : length (flatten (map typeCells (m .arena .types))) ≡ typeWidth * u .types = omega (arith, types-length (m .arena .types), laid .counted) in
+      let room : length cells ≤ length (laid .between) = omega (arith, credit .records, h .related .lent .types, types-room laid) in
+      let more = growing typeCells (m .arena .types) t types types′ (laid .between) (reverse (docCells (m .docs))) cells (typeWidth * u .types) (laid .laid) n room w e in (
         (λ i. record { 0 = sym (laid .counted) i }),
         record {
           status = h .status;
           related = record {
             left = h .related .left;
-            inRange = h .related .inRange;
-            lexed = h .related .lexed;
+            here = h .related .here;
+            near = h .related .near;
+            taken = h .related .taken;
+            few = h .related .few;
             nodes = h .related .nodes;
             types = record {
-              laid = more .new ∙ ap (λ (j : ℕ). flatten (map typeCells (m .arena .types ++ (t ∷ []))) ++ (zeros j ++ reverse (docCells (m .docs)))) k;
+              between = drop (length cells) (laid .between);
+              laid = more .new;
               counted = omega (arith, laid .counted, length-append (m .arena .types) (t ∷ []));
               docCounted = laid .docCounted;
-              allLow = laid .allLow;
+              near = laid .near;
             };
             lists = h .related .lists;
+            bytes = h .related .bytes;
             credit = record { records = omega (arith, credit .records); numbers = omega (arith, credit .numbers); room = omega (arith, credit .room) };
             lent = record { small = h .related .lent .small; nodes = h .related .lent .nodes; types = omega (arith, more .same, h .related .lent .types); lists = h .related .lent .lists };
           };
@@ -161,11 +148,11 @@ type-made script nodes types types′ lists cells p t g w e = record {
       );
 }
 
-pub making : (script nodes types types′ lists cells : List ℕ) {p q : Parser} {u : Used} (t : TypeExpr) → isGoing (p .status) ≡ true → cells ≡ typeCells t → u ≡ p .used → q ≡ withUsed p (typeMade u) → types′ ≡ paste types (8 * u .types) cells (length cells)
-    → Refines script 1 0 (pushType t) (λ i. i ≡ record { 0 = u .types }) stackUnchanged 0 0 0 (code nodes types lists p) (code nodes types′ lists q)
-making script nodes types types′ lists cells {p} t g w e f = through-used p typeMade
-    (λ (u : Used) (q : Parser). types′ ≡ paste types (8 * u .types) cells (length cells) → Refines script 1 0 (pushType t) (λ i. i ≡ record { 0 = u .types }) stackUnchanged 0 0 0 (code nodes types lists p) (code nodes types′ lists q))
-    e f (type-made script nodes types types′ lists cells p t g w)
+pub making : (tokens nodes types types′ lists cells : List ℕ) {p q : Parser} {u : Used} (t : TypeExpr) → isGoing (p .status) ≡ true → cells ≡ typeCells t → u ≡ p .used → q ≡ withUsed p (typeMade u) → types′ ≡ paste types (typeWidth * u .types) cells (length cells)
+    → Refines tokens 1 0 (pushType t) (λ i. i ≡ record { 0 = u .types }) stackUnchanged 0 0 0 (code nodes types lists p) (code nodes types′ lists q)
+making tokens nodes types types′ lists cells {p} t g w e f = through-used p typeMade
+    (λ (u : Used) (q : Parser). types′ ≡ paste types (typeWidth * u .types) cells (length cells) → Refines tokens 1 0 (pushType t) (λ i. i ≡ record { 0 = u .types }) stackUnchanged 0 0 0 (code nodes types lists p) (code nodes types′ lists q))
+    e f (type-made tokens nodes types types′ lists cells p t g w)
 
 -- ---- nodes
 
@@ -194,10 +181,15 @@ nodes-length (n ∷ ns) = omega (arith, length-append (nodeCells n) (flatten (ma
 abbrev pub nodeMade : Used → ℕ → Used
 nodeMade u more = record { nodes = u .nodes + 1; values = u .values + (1 + more); types = u .types; docs = u .docs; cells = u .cells; scratch = u .scratch }
 
-node-made : (script nodes nodes′ types lists cells : List ℕ) (p : Parser) (f : ℕ → Node) (more rooms k₀ : ℕ) → 1 + more ≤ 40000 * rooms → isGoing (p .status) ≡ true → cells ++ zeros k₀ ≡ nodeCells (f (p .used .values)) → nodes′ ≡ paste nodes (16 * p .used .nodes) cells (length cells)
-    → Refines script rooms 0 (pushNodeAnd more f) (λ i. i ≡ record { 0 = p .used .nodes }) stackUnchanged 0 0 0 (code nodes types lists p) (code nodes′ types lists (withUsed p (nodeMade (p .used) more)))
+-- how many cells lie behind the nodes
+pub nodes-room : {nodes : List ℕ} {c v : ℕ} {arena : List Node} {given : ℕ} (h : NodesLaid nodes c v arena given) → length nodes ≡ 16 * c + length (h .between)
+nodes-room {nodes} {c} {v} {arena} {given} h =
+    omega (arith, h .counted, nodes-length arena, ap length (h .laid) ∙ length-append (flatten (map nodeCells arena)) _, length-append (h .between) [])
+
+node-made : (tokens nodes nodes′ types lists cells : List ℕ) (p : Parser) (f : ℕ → Node) (more rooms : ℕ) → 1 + more ≤ 40000 * rooms → isGoing (p .status) ≡ true → cells ≡ nodeCells (f (p .used .values)) → nodes′ ≡ paste nodes (nodeWidth * p .used .nodes) cells (length cells)
+    → Refines tokens rooms 0 (pushNodeAnd more f) (λ i. i ≡ record { 0 = p .used .nodes }) stackUnchanged 0 0 0 (code nodes types lists p) (code nodes′ types lists (withUsed p (nodeMade (p .used) more)))
 unfolding pushNodeAnd withArena
-node-made script nodes nodes′ types lists cells p f more rooms k₀ few g w e = record {
+node-made tokens nodes nodes′ types lists cells p f more rooms few g w e = record {
   sticky = λ f. absurd (true≢false g f);
   monotone = omega arith;
   progress = λ _. omega arith;
@@ -205,29 +197,32 @@ node-made script nodes nodes′ types lists cells p f more rooms k₀ few g w e 
       let u : Used = p .used in
       let laid = h .related .nodes in
       let credit = h .related .credit in
-      let z : ℕ = length nodes - 16 * u .nodes in
       let v : u .values ≡ m .arena .values = laid .valued in
       let x : Node = f (m .arena .values) in
       let some : 1 ≤ length (m .left) = left-some (h .related) in
-      let wide : length (nodeCells x) ≡ 16 = node-length x in
-      let n : length (flatten (map nodeCells (m .arena .nodes))) ≡ 16 * u .nodes = omega (arith, nodes-length (m .arena .nodes), laid .counted) in
-      let room : length (nodeCells x) ≤ z = omega (arith, credit .records, h .related .lent .nodes) in
-      let more′ = growing nodeCells (m .arena .nodes) x nodes nodes′ [] cells (16 * u .nodes) z k₀ (laid .laid) n room (w ∙ ap (λ (k : ℕ). nodeCells (f k)) v) e in
-      let k : z - length (nodeCells x) ≡ length nodes′ - 16 * (u .nodes + 1) = omega (arith, more′ .same) in (
+      let made : cells ≡ nodeCells x = w ∙ ap (λ (k : ℕ). nodeCells (f k)) v in
+      let wide : length cells ≡ nodeWidth = ap length made ∙ node-length x in
+      let n : length (flatten (map nodeCells (m .arena .nodes))) ≡ nodeWidth * u .nodes = omega (arith, nodes-length (m .arena .nodes), laid .counted) in
+      let room : length cells ≤ length (laid .between) = omega (arith, credit .records, h .related .lent .nodes, nodes-room laid) in
+      let more′ = growing nodeCells (m .arena .nodes) x nodes nodes′ (laid .between) [] cells (nodeWidth * u .nodes) (laid .laid) n room made e in (
         (λ i. record { 0 = sym (laid .counted) i }),
         record {
           status = h .status;
           related = record {
             left = h .related .left;
-            inRange = h .related .inRange;
-            lexed = h .related .lexed;
+            here = h .related .here;
+            near = h .related .near;
+            taken = h .related .taken;
+            few = h .related .few;
             nodes = record {
-              laid = more′ .new ∙ ap (λ (j : ℕ). flatten (map nodeCells (m .arena .nodes ++ (x ∷ []))) ++ (zeros j ++ [])) k;
+              between = drop (length cells) (laid .between);
+              laid = more′ .new;
               counted = omega (arith, laid .counted, length-append (m .arena .nodes) (x ∷ []));
               valued = omega (arith, v);
             };
             types = h .related .types;
             lists = h .related .lists;
+            bytes = h .related .bytes;
             credit = record { records = omega (arith, credit .records); numbers = omega (arith, credit .numbers); room = omega (arith, credit .room) };
             lent = record { small = h .related .lent .small; nodes = omega (arith, more′ .same, h .related .lent .nodes); types = h .related .lent .types; lists = h .related .lent .lists };
           };
@@ -235,38 +230,37 @@ node-made script nodes nodes′ types lists cells p f more rooms k₀ few g w e 
       );
 }
 
--- the first cells of the record are written, and `k` zeros behind them are there
-pub node-making : (script nodes nodes′ types lists cells : List ℕ) {p q : Parser} {u : Used} (f : ℕ → Node) (more rooms k : ℕ) → 1 + more ≤ 40000 * rooms → isGoing (p .status) ≡ true → cells ++ zeros k ≡ nodeCells (f (p .used .values)) → u ≡ p .used
-    → q ≡ withUsed p (nodeMade u more) → nodes′ ≡ paste nodes (16 * u .nodes) cells (length cells)
-    → Refines script rooms 0 (pushNodeAnd more f) (λ i. i ≡ record { 0 = u .nodes }) stackUnchanged 0 0 0 (code nodes types lists p) (code nodes′ types lists q)
-node-making script nodes nodes′ types lists cells {p} f more rooms k few g w e h = through-used p (λ (u : Used). nodeMade u more)
-    (λ (u : Used) (q : Parser). nodes′ ≡ paste nodes (16 * u .nodes) cells (length cells) → Refines script rooms 0 (pushNodeAnd more f) (λ i. i ≡ record { 0 = u .nodes }) stackUnchanged 0 0 0 (code nodes types lists p) (code nodes′ types lists q))
-    e h (node-made script nodes nodes′ types lists cells p f more rooms k few g w)
+pub node-making : (tokens nodes nodes′ types lists cells : List ℕ) {p q : Parser} {u : Used} (f : ℕ → Node) (more rooms : ℕ) → 1 + more ≤ 40000 * rooms → isGoing (p .status) ≡ true → cells ≡ nodeCells (f (p .used .values)) → u ≡ p .used
+    → q ≡ withUsed p (nodeMade u more) → nodes′ ≡ paste nodes (nodeWidth * u .nodes) cells (length cells)
+    → Refines tokens rooms 0 (pushNodeAnd more f) (λ i. i ≡ record { 0 = u .nodes }) stackUnchanged 0 0 0 (code nodes types lists p) (code nodes′ types lists q)
+node-making tokens nodes nodes′ types lists cells {p} f more rooms few g w e h = through-used p (λ (u : Used). nodeMade u more)
+    (λ (u : Used) (q : Parser). nodes′ ≡ paste nodes (nodeWidth * u .nodes) cells (length cells) → Refines tokens rooms 0 (pushNodeAnd more f) (λ i. i ≡ record { 0 = u .nodes }) stackUnchanged 0 0 0 (code nodes types lists p) (code nodes′ types lists q))
+    e h (node-made tokens nodes nodes′ types lists cells p f more rooms few g w)
 
 -- ---- room for a node
 
 pub record Room (len : ℕ) (p : Parser) : Type 0 where
   pub going : isGoing (p .status) ≡ true
-  pub records : p .used .nodes < 65536
-  pub cells : 16 * p .used .nodes + 16 ≤ len
+  pub records : p .used .nodes < maxBytes
+  pub cells : nodeWidth * p .used .nodes + nodeWidth ≤ len
   pub values : p .used .values < 4000000000
 
 pub room : (len : ℕ) (p : Parser) → hasRoom len p ≡ true → Room len p
 unfolding hasRoom
 room len p e =
-    let a = and-both (isGoing (p .status)) (ltb (p .used .nodes) 65536 && (leb (16 * p .used .nodes + 16) len && ltb (p .used .values) 4000000000)) e in
-    let b = and-both (ltb (p .used .nodes) 65536) (leb (16 * p .used .nodes + 16) len && ltb (p .used .values) 4000000000) (a .1) in
-    let c = and-both (leb (16 * p .used .nodes + 16) len) (ltb (p .used .values) 4000000000) (b .1) in
+    let a = and-both (isGoing (p .status)) (ltb (p .used .nodes) maxBytes && (leb (nodeWidth * p .used .nodes + nodeWidth) len && ltb (p .used .values) 4000000000)) e in
+    let b = and-both (ltb (p .used .nodes) maxBytes) (leb (nodeWidth * p .used .nodes + nodeWidth) len && ltb (p .used .values) 4000000000) (a .1) in
+    let c = and-both (leb (nodeWidth * p .used .nodes + nodeWidth) len) (ltb (p .used .values) 4000000000) (b .1) in
     record { going = a .0; records = ltb-true _ _ (b .0); cells = leb-true _ _ (c .0); values = ltb-true _ _ (c .1) }
 
 -- where the arrays hold a state there is room, unless the reading has failed
-pub no-room : (script nodes types lists : List ℕ) (p : Parser) (f : ℕ → Node) (more rooms : ℕ) {Q : NodeId → Type 0} → 1 + more ≤ 40000 * rooms → hasRoom (length nodes) p ≡ false
-    → Refines script rooms 0 (pushNodeAnd more f) Q stackUnchanged 0 0 0 (code nodes types lists p) (code nodes types lists p)
+pub no-room : (tokens nodes types lists : List ℕ) (p : Parser) (f : ℕ → Node) (more rooms : ℕ) {Q : NodeId → Type 0} → 1 + more ≤ 40000 * rooms → hasRoom (length nodes) p ≡ false
+    → Refines tokens rooms 0 (pushNodeAnd more f) Q stackUnchanged 0 0 0 (code nodes types lists p) (code nodes types lists p)
 unfolding hasRoom
-no-room script nodes types lists p f more rooms few e = either (isGoing (p .status))
+no-room tokens nodes types lists p f more rooms few e = either (isGoing (p .status))
     (λ g. full (λ R L stack m h.
-    let a : p .used .nodes < 65536 = omega (arith, h .credit .records, h .lent .small, left-some h) in
-    let b : 16 * p .used .nodes + 16 ≤ length nodes = omega (arith, h .credit .records, h .lent .nodes, left-some h) in
+    let a : p .used .nodes < maxBytes = omega (arith, h .credit .records, h .lent .small, left-some h) in
+    let b : nodeWidth * p .used .nodes + nodeWidth ≤ length nodes = omega (arith, h .credit .records, h .lent .nodes, left-some h) in
     let c : p .used .values < 4000000000 = omega (arith, h .credit .numbers, h .lent .small, left-some h) in
     true≢false (rw (g, lt-ltb _ _ a, le-leb _ _ b, lt-ltb _ _ c) refl) e))
     idle
@@ -276,15 +270,16 @@ no-room script nodes types lists p f more rooms few e = either (isGoing (p .stat
 abbrev pub pushed : Used → ℕ → Used
 pushed u n = record { nodes = u .nodes; values = u .values; types = u .types; docs = u .docs; cells = u .cells; scratch = u .scratch + n }
 
-lists-length : {lists : List ℕ} {c k : ℕ} {cells stack : List ℕ} → ListsLaid lists c k cells stack → c + k ≤ length lists
-lists-length {lists} {c} {k} {cells} {stack} h =
-    omega (arith, h .counted, h .stacked, ap length (h .laid) ∙ length-append cells _, length-append (zeros (length lists - (c + k))) (reverse stack), length-reverse stack)
+-- how many cells lie between the lists and those under construction
+pub lists-room : {lists : List ℕ} {c k : ℕ} {cells stack : List ℕ} (h : ListsLaid lists c k cells stack) → length lists ≡ c + (length (h .between) + k)
+lists-room {lists} {c} {k} {cells} {stack} h =
+    omega (arith, h .counted, h .stacked, ap length (h .laid) ∙ length-append cells _, length-append (h .between) (reverse stack), length-reverse stack)
 
--- cells that are written the last first over the last zeros are pushed
-cells-pushed : (script nodes types lists lists′ vs : List ℕ) (p : Parser) → isGoing (p .status) ≡ true → lists′ ≡ paste lists (length lists - (p .used .scratch + length vs)) vs (length vs)
-    → Pushes script (2 * length vs) (reverse vs) (code nodes types lists p) (code nodes types lists′ (withUsed p (pushed (p .used) (length vs))))
+-- cells that are written the last first before those are pushed
+cells-pushed : (tokens nodes types lists lists′ vs : List ℕ) (p : Parser) → isGoing (p .status) ≡ true → lists′ ≡ paste lists (length lists - (p .used .scratch + length vs)) vs (length vs)
+    → Pushes tokens (2 * length vs) (reverse vs) (code nodes types lists p) (code nodes types lists′ (withUsed p (pushed (p .used) (length vs))))
 unfolding pure
-cells-pushed script nodes types lists lists′ vs p g e = record {
+cells-pushed tokens nodes types lists lists′ vs p g e = record {
   sticky = λ f. absurd (true≢false g f);
   monotone = omega arith;
   progress = λ _. omega arith;
@@ -292,29 +287,31 @@ cells-pushed script nodes types lists lists′ vs p g e = record {
       let u : Used = p .used in
       let laid = h .related .lists in
       let credit = h .related .credit in
-      let z : ℕ = length lists - (u .cells + u .scratch) in
       let at : ℕ = length lists - (u .scratch + length vs) in
-      let fit : u .cells + u .scratch ≤ length lists = lists-length laid in
+      let all : length lists ≡ u .cells + (length (laid .between) + u .scratch) = lists-room laid in
       let some : 1 ≤ length (m .left) = left-some (h .related) in
-      let room : length vs ≤ z = omega (arith, credit .room, h .related .lent .lists) in
+      let room : length vs ≤ length (laid .between) = omega (arith, credit .room, h .related .lent .lists) in
       let same : length lists′ ≡ length lists = ap length e ∙ length-paste lists at vs (length vs) (omega arith) (omega arith) in
-      let new : lists′ ≡ m .arena .cells ++ (zeros (z - length vs) ++ (vs ++ reverse stack)) =
-      e ∙ ap (λ (l : List ℕ). paste l at vs (length vs)) (laid .laid) ∙ laid-last (m .arena .cells) vs (reverse stack) z at room (omega (arith, laid .counted)) in
-      let k : z - length vs ≡ length lists′ - (u .cells + (u .scratch + length vs)) = omega arith in (
+      let new : lists′ ≡ m .arena .cells ++ (take (length (laid .between) - length vs) (laid .between) ++ (vs ++ reverse stack)) =
+      e ∙ ap (λ (l : List ℕ). paste l at vs (length vs)) (laid .laid) ∙ laid-last (m .arena .cells) vs (laid .between) (reverse stack) at room (omega (arith, laid .counted)) in (
         tt,
         record {
           status = h .status;
           related = record {
             left = h .related .left;
-            inRange = h .related .inRange;
-            lexed = h .related .lexed;
+            here = h .related .here;
+            near = h .related .near;
+            taken = h .related .taken;
+            few = h .related .few;
             nodes = h .related .nodes;
             types = h .related .types;
             lists = record {
-              laid = new ∙ rw (k, reverse-append stack (reverse vs), reverse-reverse vs) refl;
+              between = take (length (laid .between) - length vs) (laid .between);
+              laid = new ∙ rw (reverse-append stack (reverse vs), reverse-reverse vs) refl;
               counted = laid .counted;
               stacked = omega (arith, laid .stacked, length-append stack (reverse vs), length-reverse vs);
             };
+            bytes = h .related .bytes;
             credit = record { records = omega (arith, credit .records); numbers = omega (arith, credit .numbers); room = omega (arith, credit .room) };
             lent = record { small = h .related .lent .small; nodes = h .related .lent .nodes; types = h .related .lent .types; lists = omega (arith, same, h .related .lent .lists) };
           };
@@ -322,23 +319,37 @@ cells-pushed script nodes types lists lists′ vs p g e = record {
       );
 }
 
-pub pushing : (script nodes types lists lists′ vs : List ℕ) {p q : Parser} {u : Used} → isGoing (p .status) ≡ true → u ≡ p .used → q ≡ withUsed p (pushed u (length vs)) → lists′ ≡ paste lists (length lists - (u .scratch + length vs)) vs (length vs)
-    → Pushes script (2 * length vs) (reverse vs) (code nodes types lists p) (code nodes types lists′ q)
-pushing script nodes types lists lists′ vs {p} g e f = through-used p (λ (u : Used). pushed u (length vs))
-    (λ (u : Used) (q : Parser). lists′ ≡ paste lists (length lists - (u .scratch + length vs)) vs (length vs) → Pushes script (2 * length vs) (reverse vs) (code nodes types lists p) (code nodes types lists′ q))
-    e f (cells-pushed script nodes types lists lists′ vs p g)
+pub pushing : (tokens nodes types lists lists′ vs : List ℕ) {p q : Parser} {u : Used} → isGoing (p .status) ≡ true → u ≡ p .used → q ≡ withUsed p (pushed u (length vs)) → lists′ ≡ paste lists (length lists - (u .scratch + length vs)) vs (length vs)
+    → Pushes tokens (2 * length vs) (reverse vs) (code nodes types lists p) (code nodes types lists′ q)
+pushing tokens nodes types lists lists′ vs {p} g e f = through-used p (λ (u : Used). pushed u (length vs))
+    (λ (u : Used) (q : Parser). lists′ ≡ paste lists (length lists - (u .scratch + length vs)) vs (length vs) → Pushes tokens (2 * length vs) (reverse vs) (code nodes types lists p) (code nodes types lists′ q))
+    e f (cells-pushed tokens nodes types lists lists′ vs p g)
 
 -- ---- a finished list
 
 abbrev pub finished : Used → ℕ → Used
 finished u mark = record { nodes = u .nodes; values = u .values; types = u .types; docs = u .docs; cells = u .cells + (u .scratch - mark); scratch = mark }
 
-list-made : (script nodes types lists lists′ : List ℕ) (p : Parser) (mark members : ℕ) → isGoing (p .status) ≡ true
-    → ((top base : List ℕ) (z : ℕ) → drop (p .used .cells) lists ≡ zeros z ++ (reverse top ++ base) → length top ≡ p .used .scratch - mark → length base + (p .used .scratch - mark) ≡ p .used .scratch → p .used .scratch - mark ≤ z
-    → lists′ ≡ take (p .used .cells) lists ++ (top ++ (zeros z ++ base)))
-    → Lists script allocSlice (record { start = p .used .cells; len = members }) 0 0 0 mark members (code nodes types lists p) (code nodes types lists′ (withUsed p (finished (p .used) mark)))
+-- what `move_list` makes of the table from `cells` on, `n` cells of `scratch` being the list
+abbrev pub moved : List ℕ → ℕ → ℕ → List ℕ
+moved part n scratch = paste part 0 (reverse (take n (drop (length part - scratch) part))) n
+
+-- the list lies in front then, and still at the far end
+moved-list : (between top base : List ℕ) (n scratch : ℕ) → length top ≡ n → length base + n ≡ scratch → n ≤ length between
+    → moved (between ++ (reverse top ++ base)) n scratch ≡ top ++ (drop n between ++ (reverse top ++ base))
+moved-list between top base n scratch e k fits =
+    let part : List ℕ = between ++ (reverse top ++ base) in
+    let size : length part ≡ length between + (length top + length base) = length-append between (reverse top ++ base) ∙ ap (λ (j : ℕ). length between + j) (length-append (reverse top) base ∙ ap (λ (j : ℕ). j + length base) (length-reverse top)) in
+    let place : length part - scratch ≡ length between = omega arith in
+    let far : drop (length part - scratch) part ≡ reverse top ++ base = ap (λ (j : ℕ). drop j part) place ∙ drop-at between (reverse top ++ base) (length between) refl in
+    let cells : reverse (take n (drop (length part - scratch) part)) ≡ top = ap (λ (l : List ℕ). reverse (take n l)) far ∙ ap reverse (take-at (reverse top) base n (length-reverse top ∙ e)) ∙ reverse-reverse top in
+    let w : n ≡ length top = sym e in
+    ap (λ (l : List ℕ). paste part 0 l n) cells ∙ rw w (laid-over [] top between (reverse top ++ base) 0 refl (omega arith))
+
+list-made : (tokens nodes types lists lists′ : List ℕ) (p : Parser) (mark members : ℕ) → isGoing (p .status) ≡ true → lists′ ≡ take (p .used .cells) lists ++ moved (drop (p .used .cells) lists) (p .used .scratch - mark) (p .used .scratch)
+    → Lists tokens allocSlice (record { start = p .used .cells; len = members }) 0 0 0 mark members (code nodes types lists p) (code nodes types lists′ (withUsed p (finished (p .used) mark)))
 unfolding allocSlice withArena
-list-made script nodes types lists lists′ p mark members g e = record {
+list-made tokens nodes types lists lists′ p mark members g e = record {
   sticky = λ f. absurd (true≢false g f);
   monotone = omega arith;
   progress = λ _. omega arith;
@@ -348,32 +359,38 @@ list-made script nodes types lists lists′ p mark members g e = record {
       let credit = h .related .credit in
       let top : List ℕ = flatten xs in
       let cells : List ℕ = m .arena .cells in
-      let z : ℕ = length lists - (u .cells + u .scratch) in
-      let fit : u .cells + u .scratch ≤ length lists = lists-length laid in
+      let between : List ℕ = laid .between in
+      let all : length lists ≡ u .cells + (length between + u .scratch) = lists-room laid in
       let some : 1 ≤ length (m .left) = left-some (h .related) in
       let n : u .scratch ≡ length stack + length top = laid .stacked ∙ length-append stack top in
       let c : length cells ≡ u .cells = sym (laid .counted) in
-      let old : lists ≡ cells ++ (zeros z ++ (reverse top ++ reverse stack)) = laid .laid ∙ rw (reverse-append stack top) refl in
-      let new : lists′ ≡ cells ++ (top ++ (zeros z ++ reverse stack)) =
-      e top (reverse stack) z (ap (drop (u .cells)) old ∙ drop-at cells _ (u .cells) c) (omega arith) (omega (arith, length-reverse stack)) (omega (arith, credit .room, h .related .lent .lists))
-      ∙ ap (λ (l : List ℕ). l ++ (top ++ (zeros z ++ reverse stack))) (ap (take (u .cells)) old ∙ take-at cells _ (u .cells) c) in
+      let old : lists ≡ cells ++ (between ++ (reverse top ++ reverse stack)) = laid .laid ∙ rw (reverse-append stack top) refl in
+      let tail : drop (u .cells) lists ≡ between ++ (reverse top ++ reverse stack) = ap (drop (u .cells)) old ∙ drop-at cells _ (u .cells) c in
+      let front : take (u .cells) lists ≡ cells = ap (take (u .cells)) old ∙ take-at cells _ (u .cells) c in
+      let new : lists′ ≡ cells ++ (top ++ (drop (u .scratch - mark) between ++ (reverse top ++ reverse stack))) =
+      e ∙ ap (λ (l : List ℕ). l ++ moved (drop (u .cells) lists) (u .scratch - mark) (u .scratch)) front
+      ∙ ap (λ (l : List ℕ). cells ++ moved l (u .scratch - mark) (u .scratch)) tail
+      ∙ ap (λ (l : List ℕ). cells ++ l) (moved-list between top (reverse stack) (u .scratch - mark) (u .scratch) (omega arith) (omega (arith, length-reverse stack)) (omega (arith, credit .room, h .related .lent .lists))) in
       let same : length lists′ ≡ length lists =
-      omega (arith, ap length new ∙ length-append cells (top ++ (zeros z ++ reverse stack)), length-append top (zeros z ++ reverse stack), length-append (zeros z) (reverse stack), zeros-length z, length-reverse stack) in
-      let k : z ≡ length lists′ - (u .cells + (u .scratch - mark) + mark) = omega arith in (
+      omega (arith, ap length new ∙ length-append cells (top ++ (drop (u .scratch - mark) between ++ (reverse top ++ reverse stack))), length-append top (drop (u .scratch - mark) between ++ (reverse top ++ reverse stack)), length-append (drop (u .scratch - mark) between) (reverse top ++ reverse stack), length-drop (u .scratch - mark) between, length-append (reverse top) (reverse stack), length-reverse top, length-reverse stack, credit .room, h .related .lent .lists) in (
         (λ i. record { start = c i; len = b i }),
         record {
           status = h .status;
           related = record {
             left = h .related .left;
-            inRange = h .related .inRange;
-            lexed = h .related .lexed;
+            here = h .related .here;
+            near = h .related .near;
+            taken = h .related .taken;
+            few = h .related .few;
             nodes = h .related .nodes;
             types = h .related .types;
             lists = record {
-              laid = new ∙ sym (append-assoc cells top (zeros z ++ reverse stack)) ∙ ap (λ (j : ℕ). (cells ++ top) ++ (zeros j ++ reverse stack)) k;
+              between = drop (u .scratch - mark) between ++ reverse top;
+              laid = new ∙ simp append-assoc;
               counted = omega (arith, length-append cells top);
               stacked = sym a;
             };
+            bytes = h .related .bytes;
             credit = record { records = omega (arith, credit .records); numbers = omega (arith, credit .numbers); room = omega (arith, credit .room) };
             lent = record { small = h .related .lent .small; nodes = h .related .lent .nodes; types = h .related .lent .types; lists = omega (arith, same, h .related .lent .lists) };
           };
@@ -381,75 +398,11 @@ list-made script nodes types lists lists′ p mark members g e = record {
       );
 }
 
--- what `move_list` does to the table, `n` cells of `scratch` being the list
-abbrev pub MovesList : List ℕ → List ℕ → ℕ → ℕ → ℕ → Type 0
-MovesList lists lists′ cells n scratch = (top base : List ℕ) (z : ℕ) → drop cells lists ≡ zeros z ++ (reverse top ++ base) → length top ≡ n → length base + n ≡ scratch → n ≤ z → lists′ ≡ take cells lists ++ (top ++ (zeros z ++ base))
-
-pub allocating : (script nodes types lists lists′ : List ℕ) {p q : Parser} {u : Used} (mark members : ℕ) → isGoing (p .status) ≡ true → u ≡ p .used → q ≡ withUsed p (finished u mark) → MovesList lists lists′ (u .cells) (u .scratch - mark) (u .scratch)
-    → Lists script allocSlice (record { start = u .cells; len = members }) 0 0 0 mark members (code nodes types lists p) (code nodes types lists′ q)
-allocating script nodes types lists lists′ {p} mark members g e f = through-used p (λ (u : Used). finished u mark)
-    (λ (u : Used) (q : Parser). MovesList lists lists′ (u .cells) (u .scratch - mark) (u .scratch) → Lists script allocSlice (record { start = u .cells; len = members }) 0 0 0 mark members (code nodes types lists p) (code nodes types lists′ q))
-    e f (list-made script nodes types lists lists′ p mark members g)
-
--- ---- the move of a finished list
-
--- after some turns: `before` is moved, `after` is not
-pub record Moving (top base : List ℕ) (z i : ℕ) (part : List ℕ) : Type 0 where
-  pub before : List ℕ
-  pub after : List ℕ
-  pub all : top ≡ before ++ after
-  pub count : length before ≡ i
-  pub cells : part ≡ before ++ (zeros (z - i) ++ (reverse after ++ (zeros i ++ base)))
-
-pub moving-start : (top base : List ℕ) (z : ℕ) (part : List ℕ) → part ≡ zeros z ++ (reverse top ++ base) → Moving top base z 0 part
-moving-start top base z part e = record { before = []; after = top; all = refl; count = refl; cells = e ∙ ap (λ (k : ℕ). zeros k ++ (reverse top ++ base)) {x = z} {y = z - 0} (omega arith) }
-
-pub moving-end : {top base : List ℕ} {z i n : ℕ} {part : List ℕ} → Moving top base z i part → i ≤ n → n ≤ i → length top ≡ n → n ≤ z → part ≡ top ++ (zeros z ++ base)
-moving-end {top} {base} {z} {i = n} {part = part} h f g e k = go (h .before) (h .after) (h .all) (h .count) (h .cells)
-  where
-    go : (b a : List ℕ) → top ≡ b ++ a → length b ≡ n → part ≡ b ++ (zeros (z - n) ++ (reverse a ++ (zeros n ++ base))) → part ≡ top ++ (zeros z ++ base)
-    go b [] t c p = p ∙ ap (λ (l : List ℕ). b ++ l) (sym (append-assoc (zeros (z - n)) (zeros n) base) ∙ ap (λ (l : List ℕ). l ++ base) (replicate-append-replicate (z - n) n 0 ∙ ap zeros {x = z - n + n} {y = z} (omega arith)))
-        ∙ ap (λ (l : List ℕ). l ++ (zeros z ++ base)) (sym (t ∙ append-nil b))
-    go b (x ∷ a) t c p = absurd (omega (arith, ap length t ∙ length-append b (x ∷ a)))
-
--- one cell is moved
-moved-one : (b zs s rest : List ℕ) (x i from : ℕ) → length b ≡ i → from ≡ i + 1 + length zs + length s
-    → set (set (b ++ (0 ∷ (zs ++ (s ++ (x ∷ rest))))) i (getD (b ++ (0 ∷ (zs ++ (s ++ (x ∷ rest))))) from 0)) from 0 ≡ (b ++ (x ∷ [])) ++ (zs ++ (s ++ (0 ∷ rest)))
-moved-one b zs s rest x i from c e =
-    let p : List ℕ = b ++ (0 ∷ (zs ++ s)) in
-    let p′ : List ℕ = b ++ (x ∷ (zs ++ s)) in
-    let n : length p ≡ from = omega (arith, length-append b (0 ∷ (zs ++ s)), length-append zs s) in
-    let n′ : length p′ ≡ from = omega (arith, length-append b (x ∷ (zs ++ s)), length-append zs s) in
-    let whole : b ++ (0 ∷ (zs ++ (s ++ (x ∷ rest)))) ≡ p ++ (x ∷ rest) = simp append-assoc in
-    let got : getD (b ++ (0 ∷ (zs ++ (s ++ (x ∷ rest))))) from 0 ≡ x = ap (λ (l : List ℕ). getD l from 0) whole ∙ getD-at p x rest 0 from n in
-    let one : set (b ++ (0 ∷ (zs ++ (s ++ (x ∷ rest))))) i x ≡ p′ ++ (x ∷ rest) = set-at b 0 (zs ++ (s ++ (x ∷ rest))) x i c ∙ simp append-assoc in
-    ap (λ (v : ℕ). set (set (b ++ (0 ∷ (zs ++ (s ++ (x ∷ rest))))) i v) from 0) got
-    ∙ ap (λ (l : List ℕ). set l from 0) one
-    ∙ set-at p′ x rest 0 from n′
-    ∙ simp append-assoc
-
-pub moving-turn : {top base : List ℕ} {z n scratch i from : ℕ} {part : List ℕ} → Moving top base z i part → length top ≡ n → length base + n ≡ scratch → n ≤ z → i < n
-    → from ≡ length part - scratch + (n - 1 - i) → Moving top base z (i + 1) (set (set part i (getD part from 0)) from 0)
-moving-turn {top} {base} {z} {n} {scratch} {i} {from} {part} h e k y u f = go (h .before) (h .after) (h .all) (h .count) (h .cells)
-  where
-    go : (b a : List ℕ) → top ≡ b ++ a → length b ≡ i → part ≡ b ++ (zeros (z - i) ++ (reverse a ++ (zeros i ++ base))) → Moving top base z (i + 1) (set (set part i (getD part from 0)) from 0)
-    go b [] t c p = absurd (omega (arith, ap length t ∙ length-append b []))
-    go b (x ∷ a) t c p =
-        let zs : List ℕ = zeros (z - (i + 1)) in
-        let cut : zeros (z - i) ≡ 0 ∷ zs = ap zeros {x = z - i} {y = suc (z - (i + 1))} (omega arith) in
-        let shape : part ≡ b ++ (0 ∷ (zs ++ (reverse a ++ (x ∷ (zeros i ++ base))))) = p ∙ rw (cut, reverse-cons x a) (simp append-assoc) in
-        let len : length top ≡ i + suc (length a) = ap length t ∙ length-append b (x ∷ a) ∙ ap (λ (j : ℕ). j + suc (length a)) c in
-        let all : length part ≡ i + suc (length zs + (length (reverse a) + suc (i + length base))) =
-        omega (arith, ap length shape ∙ length-append b (0 ∷ (zs ++ (reverse a ++ (x ∷ (zeros i ++ base))))), length-append zs (reverse a ++ (x ∷ (zeros i ++ base))), length-append (reverse a) (x ∷ (zeros i ++ base)), length-append (zeros i) base, zeros-length i) in
-        let src : from ≡ i + 1 + length zs + length (reverse a) = omega (arith, length-reverse a, zeros-length (z - (i + 1))) in
-        record {
-          before = b ++ (x ∷ []);
-          after = a;
-          all = t ∙ sym (append-assoc b (x ∷ []) a);
-          count = omega (arith, length-append b (x ∷ []));
-          cells = ap (λ (l : List ℕ). set (set l i (getD l from 0)) from 0) shape ∙ moved-one b zs (reverse a) (zeros i ++ base) x i from c src
-              ∙ ap (λ (j : List ℕ). (b ++ (x ∷ [])) ++ (zs ++ (reverse a ++ (j ++ base)))) {x = 0 ∷ zeros i} {y = zeros (i + 1)} (ap zeros {x = suc i} {y = i + 1} (omega arith));
-        }
+pub allocating : (tokens nodes types lists lists′ : List ℕ) {p q : Parser} {u : Used} (mark members : ℕ) → isGoing (p .status) ≡ true → u ≡ p .used → q ≡ withUsed p (finished u mark) → lists′ ≡ take (u .cells) lists ++ moved (drop (u .cells) lists) (u .scratch - mark) (u .scratch)
+    → Lists tokens allocSlice (record { start = u .cells; len = members }) 0 0 0 mark members (code nodes types lists p) (code nodes types lists′ q)
+allocating tokens nodes types lists lists′ {p} mark members g e f = through-used p (λ (u : Used). finished u mark)
+    (λ (u : Used) (q : Parser). lists′ ≡ take (u .cells) lists ++ moved (drop (u .cells) lists) (u .scratch - mark) (u .scratch) → Lists tokens allocSlice (record { start = u .cells; len = members }) 0 0 0 mark members (code nodes types lists p) (code nodes types lists′ q))
+    e f (list-made tokens nodes types lists lists′ p mark members g)
 
 -- what a part from a place to the end was, and the whole with another there
 pub tail-mid : (a : ℕ) (xs : List ℕ) → midOf a (length xs - a) xs ≡ drop a xs
@@ -457,3 +410,58 @@ tail-mid a xs = take-all (length xs - a) (drop a xs) (omega (arith, length-drop 
 
 pub tail-put : (a : ℕ) (xs ys zs : List ℕ) → ys ≡ zs → putMid a (length xs - a) xs ys ≡ take a xs ++ zs
 tail-put a xs ys zs e = let none : drop (length xs - a) (drop a xs) ≡ [] = drop-of-length-le (drop a xs) {i = length xs - a} (omega (arith, length-drop a xs)) in ap (λ (l : List ℕ). take a xs ++ (ys ++ l)) none ∙ ap (λ (l : List ℕ). take a xs ++ l) (append-nil ys ∙ e)
+
+-- ---- cells that are copied
+
+-- cells behind cells
+pub both-put : (dst xs ys : List ℕ) {d d′ : List ℕ} (at : ℕ) → at + (length xs + length ys) ≤ length dst → d ≡ paste dst at xs (length xs) → d′ ≡ paste d (at + length xs) ys (length ys) → d′ ≡ paste dst at (xs ++ ys) (length (xs ++ ys))
+both-put dst xs ys {d} at h e f =
+    let n : ℕ = length xs in
+    let k : ℕ = length ys in
+    let a : take (at + n) (paste dst at xs n) ≡ take at dst ++ take n xs = take-paste dst at xs n (omega arith) (omega arith) in
+    let b : drop (at + n + k) (paste dst at xs n) ≡ drop (at + (n + k)) dst =
+    sym (drop-drop k (at + n) (paste dst at xs n)) ∙ ap (drop k) (drop-paste dst at xs n (omega arith) (omega arith)) ∙ drop-drop k (at + n) dst ∙ ap (λ (j : ℕ). drop j dst) {x = at + n + k} {y = at + (n + k)} (omega arith) in
+    let c : take n xs ≡ xs = take-all n xs (omega arith) in
+    let c′ : take k ys ≡ ys = take-all k ys (omega arith) in
+    let all : take (length (xs ++ ys)) (xs ++ ys) ≡ xs ++ ys = take-all (length (xs ++ ys)) (xs ++ ys) (omega arith) in
+    f ∙ ap (λ (l : List ℕ). paste l (at + n) ys k) e ∙ rw (a, b, c, c′, all, length-append xs ys) (simp append-assoc)
+
+-- a cell of a list in reverse
+getD-reverse : (l : List ℕ) (i : ℕ) → i < length l → getD (reverse l) i 0 ≡ getD l (length l - 1 - i) 0
+getD-reverse [] i h = absurd (omega arith)
+getD-reverse (x ∷ l) i h = ap (λ (r : List ℕ). getD r i 0) (reverse-cons x l) ∙ either (ltb i (length l))
+    (λ b. let less : i < length l = ltb-true _ _ b in let e : length (x ∷ l) - 1 - i ≡ suc (length l - 1 - i) = omega arith in
+    List·getD-append (reverse l) (x ∷ []) 0 i (omega (arith, length-reverse l)) ∙ getD-reverse l i less ∙ ap (λ (k : ℕ). getD (x ∷ l) k 0) (sym e))
+    (λ b. let more : length l ≤ i = ltb-false _ _ b in let e : length (x ∷ l) - 1 - i ≡ 0 = omega arith in
+    getD-at (reverse l) x [] 0 i (omega (arith, length-reverse l)) ∙ ap (λ (k : ℕ). getD (x ∷ l) k 0) (sym e))
+
+-- the next of the cells `vs` is set
+turn : (dst vs : List ℕ) (at i v : ℕ) {d : List ℕ} → d ≡ paste dst at vs i → at + i < length dst → i < length vs → v ≡ getD vs i 0 → set d (at + i) v ≡ paste dst at vs (i + 1)
+turn dst vs at i v e a b w = ap (λ (l : List ℕ). set l (at + i) v) e ∙ ap (set (paste dst at vs i) (at + i)) w ∙ paste-suc dst at vs i 0 a b ∙ ap (paste dst at vs) {x = suc i} {y = i + 1} (omega arith)
+
+-- the next cell of a list, which lies in reverse at the far end
+pub list-turn : (part₀ part : List ℕ) (n scratch i : ℕ) → n ≤ scratch → n + scratch ≤ length part₀ → i < n → length part ≡ length part₀ → part ≡ paste part₀ 0 (reverse (take n (drop (length part₀ - scratch) part₀))) i
+    → set part i (getD part (length part - scratch + (n - 1 - i)) 0) ≡ paste part₀ 0 (reverse (take n (drop (length part₀ - scratch) part₀))) (i + 1)
+list-turn part₀ part n scratch i a b h same e =
+    let top : List ℕ = take n (drop (length part₀ - scratch) part₀) in
+    let from : ℕ = length part - scratch + (n - 1 - i) in
+    let size : length top ≡ n = length-take-le n (drop (length part₀ - scratch) part₀) (omega (arith, length-drop (length part₀ - scratch) part₀)) in
+    let back : getD part from 0 ≡ getD part₀ from 0 =
+    ap (λ (k : ℕ). getD part k 0) {x = from} {y = i + (from - i)} (omega arith) ∙ sym (getD-drop i part (from - i) 0)
+    ∙ ap (λ (l : List ℕ). getD l (from - i) 0) (ap (drop i) e ∙ ap (λ (k : ℕ). drop k (paste part₀ 0 (reverse top) i)) {x = i} {y = 0 + i} (omega arith) ∙ drop-paste part₀ 0 (reverse top) i (omega arith) (omega (arith, length-reverse top)) ∙ ap (λ (k : ℕ). drop k part₀) {x = 0 + i} {y = i} (omega arith))
+    ∙ getD-drop i part₀ (from - i) 0 ∙ ap (λ (k : ℕ). getD part₀ k 0) {x = i + (from - i)} {y = from} (omega arith) in
+    let cell : getD (reverse top) i 0 ≡ getD part₀ from 0 =
+    getD-reverse top i (omega arith) ∙ ap (λ (k : ℕ). getD top (k - 1 - i) 0) size ∙ getD-take n (drop (length part₀ - scratch) part₀) (n - 1 - i) 0 (omega arith)
+    ∙ getD-drop (length part₀ - scratch) part₀ (n - 1 - i) 0 ∙ ap (λ (k : ℕ). getD part₀ (k - scratch + (n - 1 - i)) 0) (sym same) in
+    ap (λ (k : ℕ). set part k (getD part from 0)) {x = i} {y = 0 + i} (omega arith) ∙ turn part₀ (reverse top) 0 i (getD part from 0) e (omega arith) (omega (arith, length-reverse top)) (back ∙ sym cell)
+
+-- the next cell of the docs
+pub docs-turn : (src dst₀ dst : List ℕ) (at n i : ℕ) → n ≤ length src → at + n ≤ length dst₀ → i < n → dst ≡ paste dst₀ at (reverse (drop (length src - n) src)) i
+    → set dst (at + i) (getD src (length src - 1 - i) 0) ≡ paste dst₀ at (reverse (drop (length src - n) src)) (i + 1)
+docs-turn src dst₀ dst at n i a b h e =
+    let top : List ℕ = drop (length src - n) src in
+    let size : length top ≡ n = length-drop (length src - n) src ∙ (let k : length src - (length src - n) ≡ n = omega arith in k) in
+    let cell : getD (reverse top) i 0 ≡ getD src (length src - 1 - i) 0 =
+    getD-reverse top i (omega arith) ∙ ap (λ (k : ℕ). getD top (k - 1 - i) 0) size ∙ getD-drop (length src - n) src (n - 1 - i) 0
+    ∙ ap (λ (k : ℕ). getD src k 0) {x = length src - n + (n - 1 - i)} {y = length src - 1 - i} (omega arith) in
+    turn dst₀ (reverse top) at i (getD src (length src - 1 - i) 0) e (omega arith) (omega (arith, length-reverse top)) (sym cell)

@@ -8,7 +8,9 @@ use lib.Dec.{eqb}
 use lib.ListN.{length, length-append}
 use borrow.Author.Tests.{not-true, not-false}
 use Rattle.lex.specs.Kind.{kEof}
+use Rattle.lex.specs.Answer.{maxBytes}
 use Rattle.lex.specs.declared.diagnostic.Diagnostic.{Diagnostic}
+use Rattle.tokens.specs.Table.{tokenOf}
 use Rattle.rules.specs.Tree.{State, Result, ok, err}
 use Rattle.rules.specs.Combinators.{Rule, _>>=_, pure, current, ifKind, ControlFlow, continue, break, iterate, loop, members, listUntil}
 use Rattle.ast.specs.declared.Run.{Run}
@@ -45,33 +47,33 @@ unfolding iterate
 turn-out stop item f xs m e = ap (λ (t : Result (ControlFlow (List (List ℕ)))). elim t as (λ _. Result (List (List ℕ))) [ ok t s ↦ elim t [ continue b ↦ iterate f (body stop item) b s | break b ↦ ok b s ] | err e s ↦ err e s ]) e
 
 -- where a loop stands, `n` members being read: the rule has come as far, or has failed
-pub record Live (script : List ℕ) (stop : ℕ) (item : Rule (List ℕ)) (s : Code) (n r l : ℕ) (stack : List ℕ) (res : Result (List (List ℕ))) : Type 0 where
+pub record Live (tokens : List ℕ) (stop : ℕ) (item : Rule (List ℕ)) (s : Code) (n r l : ℕ) (stack : List ℕ) (res : Result (List (List ℕ))) : Type 0 where
   pub fuel : ℕ
   pub xs : List (List ℕ)
   pub m : State
   pub comes : res ≡ iterate fuel (body stop item) xs m
   pub fuelled : length (m .left) ≤ fuel
   pub count : n ≡ length xs
-  pub few : length xs + length (m .left) ≤ length script + 1
-  pub represents : Represents script s r l (stack ++ flatten xs) m
+  pub few : length xs + length (m .left) ≤ maxBytes + 1
+  pub represents : Represents tokens s r l (stack ++ flatten xs) m
 
-pub record Lost (script : List ℕ) (s : Code) (r l : ℕ) (stack : List ℕ) (res : Result (List (List ℕ))) : Type 0 where
+pub record Lost (tokens : List ℕ) (s : Code) (r l : ℕ) (stack : List ℕ) (res : Result (List (List ℕ))) : Type 0 where
   pub e : Diagnostic
   pub m : State
   pub comes : res ≡ err e m
-  pub failedAt : FailedAt script s e r l stack m
+  pub failedAt : FailedAt tokens s e r l stack m
 
-pub data Way (script : List ℕ) (stop : ℕ) (item : Rule (List ℕ)) (s : Code) (n r l : ℕ) (stack : List ℕ) (res : Result (List (List ℕ))) : Type 0 where
-  simulates : Live script stop item s n r l stack res → Way script stop item s n r l stack res
-  lost : Lost script s r l stack res → Way script stop item s n r l stack res
+pub data Way (tokens : List ℕ) (stop : ℕ) (item : Rule (List ℕ)) (s : Code) (n r l : ℕ) (stack : List ℕ) (res : Result (List (List ℕ))) : Type 0 where
+  simulates : Live tokens stop item s n r l stack res → Way tokens stop item s n r l stack res
+  lost : Lost tokens s r l stack res → Way tokens stop item s n r l stack res
 
 -- the loop's invariant
-pub record MembersInvariant (script : List ℕ) (stop : ℕ) (item : Rule (List ℕ)) (s₀ s : Code) (n : ℕ) : Type 0 where
+pub record MembersInvariant (tokens : List ℕ) (stop : ℕ) (item : Rule (List ℕ)) (s₀ s : Code) (n : ℕ) : Type 0 where
   pub sticky : going s₀ ≡ false → s ≡ s₀
-  pub monotone : length (ahead script s) ≤ length (ahead script s₀)
-  pub way : (R L : ℕ) (stack : List ℕ) (m : State) → Represents script s₀ R L stack m → Way script stop item s n R L stack (members stop item m)
+  pub monotone : length (ahead tokens s) ≤ length (ahead tokens s₀)
+  pub way : (R L : ℕ) (stack : List ℕ) (m : State) → Represents tokens s₀ R L stack m → Way tokens stop item s n R L stack (members stop item m)
 
-pub midway-start : {script : List ℕ} {stop : ℕ} {item : Rule (List ℕ)} {s : Code} → MembersInvariant script stop item s s 0
+pub midway-start : {tokens : List ℕ} {stop : ℕ} {item : Rule (List ℕ)} {s : Code} → MembersInvariant tokens stop item s s 0
 unfolding members loop flatten
 midway-start = record {
   sticky = λ e. refl;
@@ -103,11 +105,11 @@ module _ (p : Parser) (stop : ℕ) where
   no-member g e f = no-member-when (eqb (p .cur .kind) kEof) (eqb (p .cur .kind) stop) (subst (λ (b : Bool). followsBy b (eqb (p .cur .kind) kEof) (eqb (p .cur .kind) stop) ≡ false) g e) f
 
 -- a turn lowers the measure
-pub falls : {script : List ℕ} (stop : ℕ) {item : Rule (List ℕ)} {s s′ : Code} → memberFollows (s .parser) stop ≡ true → ReadsMember script item s s′ → weight script s′ < weight script s
+pub falls : {tokens : List ℕ} (stop : ℕ) {item : Rule (List ℕ)} {s s′ : Code} → memberFollows (s .parser) stop ≡ true → ReadsMember tokens item s s′ → weight tokens s′ < weight tokens s
 falls stop {s = s} w p = lighter (member-going (s .parser) stop w) p
 
-module _ {script : List ℕ} {stop : ℕ} {item : Rule (List ℕ)} {s₀ s s′ : Code} {n n′ : ℕ} where
-  pub midway-turn : MembersInvariant script stop item s₀ s n → memberFollows (s .parser) stop ≡ true → ReadsMember script item s s′ → n′ ≡ (n + 1) % 2 ^ 32 → MembersInvariant script stop item s₀ s′ n′
+module _ {tokens : List ℕ} {stop : ℕ} {item : Rule (List ℕ)} {s₀ s s′ : Code} {n n′ : ℕ} where
+  pub midway-turn : MembersInvariant tokens stop item s₀ s n → memberFollows (s .parser) stop ≡ true → ReadsMember tokens item s s′ → n′ ≡ (n + 1) % 2 ^ 32 → MembersInvariant tokens stop item s₀ s′ n′
   unfolding more
   midway-turn i w p k = record {
     sticky = λ e. absurd (true≢false (member-going (s .parser) stop w) (ap going (i .sticky e) ∙ e));
@@ -115,12 +117,11 @@ module _ {script : List ℕ} {stop : ℕ} {item : Rule (List ℕ)} {s₀ s s′ 
     way = λ R L stack m h. go R L stack (members stop item m) (i .way R L stack m h);
   }
     where
-      next : (R L : ℕ) (stack : List ℕ) (f : ℕ) (xs : List (List ℕ)) (m : State) (res : Result (List (List ℕ))) → Represents script s R L (stack ++ flatten xs) m → length (m .left) ≤ suc f → n ≡ length xs → length xs + length (m .left) ≤ length script + 1
-          → (r : Result (List ℕ)) → res ≡ more stop item f xs r → Ends script (λ _. Unit {0}) grown s′ R L 0 0 (stack ++ flatten xs) r → Way script stop item s′ n′ R L stack res
+      next : (R L : ℕ) (stack : List ℕ) (f : ℕ) (xs : List (List ℕ)) (m : State) (res : Result (List (List ℕ))) → Represents tokens s R L (stack ++ flatten xs) m → length (m .left) ≤ suc f → n ≡ length xs → length xs + length (m .left) ≤ maxBytes + 1
+          → (r : Result (List ℕ)) → res ≡ more stop item f xs r → Ends tokens (λ _. Unit {0}) grown s′ R L 0 0 (stack ++ flatten xs) r → Way tokens stop item s′ n′ R L stack res
       next R L stack f xs m res h u c q (ok x m₁) e d =
           let t : length (m₁ .left) + 1 ≤ length (m .left) = omega (arith, p .progress (represents-going (d .1)), ap length (d .1 .related .left), ap length (h .related .left)) in
           let y : length (xs ++ (x ∷ [])) ≡ length xs + 1 = length-append xs (x ∷ []) in
-          let small : length script ≤ 65536 = h .related .lent .small in
           simulates (record {
             fuel = f;
             xs = xs ++ (x ∷ []);
@@ -135,20 +136,20 @@ module _ {script : List ℕ} {stop : ℕ} {item : Rule (List ℕ)} {s₀ s s′ 
           lost (record { e = x; m = m₁; comes = e; failedAt = record { status = d .status; over = flatten xs ++ d .over; related = rw (← append-assoc stack (flatten xs) (d .over)) (d .related) } })
 
       one : (R L : ℕ) (stack : List ℕ) (f : ℕ) (xs : List (List ℕ)) (m : State) (res : Result (List (List ℕ))) → res ≡ iterate f (body stop item) xs m → length (m .left) ≤ f → n ≡ length xs
-          → length xs + length (m .left) ≤ length script + 1 → Represents script s R L (stack ++ flatten xs) m → Way script stop item s′ n′ R L stack res
+          → length xs + length (m .left) ≤ maxBytes + 1 → Represents tokens s R L (stack ++ flatten xs) m → Way tokens stop item s′ n′ R L stack res
       one R L stack zero xs m res e u c q h = absurd (omega (arith, left-some (h .related)))
       one R L stack (suc f) xs m res e u c q h =
-          let cur : current (m .left) ≡ s .parser .cur = current-represents (h .related) in
+          let cur : current (m .left) ≡ tokenOf (s .parser .cur) = current-represents (h .related) in
           next R L stack f xs m res h u c q (item m)
           (e ∙ turn-more stop item f xs m (rw cur (member-eof (s .parser) stop w)) (rw cur (member-stop (s .parser) stop w)))
           (p .simulates R L (stack ++ flatten xs) m (represents-less _ _ (omega arith) (omega arith) h))
 
-      go : (R L : ℕ) (stack : List ℕ) (res : Result (List (List ℕ))) → Way script stop item s n R L stack res → Way script stop item s′ n′ R L stack res
+      go : (R L : ℕ) (stack : List ℕ) (res : Result (List (List ℕ))) → Way tokens stop item s n R L stack res → Way tokens stop item s′ n′ R L stack res
       go R L stack res (simulates v) = one R L stack (v .fuel) (v .xs) (v .m) res (v .comes) (v .fuelled) (v .count) (v .few) (v .represents)
       go R L stack res (lost v) = absurd (true≢false (member-going (s .parser) stop w) (failed-fails (v .failedAt)))
 
-module _ {script : List ℕ} {stop : ℕ} {item : Rule (List ℕ)} {s₀ s : Code} {n : ℕ} where
-  pub members-end : MembersInvariant script stop item s₀ s n → memberFollows (s .parser) stop ≡ false → Refines script 0 0 (members stop item) (Collected script n s) allGrown 0 0 0 s₀ s
+module _ {tokens : List ℕ} {stop : ℕ} {item : Rule (List ℕ)} {s₀ s : Code} {n : ℕ} where
+  pub members-end : MembersInvariant tokens stop item s₀ s n → memberFollows (s .parser) stop ≡ false → Refines tokens 0 0 (members stop item) (Collected tokens n s) allGrown 0 0 0 s₀ s
   unfolding pure
   members-end i w = record {
     sticky = i .sticky;
@@ -157,22 +158,22 @@ module _ {script : List ℕ} {stop : ℕ} {item : Rule (List ℕ)} {s₀ s : Cod
     simulates = λ R L stack m h. go R L stack (members stop item m) (i .way R L stack m (represents-less _ _ (omega arith) (omega arith) h));
   }
     where
-      one : (R L : ℕ) (stack : List ℕ) (f : ℕ) (xs : List (List ℕ)) (m : State) (res : Result (List (List ℕ))) → res ≡ iterate f (body stop item) xs m → length (m .left) ≤ f → n ≡ length xs → length xs + length (m .left) ≤ length script + 1
-          → Represents script s R L (stack ++ flatten xs) m → Ends script (Collected script n s) allGrown s R L 0 0 stack res
+      one : (R L : ℕ) (stack : List ℕ) (f : ℕ) (xs : List (List ℕ)) (m : State) (res : Result (List (List ℕ))) → res ≡ iterate f (body stop item) xs m → length (m .left) ≤ f → n ≡ length xs → length xs + length (m .left) ≤ maxBytes + 1
+          → Represents tokens s R L (stack ++ flatten xs) m → Ends tokens (Collected tokens n s) allGrown s R L 0 0 stack res
       one R L stack zero xs m res e u c q h = absurd (omega (arith, left-some (h .related)))
       one R L stack (suc f) xs m res e u c q h =
-          let cur : current (m .left) ≡ s .parser .cur = current-represents (h .related) in
+          let cur : current (m .left) ≡ tokenOf (s .parser .cur) = current-represents (h .related) in
           let stops : body stop item xs m ≡ ok (break xs) m = either (eqb (s .parser .cur .kind) kEof)
           (λ g. ifKind-is-yes kEof _ _ m (rw cur g))
           (λ g. ifKind-is-no kEof _ _ m (rw cur g) ∙ ifKind-is-yes stop _ _ m (rw cur (no-member (s .parser) stop (represents-going h) w g))) in
-          subst (Ends script (Collected script n s) allGrown s R L 0 0 stack) (sym (e ∙ turn-out stop item f xs m stops))
+          subst (Ends tokens (Collected tokens n s) allGrown s R L 0 0 stack) (sym (e ∙ turn-out stop item f xs m stops))
           ((sym c, omega (arith, q, ap length (h .related .left))), represents-less _ _ (omega arith) (omega arith) h)
 
-      go : (R L : ℕ) (stack : List ℕ) (res : Result (List (List ℕ))) → Way script stop item s n R L stack res → Ends script (Collected script n s) allGrown s R L 0 0 stack res
+      go : (R L : ℕ) (stack : List ℕ) (res : Result (List (List ℕ))) → Way tokens stop item s n R L stack res → Ends tokens (Collected tokens n s) allGrown s R L 0 0 stack res
       go R L stack res (simulates v) = one R L stack (v .fuel) (v .xs) (v .m) res (v .comes) (v .fuelled) (v .count) (v .few) (v .represents)
-      go R L stack res (lost v) = subst (Ends script (Collected script n s) allGrown s R L 0 0 stack) (sym (v .comes)) (v .failedAt)
+      go R L stack res (lost v) = subst (Ends tokens (Collected tokens n s) allGrown s R L 0 0 stack) (sym (v .comes)) (v .failedAt)
 
-module _ {script : List ℕ} {stop : ℕ} {item : Rule (List ℕ)} {run : Run} {s₀ s s′ : Code} {mark n : ℕ} where
-  pub midway-end : MembersInvariant script stop item s₀ s n → memberFollows (s .parser) stop ≡ false → mark ≡ s₀ .parser .used .scratch → Lists script (closed stop) run 1 1 8 mark n s s′ → Refines script 0 0 (listUntil stop item) (λ a. a ≡ run) stackUnchanged 1 1 8 s₀ s′
+module _ {tokens : List ℕ} {stop : ℕ} {item : Rule (List ℕ)} {run : Run} {s₀ s s′ : Code} {mark n : ℕ} where
+  pub midway-end : MembersInvariant tokens stop item s₀ s n → memberFollows (s .parser) stop ≡ false → mark ≡ s₀ .parser .used .scratch → Lists tokens (closed stop) run 1 1 8 mark n s s′ → Refines tokens 0 0 (listUntil stop item) (λ a. a ≡ run) stackUnchanged 1 1 8 s₀ s′
   unfolding listUntil closed
   midway-end i w k p = lists-after (closed stop) (members-end i w) p k

@@ -31,7 +31,7 @@ iterate-suc {A} f n a m = go (f a m)
     go (ok (break b) s) = refl
     go (err e s) = refl
 
-module _ {A : Type 0} (script : List ℕ) (f : A → Rule (ControlFlow A)) (grow : A → List ℕ → List ℕ) where
+module _ {A : Type 0} (tokens : List ℕ) (f : A → Rule (ControlFlow A)) (grow : A → List ℕ → List ℕ) where
   -- the rule has come as far as the code, its value having the property Q
   pub record Live (Q : A → Type 0) (s : Code) (r l : ℕ) (stack : List ℕ) (res : Result A) : Type 0 where
     pub fuel : ℕ
@@ -40,13 +40,13 @@ module _ {A : Type 0} (script : List ℕ) (f : A → Rule (ControlFlow A)) (grow
     pub comes : res ≡ iterate fuel f a m
     pub fuelled : length (m .left) ≤ fuel
     pub value : Q a
-    pub represents : Represents script s r l (grow a stack) m
+    pub represents : Represents tokens s r l (grow a stack) m
 
   pub record Lost (s : Code) (r l : ℕ) (stack : List ℕ) (res : Result A) : Type 0 where
     pub e : Diagnostic
     pub m : State
     pub comes : res ≡ err e m
-    pub failedAt : FailedAt script s e r l stack m
+    pub failedAt : FailedAt tokens s e r l stack m
 
   pub data Way (Q : A → Type 0) (s : Code) (r l : ℕ) (stack : List ℕ) (res : Result A) : Type 0 where
     simulates : Live Q s r l stack res → Way Q s r l stack res
@@ -55,33 +55,33 @@ module _ {A : Type 0} (script : List ℕ) (f : A → Rule (ControlFlow A)) (grow
   -- the loop's invariant
   pub record LoopInvariant (a₀ : A) (Q : A → Type 0) (s₀ s : Code) : Type 0 where
     pub sticky : going s₀ ≡ false → s ≡ s₀
-    pub monotone : length (ahead script s) ≤ length (ahead script s₀)
-    pub way : (R L : ℕ) (stack : List ℕ) (m : State) → Represents script s₀ R L (grow a₀ stack) m → Way Q s R L stack (loop f a₀ m)
+    pub monotone : length (ahead tokens s) ≤ length (ahead tokens s₀)
+    pub way : (R L : ℕ) (stack : List ℕ) (m : State) → Represents tokens s₀ R L (grow a₀ stack) m → Way Q s R L stack (loop f a₀ m)
 
   -- a turn that goes on
   abbrev pub Turned : (A → Type 0) → Code → ℕ → ℕ → List ℕ → Result (ControlFlow A) → Type 0
-  Turned Q s′ r l stack (ok (continue b) m) = Q b × Represents script s′ r l (grow b stack) m
+  Turned Q s′ r l stack (ok (continue b) m) = Q b × Represents tokens s′ r l (grow b stack) m
   Turned Q s′ r l stack (ok (break b) m) = ⊥
-  Turned Q s′ r l stack (err e m) = FailedAt script s′ e r l stack m
+  Turned Q s′ r l stack (err e m) = FailedAt tokens s′ e r l stack m
 
   pub record Again (Q Q′ : A → Type 0) (s s′ : Code) : Type 0 where
-    pub monotone : length (ahead script s′) ≤ length (ahead script s)
-    pub progress : going s′ ≡ true → length (ahead script s′) + 1 ≤ length (ahead script s)
-    pub flowValue : (R L : ℕ) (stack : List ℕ) (a : A) (m : State) → Q a → Represents script s R L (grow a stack) m → Turned Q′ s′ R L stack (f a m)
+    pub monotone : length (ahead tokens s′) ≤ length (ahead tokens s)
+    pub progress : going s′ ≡ true → length (ahead tokens s′) + 1 ≤ length (ahead tokens s)
+    pub flowValue : (R L : ℕ) (stack : List ℕ) (a : A) (m : State) → Q a → Represents tokens s R L (grow a stack) m → Turned Q′ s′ R L stack (f a m)
 
   -- a turn at which the loop is left
   abbrev pub Stopped : (A → Type 0) → Code → ℕ → ℕ → List ℕ → Result (ControlFlow A) → Type 0
   Stopped Q s′ r l stack (ok (continue b) m) = ⊥
-  Stopped Q s′ r l stack (ok (break b) m) = Q b × Represents script s′ r l (grow b stack) m
-  Stopped Q s′ r l stack (err e m) = FailedAt script s′ e r l stack m
+  Stopped Q s′ r l stack (ok (break b) m) = Q b × Represents tokens s′ r l (grow b stack) m
+  Stopped Q s′ r l stack (err e m) = FailedAt tokens s′ e r l stack m
 
   pub record Last (Q Q′ : A → Type 0) (s s′ : Code) : Type 0 where
     pub sticky : going s ≡ false → s′ ≡ s
-    pub monotone : length (ahead script s′) ≤ length (ahead script s)
-    pub flowValue : (R L : ℕ) (stack : List ℕ) (a : A) (m : State) → Q a → Represents script s R L (grow a stack) m → Stopped Q′ s′ R L stack (f a m)
+    pub monotone : length (ahead tokens s′) ≤ length (ahead tokens s)
+    pub flowValue : (R L : ℕ) (stack : List ℕ) (a : A) (m : State) → Q a → Represents tokens s R L (grow a stack) m → Stopped Q′ s′ R L stack (f a m)
 
-module _ {A : Type 0} {script : List ℕ} {f : A → Rule (ControlFlow A)} {grow : A → List ℕ → List ℕ} where
-  pub round-start : {a₀ : A} {s : Code} → LoopInvariant script f grow a₀ (λ a. a ≡ a₀) s s
+module _ {A : Type 0} {tokens : List ℕ} {f : A → Rule (ControlFlow A)} {grow : A → List ℕ → List ℕ} where
+  pub round-start : {a₀ : A} {s : Code} → LoopInvariant tokens f grow a₀ (λ a. a ≡ a₀) s s
   unfolding loop
   round-start {a₀} = record {
     sticky = λ e. refl;
@@ -90,7 +90,7 @@ module _ {A : Type 0} {script : List ℕ} {f : A → Rule (ControlFlow A)} {grow
   }
 
   -- where what the code holds gives the property
-  pub round-start-at : {a₀ : A} {Q : A → Type 0} {s : Code} → ((R L : ℕ) (stack : List ℕ) (m : State) → Represents script s R L (grow a₀ stack) m → Q a₀) → LoopInvariant script f grow a₀ Q s s
+  pub round-start-at : {a₀ : A} {Q : A → Type 0} {s : Code} → ((R L : ℕ) (stack : List ℕ) (m : State) → Represents tokens s R L (grow a₀ stack) m → Q a₀) → LoopInvariant tokens f grow a₀ Q s s
   unfolding loop
   round-start-at {a₀} q = record {
     sticky = λ e. refl;
@@ -99,7 +99,7 @@ module _ {A : Type 0} {script : List ℕ} {f : A → Rule (ControlFlow A)} {grow
   }
 
   module _ {a₀ : A} {Q Q′ : A → Type 0} {s₀ s s′ : Code} where
-    pub round-again : LoopInvariant script f grow a₀ Q s₀ s → going s ≡ true → Again script f grow Q Q′ s s′ → LoopInvariant script f grow a₀ Q′ s₀ s′
+    pub round-again : LoopInvariant tokens f grow a₀ Q s₀ s → going s ≡ true → Again tokens f grow Q Q′ s s′ → LoopInvariant tokens f grow a₀ Q′ s₀ s′
     unfolding after
     round-again i g p = record {
       sticky = λ e. absurd (true≢false g (ap going (i .sticky e) ∙ e));
@@ -107,24 +107,24 @@ module _ {A : Type 0} {script : List ℕ} {f : A → Rule (ControlFlow A)} {grow
       way = λ R L stack m h. go R L stack (loop f a₀ m) (i .way R L stack m h);
     }
       where
-        next : (R L : ℕ) (stack : List ℕ) (n : ℕ) (a : A) (m : State) (res : Result A) → Represents script s R L (grow a stack) m → length (m .left) ≤ suc n
-            → (r : Result (ControlFlow A)) → res ≡ after f n r → Turned script f grow Q′ s′ R L stack r → Way script f grow Q′ s′ R L stack res
+        next : (R L : ℕ) (stack : List ℕ) (n : ℕ) (a : A) (m : State) (res : Result A) → Represents tokens s R L (grow a stack) m → length (m .left) ≤ suc n
+            → (r : Result (ControlFlow A)) → res ≡ after f n r → Turned tokens f grow Q′ s′ R L stack r → Way tokens f grow Q′ s′ R L stack res
         next R L stack n a m res h u (ok (continue b) m₁) e d =
             let t : length (m₁ .left) + 1 ≤ length (m .left) = omega (arith, p .progress (represents-going (d .1)), ap length (d .1 .related .left), ap length (h .related .left)) in
             simulates (record { fuel = n; a = b; m = m₁; comes = e; fuelled = omega arith; value = d .0; represents = d .1 })
         next R L stack n a m res h u (ok (break b) m₁) e d = absurd d
         next R L stack n a m res h u (err x m₁) e d = lost (record { e = x; m = m₁; comes = e; failedAt = d })
 
-        one : (R L : ℕ) (stack : List ℕ) (n : ℕ) (a : A) (m : State) (res : Result A) → res ≡ iterate n f a m → length (m .left) ≤ n → Q a → Represents script s R L (grow a stack) m → Way script f grow Q′ s′ R L stack res
+        one : (R L : ℕ) (stack : List ℕ) (n : ℕ) (a : A) (m : State) (res : Result A) → res ≡ iterate n f a m → length (m .left) ≤ n → Q a → Represents tokens s R L (grow a stack) m → Way tokens f grow Q′ s′ R L stack res
         one R L stack zero a m res e u v h = absurd (omega (arith, left-some (h .related)))
         one R L stack (suc n) a m res e u v h = next R L stack n a m res h u (f a m) (e ∙ iterate-suc f n a m) (p .flowValue R L stack a m v h)
 
-        go : (R L : ℕ) (stack : List ℕ) (res : Result A) → Way script f grow Q s R L stack res → Way script f grow Q′ s′ R L stack res
+        go : (R L : ℕ) (stack : List ℕ) (res : Result A) → Way tokens f grow Q s R L stack res → Way tokens f grow Q′ s′ R L stack res
         go R L stack res (simulates w) = one R L stack (w .fuel) (w .a) (w .m) res (w .comes) (w .fuelled) (w .value) (w .represents)
         go R L stack res (lost w) = absurd (true≢false g (failed-fails (w .failedAt)))
 
   module _ {a₀ : A} {Q Q′ : A → Type 0} {s₀ s s′ : Code} where
-    pub round-last : LoopInvariant script f grow a₀ Q s₀ s → ((stack : List ℕ) → grow a₀ stack ≡ stack) → Last script f grow Q Q′ s s′ → Refines script 0 0 (loop f a₀) Q′ grow 0 0 0 s₀ s′
+    pub round-last : LoopInvariant tokens f grow a₀ Q s₀ s → ((stack : List ℕ) → grow a₀ stack ≡ stack) → Last tokens f grow Q Q′ s s′ → Refines tokens 0 0 (loop f a₀) Q′ grow 0 0 0 s₀ s′
     unfolding after
     round-last i z p = record {
       sticky = λ e. let e₁ : s ≡ s₀ = i .sticky e in p .sticky (ap going e₁ ∙ e) ∙ e₁;
@@ -133,67 +133,67 @@ module _ {A : Type 0} {script : List ℕ} {f : A → Rule (ControlFlow A)} {grow
       simulates = λ R L stack m h. go R L stack (loop f a₀ m) (i .way R L stack m (rw (z stack) (represents-less _ _ (omega arith) (omega arith) h)));
     }
       where
-        ends : (R L : ℕ) (stack : List ℕ) (n : ℕ) (r : Result (ControlFlow A)) → Stopped script f grow Q′ s′ R L stack r → Ends script Q′ grow s′ R L 0 0 stack (after f n r)
+        ends : (R L : ℕ) (stack : List ℕ) (n : ℕ) (r : Result (ControlFlow A)) → Stopped tokens f grow Q′ s′ R L stack r → Ends tokens Q′ grow s′ R L 0 0 stack (after f n r)
         ends R L stack n (ok (continue b) m) d = absurd d
         ends R L stack n (ok (break b) m) d = (d .0, represents-less _ _ (omega arith) (omega arith) (d .1))
         ends R L stack n (err e m) d = d
 
-        one : (R L : ℕ) (stack : List ℕ) (n : ℕ) (a : A) (m : State) (res : Result A) → res ≡ iterate n f a m → length (m .left) ≤ n → Q a → Represents script s R L (grow a stack) m → Ends script Q′ grow s′ R L 0 0 stack res
+        one : (R L : ℕ) (stack : List ℕ) (n : ℕ) (a : A) (m : State) (res : Result A) → res ≡ iterate n f a m → length (m .left) ≤ n → Q a → Represents tokens s R L (grow a stack) m → Ends tokens Q′ grow s′ R L 0 0 stack res
         one R L stack zero a m res e u v h = absurd (omega (arith, left-some (h .related)))
-        one R L stack (suc n) a m res e u v h = subst (Ends script Q′ grow s′ R L 0 0 stack) (sym (e ∙ iterate-suc f n a m)) (ends R L stack n (f a m) (p .flowValue R L stack a m v h))
+        one R L stack (suc n) a m res e u v h = subst (Ends tokens Q′ grow s′ R L 0 0 stack) (sym (e ∙ iterate-suc f n a m)) (ends R L stack n (f a m) (p .flowValue R L stack a m v h))
 
-        go : (R L : ℕ) (stack : List ℕ) (res : Result A) → Way script f grow Q s R L stack res → Ends script Q′ grow s′ R L 0 0 stack res
+        go : (R L : ℕ) (stack : List ℕ) (res : Result A) → Way tokens f grow Q s R L stack res → Ends tokens Q′ grow s′ R L 0 0 stack res
         go R L stack res (simulates w) = one R L stack (w .fuel) (w .a) (w .m) res (w .comes) (w .fuelled) (w .value) (w .represents)
-        go R L stack res (lost w) = subst (λ (t : Code). Ends script Q′ grow t R L 0 0 stack res) (sym (p .sticky (failed-fails (w .failedAt)))) (subst (Ends script Q′ grow s R L 0 0 stack) (sym (w .comes)) (w .failedAt))
+        go R L stack res (lost w) = subst (λ (t : Code). Ends tokens Q′ grow t R L 0 0 stack res) (sym (p .sticky (failed-fails (w .failedAt)))) (subst (Ends tokens Q′ grow s R L 0 0 stack) (sym (w .comes)) (w .failedAt))
 
   -- a last turn that changes nothing
   module _ {a₀ : A} {Q : A → Type 0} {s₀ s : Code} where
-    pub round-out : LoopInvariant script f grow a₀ Q s₀ s → ((stack : List ℕ) → grow a₀ stack ≡ stack)
-        → ((R L : ℕ) (stack : List ℕ) (a : A) (m : State) → Q a → Represents script s R L stack m → f a m ≡ ok (break a) m) → Refines script 0 0 (loop f a₀) Q grow 0 0 0 s₀ s
+    pub round-out : LoopInvariant tokens f grow a₀ Q s₀ s → ((stack : List ℕ) → grow a₀ stack ≡ stack)
+        → ((R L : ℕ) (stack : List ℕ) (a : A) (m : State) → Q a → Represents tokens s R L stack m → f a m ≡ ok (break a) m) → Refines tokens 0 0 (loop f a₀) Q grow 0 0 0 s₀ s
     round-out i z p = round-last i z (record {
       sticky = λ e. refl;
       monotone = omega arith;
-      flowValue = λ R L stack a m v h. subst (Stopped script f grow Q s R L stack) (sym (p R L (grow a stack) a m v h)) (v, h);
+      flowValue = λ R L stack a m v h. subst (Stopped tokens f grow Q s R L stack) (sym (p R L (grow a stack) a m v h)) (v, h);
     })
 
 -- a turn from what a step of the code meets
-pub again-of : {A : Type 0} {script : List ℕ} {v w : A} {r′ l′ : ℕ} {s s′ : Code} (f : A → Rule (ControlFlow A)) → Refines script 0 0 (f v) (λ t. t ≡ continue w) stackUnchanged 1 r′ l′ s s′
-    → Again script f stackUnchanged (λ a. a ≡ v) (λ b. b ≡ w) s s′
-again-of {A} {script} {v} {w} {r′} {l′} {s} {s′} f p = record {
+pub again-of : {A : Type 0} {tokens : List ℕ} {v w : A} {r′ l′ : ℕ} {s s′ : Code} (f : A → Rule (ControlFlow A)) → Refines tokens 0 0 (f v) (λ t. t ≡ continue w) stackUnchanged 1 r′ l′ s s′
+    → Again tokens f stackUnchanged (λ a. a ≡ v) (λ b. b ≡ w) s s′
+again-of {A} {tokens} {v} {w} {r′} {l′} {s} {s′} f p = record {
   monotone = p .monotone;
   progress = p .progress;
   flowValue = λ R L stack a m e h.
-      subst (λ (x : A). Turned script f stackUnchanged (λ b. b ≡ w) s′ R L stack (f x m)) (sym e) (go R L stack (f v m) (p .simulates R L stack m (represents-less _ _ (omega arith) (omega arith) h)));
+      subst (λ (x : A). Turned tokens f stackUnchanged (λ b. b ≡ w) s′ R L stack (f x m)) (sym e) (go R L stack (f v m) (p .simulates R L stack m (represents-less _ _ (omega arith) (omega arith) h)));
 }
   where
-    go : (R L : ℕ) (stack : List ℕ) (r : Result (ControlFlow A)) → Ends script (λ t. t ≡ continue w) stackUnchanged s′ R L r′ l′ stack r → Turned script f stackUnchanged (λ b. b ≡ w) s′ R L stack r
+    go : (R L : ℕ) (stack : List ℕ) (r : Result (ControlFlow A)) → Ends tokens (λ t. t ≡ continue w) stackUnchanged s′ R L r′ l′ stack r → Turned tokens f stackUnchanged (λ b. b ≡ w) s′ R L stack r
     go R L stack (ok (continue b) m) h = (let e : continue b ≡ continue w = h .0 in cc, represents-less _ _ (omega arith) (omega arith) (h .1))
     go R L stack (ok (break b) m) h = let e : break b ≡ continue w = h .0 in let z : _≡_ {A = ℕ} 0 1 = cc in omega arith
     go R L stack (err e m) h = h
 
 -- a last turn likewise
-pub last-of : {A : Type 0} {script : List ℕ} {v w : A} {d r′ l′ : ℕ} {s s′ : Code} (f : A → Rule (ControlFlow A)) → Refines script 0 0 (f v) (λ t. t ≡ break w) stackUnchanged d r′ l′ s s′
-    → Last script f stackUnchanged (λ a. a ≡ v) (λ b. b ≡ w) s s′
-last-of {A} {script} {v} {w} {d} {r′} {l′} {s} {s′} f p = record {
+pub last-of : {A : Type 0} {tokens : List ℕ} {v w : A} {d r′ l′ : ℕ} {s s′ : Code} (f : A → Rule (ControlFlow A)) → Refines tokens 0 0 (f v) (λ t. t ≡ break w) stackUnchanged d r′ l′ s s′
+    → Last tokens f stackUnchanged (λ a. a ≡ v) (λ b. b ≡ w) s s′
+last-of {A} {tokens} {v} {w} {d} {r′} {l′} {s} {s′} f p = record {
   sticky = p .sticky;
   monotone = p .monotone;
   flowValue = λ R L stack a m e h.
-      subst (λ (x : A). Stopped script f stackUnchanged (λ b. b ≡ w) s′ R L stack (f x m)) (sym e) (go R L stack (f v m) (p .simulates R L stack m (represents-less _ _ (omega arith) (omega arith) h)));
+      subst (λ (x : A). Stopped tokens f stackUnchanged (λ b. b ≡ w) s′ R L stack (f x m)) (sym e) (go R L stack (f v m) (p .simulates R L stack m (represents-less _ _ (omega arith) (omega arith) h)));
 }
   where
-    go : (R L : ℕ) (stack : List ℕ) (r : Result (ControlFlow A)) → Ends script (λ t. t ≡ break w) stackUnchanged s′ R L r′ l′ stack r → Stopped script f stackUnchanged (λ b. b ≡ w) s′ R L stack r
+    go : (R L : ℕ) (stack : List ℕ) (r : Result (ControlFlow A)) → Ends tokens (λ t. t ≡ break w) stackUnchanged s′ R L r′ l′ stack r → Stopped tokens f stackUnchanged (λ b. b ≡ w) s′ R L stack r
     go R L stack (ok (break b) m) h = (let e : break b ≡ break w = h .0 in cc, represents-less _ _ (omega arith) (omega arith) (h .1))
     go R L stack (ok (continue b) m) h = let e : continue b ≡ break w = h .0 in let z : _≡_ {A = ℕ} 0 1 = cc in omega arith
     go R L stack (err e m) h = h
 
 -- what is struck out is in no array
-module _ {A : Type 0} {script : List ℕ} {x : Rule A} {Q : A → Type 0} {grow : A → List ℕ → List ℕ} {r l d r′ l′ : ℕ} {s s′ : Code} where
-  pub struck-as : Refines script r l x Q grow d r′ l′ s s′ → Refines script r l (struck x) Q grow d r′ l′ s s′
+module _ {A : Type 0} {tokens : List ℕ} {x : Rule A} {Q : A → Type 0} {grow : A → List ℕ → List ℕ} {r l d r′ l′ : ℕ} {s s′ : Code} where
+  pub struck-as : Refines tokens r l x Q grow d r′ l′ s s′ → Refines tokens r l (struck x) Q grow d r′ l′ s s′
   unfolding struck
   struck-as p = record { sticky = p .sticky; monotone = p .monotone; progress = p .progress; simulates = λ R L stack m h. go R L stack m (x m) (p .simulates R L stack m h) }
     where
-      go : (R L : ℕ) (stack : List ℕ) (m : State) (res : Result A) → Ends script Q grow s′ R L r′ l′ stack res
-          → Ends script Q grow s′ R L r′ l′ stack (elim res [ ok a t ↦ ok a (record { left = t .left; docs = t .docs; arena = t .arena; notes = record { marks = m .notes .marks ++ replicate (length (m .left) - length (t .left)) false; afterDefault = t .notes .afterDefault } }) | err e t ↦ err e t ])
+      go : (R L : ℕ) (stack : List ℕ) (m : State) (res : Result A) → Ends tokens Q grow s′ R L r′ l′ stack res
+          → Ends tokens Q grow s′ R L r′ l′ stack (elim res [ ok a t ↦ ok a (record { left = t .left; docs = t .docs; arena = t .arena; notes = record { marks = m .notes .marks ++ replicate (length (m .left) - length (t .left)) false; afterDefault = t .notes .afterDefault } }) | err e t ↦ err e t ])
       go R L stack m (ok a t) h = (h .0, represents-noted _ (h .1))
       go R L stack m (err e t) h = h
 
@@ -210,11 +210,11 @@ ifKind-is-no {A} k x y m e = ap (λ (b : Bool). (elim b as (λ _. Rule A) [ true
 -- ---- the measure of such a loop
 
 abbrev pub weight : List ℕ → Code → ℕ
-weight script s = length (ahead script s) + elim (going s) as (λ _. ℕ) [ true ↦ 1 | false ↦ 0 ]
+weight tokens s = length (ahead tokens s) + elim (going s) as (λ _. ℕ) [ true ↦ 1 | false ↦ 0 ]
 
-pub lighter : {A : Type 0} {script : List ℕ} {r l r′ l′ : ℕ} {x : Rule A} {Q : A → Type 0} {grow : A → List ℕ → List ℕ} {s s′ : Code}
-    → going s ≡ true → Refines script r l x Q grow 1 r′ l′ s s′ → weight script s′ < weight script s
-lighter {script = script} {s = s} {s′} g p = either (going s′) (λ g′. rw (g, g′) (omega (arith, p .progress g′))) (λ g′. rw (g, g′) (omega (arith, p .monotone)))
+pub lighter : {A : Type 0} {tokens : List ℕ} {r l r′ l′ : ℕ} {x : Rule A} {Q : A → Type 0} {grow : A → List ℕ → List ℕ} {s s′ : Code}
+    → going s ≡ true → Refines tokens r l x Q grow 1 r′ l′ s s′ → weight tokens s′ < weight tokens s
+lighter {tokens = tokens} {s = s} {s′} g p = either (going s′) (λ g′. rw (g, g′) (omega (arith, p .progress g′))) (λ g′. rw (g, g′) (omega (arith, p .monotone)))
 
 -- ---- the test of such a loop
 

@@ -2,52 +2,32 @@
 use mathlib.Core.Path.{_≡_}
 use mathlib.Core.Bool.{Bool, true, false}
 use mathlib.Core.List.{List, [], _∷_, _++_, map, flatten, reverse}
-use Prim.Native.Nat.{ℕ, suc, _+_, _*_, _-_, _%_, _≤_}
+use Prim.Native.Nat.{ℕ, suc, _+_, _*_, _≤_}
 use lib.Dec.{eqb}
 use lib.ListN.{length, getD}
 use Rattle.lex.specs.Kind.{kEof}
-use Rattle.lex.specs.Lex.{cut, tokensOf, tokensFrom}
-use Rattle.lex.specs.Passed.{StandsAfter}
 use Rattle.lex.specs.declared.diagnostic.Diagnostic.{Diagnostic}
-use Rattle.lex.specs.declared.tok.Next.{Next}
 use Rattle.lex.specs.declared.tok.Token.{Token}
+use Rattle.tokens.specs.Table.{tokenOf, tokenAt, tokensFrom}
+use Rattle.tokens.specs.declared.Entry.{Entry}
 use Rattle.rules.specs.Tree.{State}
-use Rattle.ast.specs.Layout.{nodeWidth, typeWidth, cellsPerByte, tokenCells, nodeCells, typeCells, zeros}
+use Rattle.ast.specs.Layout.{tokenCells, nodeWidth, typeWidth, cellsPerByte, nodeCells, typeCells}
 use Rattle.lex.specs.Answer.{maxBytes}
 use Rattle.ast.specs.declared.Node.{Node}
 use Rattle.ast.specs.declared.Node.the-variants as N
 use Rattle.parser_state.specs.declared.WideNode.{WideNode}
 use Rattle.parser_state.specs.declared.WideNode.the-variants as W
 use Rattle.ast.specs.declared.TypeExpr.{TypeExpr}
-use Rattle.ast.specs.declared.TypeExpr.the-variants as T
 use Rattle.parser_state.specs.declared.Parser.{Parser}
 use Rattle.parser_state.specs.declared.Used.{Used}
 use Rattle.parser_state.specs.declared.Status.{Status}
 
--- ---- what an array holds of a token: the low 24 bits of its numbers
+-- ---- nodes
 
-abbrev pub low24Bits : ℕ → ℕ
-low24Bits n = n % 16777216
-
-abbrev pub lowToken : Token → Token
-lowToken t = record { kind = t .kind; start = low24Bits (t .start); len = low24Bits (t .len) }
-
-abbrev pub lowType : TypeExpr → TypeExpr
-lowType (T.Atom t) = T.Atom (lowToken t)
-lowType (T.Foreign t) = T.Foreign (lowToken t)
-lowType (T.Option i) = T.Option i
-lowType (T.Array i) = T.Array i
-lowType (T.Record src fields) = T.Record (lowToken src) fields
-
-abbrev pub lowNode : WideNode → Node
-lowNode (W.Fn id docs name args return-type body) = N.Fn id docs (lowToken name) args return-type body
-lowNode (W.Match id cases token body) = N.Match id cases (lowToken token) body
-lowNode (W.Extern id src docs name fns) = N.Extern id (lowToken src) docs (lowToken name) fns
-
--- the numbers of a token of the script
-pub record InRange (script : List ℕ) (t : Token) : Type 0 where
-  pub start : t .start ≤ length script
-  pub len : t .len ≤ length script + 3
+abbrev pub nodeOf : WideNode → Node
+nodeOf (W.Fn id docs name args return-type body) = N.Fn id docs (tokenOf name) args return-type body
+nodeOf (W.Match id cases token body) = N.Match id cases (tokenOf token) body
+nodeOf (W.Extern id src docs name fns) = N.Extern id (tokenOf src) docs (tokenOf name) fns
 
 -- ---- the code and the state
 
@@ -64,19 +44,19 @@ Failed e = record { failed = 1; error = e }
 unfoldable pub parserOf : List ℕ → Parser
 parserOf c = record {
   cur = record { kind = getD c 1 0; start = getD c 0 0; len = getD c 2 0 };
-  pos = getD c 3 0 + 4294967296 * getD c 4 0;
-  used = record { nodes = getD c 5 0; values = getD c 6 0; types = getD c 7 0; docs = getD c 8 0; cells = getD c 9 0; scratch = getD c 10 0 };
-  status = record { failed = getD c 11 0; error = record { number = getD c 12 0; start = getD c 13 0; len = getD c 14 0; wanted = getD c 15 0; seen = getD c 16 0 } };
+  at = getD c 3 0;
+  used = record { nodes = getD c 4 0; values = getD c 5 0; types = getD c 6 0; docs = getD c 7 0; cells = getD c 8 0; scratch = getD c 9 0 };
+  status = record { failed = getD c 10 0; error = record { number = getD c 11 0; start = getD c 12 0; len = getD c 13 0; wanted = getD c 14 0; seen = getD c 15 0 } };
 }
 
-abbrev pub withNext : Parser → Next → Parser
-withNext p n = record { cur = lowToken (n .token); pos = n .next; used = p .used; status = p .status }
+abbrev pub withToken : Parser → Entry → ℕ → Parser
+withToken p t at = record { cur = t; at = at; used = p .used; status = p .status }
 
 abbrev pub withUsed : Parser → Used → Parser
-withUsed p u = record { cur = p .cur; pos = p .pos; used = u; status = p .status }
+withUsed p u = record { cur = p .cur; at = p .at; used = u; status = p .status }
 
 abbrev pub withStatus : Parser → Status → Parser
-withStatus p s = record { cur = p .cur; pos = p .pos; used = p .used; status = s }
+withStatus p s = record { cur = p .cur; at = p .at; used = p .used; status = s }
 
 -- all that the code changes
 pub record Code : Type 0 where
@@ -91,45 +71,45 @@ code nodes types lists p = record { nodes = nodes; types = types; lists = lists;
 abbrev pub going : Code → Bool
 going s = isGoing (s .parser .status)
 
--- a token and those from a position on
+-- a token and those behind record `at` of the table
 unfoldable pub from : List ℕ → Token → ℕ → List Token
-from script t pos = elim (eqb (t .kind) kEof) [ true ↦ t ∷ [] | false ↦ t ∷ tokensFrom script pos ]
-
--- the lexer stands behind the token being read, before which so many are taken
-pub record Lexed (script : List ℕ) (cur : Token) (pos : ℕ) : Type 0 where
-  pub taken : ℕ
-  pub stands : StandsAfter script (suc taken) pos
-  pub counted : length (from script cur pos) + taken ≡ length (tokensOf (cut script))
+from tokens t at = elim (eqb (t .kind) kEof) [ true ↦ t ∷ [] | false ↦ t ∷ tokensFrom tokens (suc at) ]
 
 -- the tokens that are left
 abbrev pub ahead : List ℕ → Code → List Token
-ahead script s = from script (s .parser .cur) (s .parser .pos)
+ahead tokens s = from tokens (tokenOf (s .parser .cur)) (s .parser .at)
+
+-- a token of a script starts in it
+abbrev pub Near : Token → Type 0
+Near t = t .start ≤ maxBytes
 
 -- the cells of pending docs, in the order in which they were met
 abbrev pub docCells : List Token → List ℕ
 docCells docs = flatten (map tokenCells docs)
 
--- the numbers of the docs have no other bits
-abbrev pub AllLow : List Token → Type 0
-AllLow [] = Unit {0}
-AllLow (d ∷ ds) = (lowToken d ≡ d) × AllLow ds
+abbrev pub AllNear : List Token → Type 0
+AllNear [] = Unit {0}
+AllNear (d ∷ ds) = Near d × AllNear ds
 
--- The arrays as a state has them: records or cells in front, then zeros, and at the far end what
--- grows downward, the last cell first: behind the types the pending docs, behind the lists the
--- cells of those under construction.
+-- The arrays as a state has them: records or cells in front, then whatever lies there, and at the
+-- far end what grows downward, the last cell first: behind the types the pending docs, behind the
+-- lists the cells of those under construction.
 pub record NodesLaid (nodes : List ℕ) (count values : ℕ) (arena : List Node) (given : ℕ) : Type 0 where
-  pub laid : nodes ≡ flatten (map nodeCells arena) ++ (zeros (length nodes - nodeWidth * count) ++ [])
+  pub between : List ℕ
+  pub laid : nodes ≡ flatten (map nodeCells arena) ++ (between ++ [])
   pub counted : count ≡ length arena
   pub valued : values ≡ given
 
 pub record TypesLaid (types : List ℕ) (count docCount : ℕ) (arena : List TypeExpr) (docs : List Token) : Type 0 where
-  pub laid : types ≡ flatten (map typeCells arena) ++ (zeros (length types - (typeWidth * count + 3 * docCount)) ++ reverse (docCells docs))
+  pub between : List ℕ
+  pub laid : types ≡ flatten (map typeCells arena) ++ (between ++ reverse (docCells docs))
   pub counted : count ≡ length arena
   pub docCounted : docCount ≡ length docs
-  pub allLow : AllLow docs
+  pub near : AllNear docs
 
 pub record ListsLaid (lists : List ℕ) (count scratch : ℕ) (cells stack : List ℕ) : Type 0 where
-  pub laid : lists ≡ cells ++ (zeros (length lists - (count + scratch)) ++ reverse stack)
+  pub between : List ℕ
+  pub laid : lists ≡ cells ++ (between ++ reverse stack)
   pub counted : count ≡ length cells
   pub stacked : scratch ≡ length stack
 
@@ -142,30 +122,33 @@ pub record Credit (n : ℕ) (u : Used) (left r l : ℕ) : Type 0 where
   pub numbers : u .values + 40000 * (u .types + u .docs + left + r) ≤ 40000 * (n + 1)
   pub room : u .cells + 2 * u .scratch + 3 * u .docs + cellsPerByte * left + l ≤ cellsPerByte * n + cellsPerByte
 
--- enough is lent
-pub record EnoughLent (script ns ts ls : List ℕ) : Type 0 where
-  pub small : length script ≤ maxBytes
-  pub nodes : nodeWidth * length script ≤ length ns
-  pub types : typeWidth * length script ≤ length ts
-  pub lists : cellsPerByte * length script ≤ length ls
+-- enough is lent for a script of `n` bytes
+pub record EnoughLent (n : ℕ) (ns ts ls : List ℕ) : Type 0 where
+  pub small : n ≤ maxBytes
+  pub nodes : nodeWidth * n ≤ length ns
+  pub types : typeWidth * n ≤ length ts
+  pub lists : cellsPerByte * n ≤ length ls
 
 -- the arrays and the tokens that are left are those of a state
-pub record Related (script : List ℕ) (s : Code) (r l : ℕ) (stack : List ℕ) (m : State) : Type 0 where
-  pub left : m .left ≡ ahead script s
-  pub inRange : InRange script (s .parser .cur)
-  pub lexed : Lexed script (s .parser .cur) (s .parser .pos)
+pub record Related (tokens : List ℕ) (s : Code) (r l : ℕ) (stack : List ℕ) (m : State) : Type 0 where
+  pub left : m .left ≡ ahead tokens s
+  pub here : tokenOf (s .parser .cur) ≡ tokenAt tokens (s .parser .at)
+  pub near : (i : ℕ) → Near (tokenAt tokens i)
+  pub taken : length (m .left) + s .parser .at ≡ length (tokensFrom tokens 0)
+  pub few : length (tokensFrom tokens 0) ≤ maxBytes + 1
   pub nodes : NodesLaid (s .nodes) (s .parser .used .nodes) (s .parser .used .values) (m .arena .nodes) (m .arena .values)
   pub types : TypesLaid (s .types) (s .parser .used .types) (s .parser .used .docs) (m .arena .types) (m .docs)
   pub lists : ListsLaid (s .lists) (s .parser .used .cells) (s .parser .used .scratch) (m .arena .cells) stack
-  pub credit : Credit (length script) (s .parser .used) (length (m .left)) r l
-  pub lent : EnoughLent script (s .nodes) (s .types) (s .lists)
+  pub bytes : ℕ
+  pub credit : Credit bytes (s .parser .used) (length (m .left)) r l
+  pub lent : EnoughLent bytes (s .nodes) (s .types) (s .lists)
 
-pub record Represents (script : List ℕ) (s : Code) (r l : ℕ) (stack : List ℕ) (m : State) : Type 0 where
+pub record Represents (tokens : List ℕ) (s : Code) (r l : ℕ) (stack : List ℕ) (m : State) : Type 0 where
   pub status : s .parser .status ≡ Going
-  pub related : Related script s r l stack m
+  pub related : Related tokens s r l stack m
 
 -- a reading has failed; what was under construction still lies there
-pub record FailedAt (script : List ℕ) (s : Code) (e : Diagnostic) (r l : ℕ) (stack : List ℕ) (m : State) : Type 0 where
+pub record FailedAt (tokens : List ℕ) (s : Code) (e : Diagnostic) (r l : ℕ) (stack : List ℕ) (m : State) : Type 0 where
   pub status : s .parser .status ≡ Failed e
   pub over : List ℕ
-  pub related : Related script s r l (stack ++ over) m
+  pub related : Related tokens s r l (stack ++ over) m

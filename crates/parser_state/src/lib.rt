@@ -6,26 +6,27 @@ use ast::NodeKind;
 use ast::Run;
 use ast::TypeExpr;
 use ast::TypeExprId;
-use ast::TypeExprKind;
 use ast::lent::CELLS_PER_BYTE;
 use lex::Diagnostic;
-use lex::Next;
-use lex::Token;
+use lex::MAX_BYTES;
 use lex::Type;
-use lex::next_token;
+use tokens::Entry;
+use tokens::token_at;
 ghost use mathlib.Core.Path.{_≡_};
 ghost use mathlib.Core.Bool.{true, false};
 ghost use mathlib.Core.List.{List, [], _∷_, _++_, reverse};
-ghost use Prim.Native.Nat.{ℕ, _+_, _*_, _-_, _≤_, _<_};
-ghost use lib.ListN.{length, replicate};
+ghost use Prim.Native.Nat.{ℕ, suc, _+_, _*_, _-_, _%_, _≤_, _<_};
+ghost use lib.ListN.{length, take, drop};
 ghost use lib.Seq.{paste};
 ghost use Rattle.lex.specs.Answer.{maxBytes};
-ghost use Rattle.ast.specs.Layout.{nodeWidth, padded, nodeCells, typeCells, tokenCells};
+ghost use Rattle.tokens.specs.Table.{tokenOf, tokenAt};
+ghost use Rattle.ast.specs.Layout.{nodeWidth, typeWidth, padded, nodeCells, typeCells, tokenCells};
 ghost use Rattle.rules.specs.Combinators.{continue, atToken, advance, expect, expectIdent, rejectKind, pushNode, pushNodeAnd, pushType, allocSlice, keepDoc, collectDocs, takeDocs};
 ghost use Rattle.ast.specs.declared.Node.{Node};
 ghost use Rattle.ast.specs.declared.Node.the-variants as N;
-ghost use Rattle.parser_state.specs.Represents.{parserOf, withNext, withUsed, withStatus, code, isGoing, low24Bits, lowToken, lowType, lowNode};
-ghost use Rattle.parser_state.specs.Refines.{Refines, stackUnchanged, Takes, Refuses, Pushes, Lists, failAt, noDocsWait, failed, docAt, hasRoom, memberFollows, docFollows, closed};
+ghost use Rattle.ast.specs.declared.TypeExpr.{TypeExpr};
+ghost use Rattle.parser_state.specs.Represents.{parserOf, withToken, withUsed, withStatus, code, isGoing, nodeOf};
+ghost use Rattle.parser_state.specs.Refines.{Refines, stackUnchanged, Takes, Refuses, Pushes, Lists, failAt, noDocsWait, failed, atEntry, docAt, hasRoom, memberFollows, docFollows, closed};
 
 // Whether the reading has failed, and its error.
 pub struct Status {
@@ -44,15 +45,15 @@ pub struct Used {
     pub scratch: u32,
 }
 
-// The token being read and the position after it, what is used of the arrays, and whether the
+// The token being read and the number of its record, what is used of the arrays, and whether the
 // reading has failed.
 //
 // Its numbers lie in cells that are lent from call to call (`State`), since a struct by value would
-// be copied whole at each: the token's start, kind and length, the low and the high 32 bits of the
-// position, the six counts, whether the reading has failed, and the five numbers of the error.
+// be copied whole at each: the token's start, kind and length, the number of its record, the six
+// counts, whether the reading has failed, and the five numbers of the error.
 pub struct Parser {
-    pub cur: Token,
-    pub pos: usize,
+    pub cur: Entry,
+    pub at: u32,
     pub used: Used,
     pub status: Status,
 }
@@ -62,18 +63,14 @@ impl Parser {
 
     pub const MAX_LEVELS: usize = 128;
 
-    // No array gets more records than the script has bytes, and no list more members.
-    pub const MAX_RECORDS: u32 = Parser::MAX_BYTES as u32;
-
-    pub const MAX_CELLS: u32 = 8 * Parser::MAX_RECORDS;
-
-    pub const MAX_VALUES: u32 = 4000000000;
-
-    pub const CELLS: usize = 17;
+    pub const CELLS: usize = 16;
 }
 
-// The cells of a parser, in the order in which `set_next`, `set_used` and `set_status` write them.
+// The cells of a parser, in the order in which `set_token`, `set_used` and `set_status` write them.
 pub type State = [u32; Parser::CELLS];
+
+// The most list cells that a reading makes.
+const MAX_LISTS: usize = CELLS_PER_BYTE * MAX_BYTES;
 
 // ---- the cells of a parser
 
@@ -81,14 +78,7 @@ pub type State = [u32; Parser::CELLS];
 pub fn going(p: &State) -> bool
     ensures { λ r. ⌜ r ≡ isGoing (parserOf (now (p .entry)) .status) ⌝ }
 {
-    p[11] == 0
-}
-
-// The number with 64 bits.
-fn wide(n: u32) -> usize
-    ensures { λ r. ⌜ (r ≡ n) × (r < 4294967296) ⌝ }
-{
-    n as usize
+    p[10] == 0
 }
 
 // The kind of the token being read.
@@ -99,21 +89,21 @@ pub fn kind(p: &State) -> u32
 }
 
 // The token being read.
-pub fn current(p: &State) -> Token
+pub fn current(p: &State) -> Entry
     ensures { λ r. ⌜ r ≡ parserOf (now (p .entry)) .cur ⌝ }
 {
-    Token {
+    Entry {
         kind: p[1],
-        start: wide(p[0]),
-        len: wide(p[2]),
+        start: p[0],
+        len: p[2],
     }
 }
 
-// The position after the token being read, which has two cells.
-pub fn position(p: &State) -> usize
-    ensures { λ r. ⌜ r ≡ parserOf (now (p .entry)) .pos ⌝ }
+// The number of its record in the token table.
+pub fn at(p: &State) -> u32
+    ensures { λ r. ⌜ r ≡ parserOf (now (p .entry)) .at ⌝ }
 {
-    wide(p[3]) + 4294967296 * wide(p[4])
+    p[3]
 }
 
 // What is used of the arrays.
@@ -121,12 +111,12 @@ pub fn get_used(p: &State) -> Used
     ensures { λ r. ⌜ r ≡ parserOf (now (p .entry)) .used ⌝ }
 {
     Used {
-        nodes: p[5],
-        values: p[6],
-        types: p[7],
-        docs: p[8],
-        cells: p[9],
-        scratch: p[10],
+        nodes: p[4],
+        values: p[5],
+        types: p[6],
+        docs: p[7],
+        cells: p[8],
+        scratch: p[9],
     }
 }
 
@@ -135,32 +125,25 @@ pub fn error(p: &State) -> Diagnostic
     ensures { λ r. ⌜ r ≡ parserOf (now (p .entry)) .status .error ⌝ }
 {
     Diagnostic {
-        number: p[12],
-        start: p[13],
-        len: p[14],
-        wanted: p[15],
-        seen: p[16],
+        number: p[11],
+        start: p[12],
+        len: p[13],
+        wanted: p[14],
+        seen: p[15],
     }
 }
 
-// The low 24 bits. The numbers of a script's tokens have no others.
-pub fn low_24_bits(n: usize) -> u32
-    ensures { λ r. ⌜ r ≡ low24Bits n ⌝ }
-{
-    (n % 16777216) as u32
-}
-
-// The next token is the one being read. Its start and length lie apart: side by side they would be
-// loaded together in one step, right after each was stored for itself, and that stalls.
-pub fn set_next(p: &mut State, n: Next)
-    ensures { λ r. ⌜ parserOf (now (p .exit)) ≡ withNext (parserOf (now (p .entry))) n ⌝ }
+// The token of record `at` is the one being read. Its start and length lie apart: side by side they
+// would be loaded together in one step, right after each was stored for itself, and that stalls.
+pub fn set_token(p: &mut State, t: Entry, at: u32)
+    ensures { λ r. ⌜ parserOf (now (p .exit)) ≡ withToken (parserOf (now (p .entry))) t at ⌝ }
 {
     *p = [
-        low_24_bits(n.token.start),
-        n.token.kind,
-        low_24_bits(n.token.len),
-        (n.next % 4294967296) as u32,
-        (n.next / 4294967296) as u32,
+        t.start,
+        t.kind,
+        t.len,
+        at,
+        p[4],
         p[5],
         p[6],
         p[7],
@@ -172,7 +155,6 @@ pub fn set_next(p: &mut State, n: Next)
         p[13],
         p[14],
         p[15],
-        p[16],
     ];
 }
 
@@ -186,19 +168,18 @@ pub fn set_used(p: &mut State, u: Used)
         p[1],
         p[2],
         p[3],
-        p[4],
         u.nodes,
         u.values,
         u.types,
         u.docs,
         u.cells,
         u.scratch,
+        p[10],
         p[11],
         p[12],
         p[13],
         p[14],
         p[15],
-        p[16],
     ];
 }
 
@@ -219,7 +200,6 @@ pub fn set_status(p: &mut State, failed: u32, d: Diagnostic)
         p[7],
         p[8],
         p[9],
-        p[10],
         failed,
         d.number,
         d.start,
@@ -232,36 +212,50 @@ pub fn set_status(p: &mut State, failed: u32, d: Diagnostic)
 // ---- tokens
 
 // The next token is read.
-pub fn advance(script: &[u8], p: &mut State)
+pub fn advance(tokens: &[u32], p: &mut State)
     requires { ⌜ (parserOf (now p) .cur .kind ≡ 1 → ⊥) ⌝ }
     ensures { λ r.
-        ⌜ Takes (now (script .entry)) advance (parserOf (now (p .entry)))
+        ⌜ Takes (now (tokens .entry)) advance (parserOf (now (p .entry)))
         (parserOf (now (p .exit))) ⌝ }
 {
     if !going(p) {
         return;
     }
-    let n = next_token(script, position(p));
-    set_next(p, n);
+    let i = at(p);
+    if MAX_BYTES <= i as usize {
+        // no script has more tokens
+        set_token(
+            p,
+            Entry {
+                kind: Type::EOF,
+                start: 0,
+                len: 3,
+            },
+            i,
+        );
+        return;
+    }
+    let t = token_at(tokens, i as usize + 1);
+    set_token(p, t, i + 1);
 }
 
 // Where the span of an error that names a token starts.
-fn span_start(t: Token) -> u32
-    ensures { λ r. ⌜ r ≡ atToken 0 0 (lowToken t) .start ⌝ }
+fn span_start(t: Entry) -> u32
+    ensures { λ r. ⌜ r ≡ atEntry 0 0 (tokenOf t) .start ⌝ }
 {
     if t.kind == Type::S {
-        std::num::wrapping_add_u32(low_24_bits(t.start), 1)
+        std::num::wrapping_add_u32(t.start, 1)
     } else {
-        low_24_bits(t.start)
+        t.start
     }
 }
 
 // The reading fails at a token.
-fn fail_with(p: &mut State, number: u32, wanted: u32, t: Token)
+fn fail_with(p: &mut State, number: u32, wanted: u32, t: Entry)
     ensures { λ r.
         ⌜ (isGoing (parserOf (now (p .entry)) .status) ≡ true
         → parserOf (now (p .exit))
-        ≡ failed (parserOf (now (p .entry))) (atToken number wanted (lowToken t)))
+        ≡ failed (parserOf (now (p .entry))) (atEntry number wanted (tokenOf t)))
         × (isGoing (parserOf (now (p .entry)) .status) ≡ false
         → parserOf (now (p .exit)) ≡ parserOf (now (p .entry))) ⌝ }
 {
@@ -271,7 +265,7 @@ fn fail_with(p: &mut State, number: u32, wanted: u32, t: Token)
     let d = Diagnostic {
         number,
         start: span_start(t),
-        len: low_24_bits(t.len),
+        len: t.len,
         wanted,
         seen: t.kind,
     };
@@ -280,48 +274,49 @@ fn fail_with(p: &mut State, number: u32, wanted: u32, t: Token)
 
 // The reading fails at the token being read.
 pub fn fail_expecting(p: &mut State, number: u32, wanted: u32)
-    ensures { λ r. ⌜ ((script nodes types lists : List ℕ) →
+    ensures { λ r. ⌜ ((tokens nodes types lists : List ℕ) →
         let before = code nodes types lists (parserOf (now (p .entry))) in
         let after = code nodes types lists (parserOf (now (p .exit))) in
-        Refuses script number wanted before after) ⌝ }
+        Refuses tokens number wanted before after) ⌝ }
 {
     let t = current(p);
     fail_with(p, number, wanted, t);
 }
 
-// The reading fails at a token that was met before.
-pub fn fail_at(p: &mut State, number: u32, t: Token)
-    ensures { λ r. ⌜ ((script nodes types lists : List ℕ) →
+// The reading fails at the token of record `at`.
+pub fn fail_at(tokens: &[u32], p: &mut State, number: u32, at: u32)
+    ensures { λ r. ⌜ ((nodes types lists : List ℕ) →
         let before = code nodes types lists (parserOf (now (p .entry))) in
         let after = code nodes types lists (parserOf (now (p .exit))) in
-        Refines script 0 0 (failAt {A = ℕ} number (lowToken t)) (λ n. n ≡ 0) stackUnchanged 0 0 0
-        before after) ⌝ }
+        Refines (now (tokens .entry)) 0 0 (failAt {A = ℕ} number (tokenAt (now (tokens .entry)) at))
+        (λ n. n ≡ 0) stackUnchanged 0 0 0 before after) ⌝ }
 {
+    let t = token_at(tokens, at as usize);
     fail_with(p, number, 0, t);
 }
 
 // A token of the wanted kind is taken.
-pub fn expect(script: &[u8], p: &mut State, wanted: u32)
+pub fn expect(tokens: &[u32], p: &mut State, wanted: u32)
     requires { ⌜ 1 < wanted ⌝ }
     ensures { λ r.
-        ⌜ Takes (now (script .entry)) (expect wanted) (parserOf (now (p .entry)))
+        ⌜ Takes (now (tokens .entry)) (expect wanted) (parserOf (now (p .entry)))
         (parserOf (now (p .exit))) ⌝ }
 {
     if kind(p) == wanted {
-        advance(script, p);
+        advance(tokens, p);
     } else {
         fail_expecting(p, Diagnostic::EXPECTED_TOKEN, wanted);
     }
 }
 
 // A name is taken.
-pub fn expect_ident(script: &[u8], p: &mut State)
+pub fn expect_ident(tokens: &[u32], p: &mut State)
     ensures { λ r.
-        ⌜ Takes (now (script .entry)) expectIdent (parserOf (now (p .entry)))
+        ⌜ Takes (now (tokens .entry)) expectIdent (parserOf (now (p .entry)))
         (parserOf (now (p .exit))) ⌝ }
 {
     if kind(p) == Type::IDENT {
-        advance(script, p);
+        advance(tokens, p);
     } else {
         fail_expecting(p, Diagnostic::EXPECTED_IDENTIFIER, 0);
     }
@@ -329,10 +324,10 @@ pub fn expect_ident(script: &[u8], p: &mut State)
 
 // The reading fails at a token of this kind, with this number.
 pub fn reject_kind(p: &mut State, rejected: u32, number: u32)
-    ensures { λ r. ⌜ ((script nodes types lists : List ℕ) →
+    ensures { λ r. ⌜ ((tokens nodes types lists : List ℕ) →
         let before = code nodes types lists (parserOf (now (p .entry))) in
         let after = code nodes types lists (parserOf (now (p .exit))) in
-        Refines script 0 0 (rejectKind rejected number) (λ n. n ≡ 0) stackUnchanged 0 0 0
+        Refines tokens 0 0 (rejectKind rejected number) (λ n. n ≡ 0) stackUnchanged 0 0 0
         before after) ⌝ }
 {
     if kind(p) == rejected {
@@ -380,53 +375,22 @@ fn put(dst: &mut [u32], at: usize, cells: &[u32])
     }
 }
 
-// The record of a type.
-fn type_cells(t: TypeExpr) -> [u32; TypeExpr::WIDTH]
-    ensures { λ r. ⌜ r ≡ typeCells (lowType t) ⌝ }
-{
-    match t {
-        TypeExpr::Atom(n) => [
-            TypeExprKind::ATOM,
-            n.kind,
-            low_24_bits(n.start),
-            low_24_bits(n.len),
-            0,
-            0,
-            0,
-            0,
-        ],
-        TypeExpr::Foreign(n) => [
-            TypeExprKind::FOREIGN,
-            n.kind,
-            low_24_bits(n.start),
-            low_24_bits(n.len),
-            0,
-            0,
-            0,
-            0,
-        ],
-        TypeExpr::Option(i) => [TypeExprKind::OPTION, i.0, 0, 0, 0, 0, 0, 0],
-        TypeExpr::Array(i) => [TypeExprKind::ARRAY, i.0, 0, 0, 0, 0, 0, 0],
-        TypeExpr::Record { src, fields } => [
-            TypeExprKind::RECORD,
-            src.kind,
-            low_24_bits(src.start),
-            low_24_bits(src.len),
-            fields.start,
-            fields.len,
-            0,
-            0,
-        ],
-    }
-}
-
-// The next type, where the reading has not failed and the types have room.
-pub fn push_type(types: &mut [u32], p: &mut State, t: TypeExpr) -> TypeExprId
-    ensures { λ r. ⌜ ((script nodes lists : List ℕ) →
+// The next type, where the reading has not failed and the types have room: its kind and five cells.
+pub fn push_type(
+    types: &mut [u32],
+    p: &mut State,
+    kind: u32,
+    a: u32,
+    b: u32,
+    c: u32,
+    d: u32,
+    e: u32,
+) -> TypeExprId
+    ensures { λ r. ⌜ ((tokens nodes lists : List ℕ) (t : TypeExpr) →
         let before = code nodes (now (types .entry)) lists (parserOf (now (p .entry))) in
         let after = code nodes (now (types .exit)) lists (parserOf (now (p .exit))) in
-        Refines script 1 0 (pushType (lowType t)) (λ i. i ≡ r) stackUnchanged 0 0 0
-        before after) ⌝ }
+        typeCells t ≡ padded typeWidth (kind ∷ a ∷ b ∷ c ∷ d ∷ e ∷ [])
+        → Refines tokens 1 0 (pushType t) (λ i. i ≡ r) stackUnchanged 0 0 0 before after) ⌝ }
 {
     if !going(p) {
         return TypeExprId(0);
@@ -434,7 +398,7 @@ pub fn push_type(types: &mut [u32], p: &mut State, t: TypeExpr) -> TypeExprId
     let u = get_used(p);
     let n = u.types;
     let at = TypeExpr::WIDTH * n as usize;
-    if Parser::MAX_RECORDS <= n {
+    if MAX_BYTES <= n as usize {
         return TypeExprId(0);
     }
     if types.len() < at + TypeExpr::WIDTH {
@@ -451,8 +415,7 @@ pub fn push_type(types: &mut [u32], p: &mut State, t: TypeExpr) -> TypeExprId
             scratch: u.scratch,
         },
     );
-    let cells = type_cells(t);
-    put(types, at, &cells);
+    put_record(types, at, kind, a, b, c, d, e, 0, 0);
     TypeExprId(n)
 }
 
@@ -461,7 +424,7 @@ pub enum WideNode {
     Fn {
         id: u32,
         docs: Run,
-        name: Token,
+        name: Entry,
         args: Run,
         return_type: TypeExprId,
         body: Run,
@@ -469,20 +432,20 @@ pub enum WideNode {
     Match {
         id: u32,
         cases: Run,
-        default_token: Token,
+        default_token: Entry,
         default_body: Run,
     },
     Extern {
         id: u32,
-        src: Token,
+        src: Entry,
         docs: Run,
-        name: Token,
+        name: Entry,
         fns: Run,
     },
 }
 
 fn node_cells(n: WideNode) -> [u32; Node::WIDTH]
-    ensures { λ r. ⌜ r ≡ nodeCells (lowNode n) ⌝ }
+    ensures { λ r. ⌜ r ≡ nodeCells (nodeOf n) ⌝ }
 {
     match n {
         WideNode::Fn {
@@ -498,8 +461,8 @@ fn node_cells(n: WideNode) -> [u32; Node::WIDTH]
             docs.start,
             docs.len,
             name.kind,
-            low_24_bits(name.start),
-            low_24_bits(name.len),
+            name.start,
+            name.len,
             args.start,
             args.len,
             return_type.0,
@@ -521,8 +484,8 @@ fn node_cells(n: WideNode) -> [u32; Node::WIDTH]
             cases.start,
             cases.len,
             default_token.kind,
-            low_24_bits(default_token.start),
-            low_24_bits(default_token.len),
+            default_token.start,
+            default_token.len,
             default_body.start,
             default_body.len,
             0,
@@ -543,13 +506,13 @@ fn node_cells(n: WideNode) -> [u32; Node::WIDTH]
             NodeKind::EXTERN,
             id,
             src.kind,
-            low_24_bits(src.start),
-            low_24_bits(src.len),
+            src.start,
+            src.len,
             docs.start,
             docs.len,
             name.kind,
-            low_24_bits(name.start),
-            low_24_bits(name.len),
+            name.start,
+            name.len,
             fns.start,
             fns.len,
             0,
@@ -569,24 +532,24 @@ fn has_room(len: usize, p: &State) -> bool
     }
     let u = get_used(p);
     let n = u.nodes;
-    if Parser::MAX_RECORDS <= n {
+    if MAX_BYTES <= n as usize {
         return false;
     }
     if len < Node::WIDTH * n as usize + Node::WIDTH {
         return false;
     }
-    u.values < Parser::MAX_VALUES
+    u.values < 4000000000
 }
 
 // `more` value numbers go with the node that no node has.
 pub fn push_node(nodes: &mut [u32], p: &mut State, node: WideNode, more: u32) -> NodeId
     requires { ⌜ more ≤ maxBytes ⌝ }
-    ensures { λ r. ⌜ ((script types lists : List ℕ) (f : ℕ → Node) (rooms : ℕ) →
+    ensures { λ r. ⌜ ((tokens types lists : List ℕ) (f : ℕ → Node) (rooms : ℕ) →
         let before = code (now (nodes .entry)) types lists (parserOf (now (p .entry))) in
         let after = code (now (nodes .exit)) types lists (parserOf (now (p .exit))) in
         1 + more ≤ 40000 * rooms
-        → lowNode node ≡ f (parserOf (now (p .entry)) .used .values)
-        → Refines script rooms 0 (pushNodeAnd more f) (λ i. i ≡ r) stackUnchanged 0 0 0
+        → nodeOf node ≡ f (parserOf (now (p .entry)) .used .values)
+        → Refines tokens rooms 0 (pushNodeAnd more f) (λ i. i ≡ r) stackUnchanged 0 0 0
         before after) ⌝ }
 {
     if !has_room(nodes.len(), p) {
@@ -611,7 +574,7 @@ pub fn push_node(nodes: &mut [u32], p: &mut State, node: WideNode, more: u32) ->
     NodeId(n)
 }
 
-// The first eight cells of a record.
+// Eight cells of a record.
 fn put_record(
     dst: &mut [u32],
     at: usize,
@@ -638,8 +601,7 @@ fn put_record(
     dst[at + 7] = h;
 }
 
-// A node of six cells besides its kind and its number: the others are `WideNode`s. The cells
-// behind are zero already.
+// A node of six cells besides its kind and its number: the others are `WideNode`s.
 fn push_record(
     nodes: &mut [u32],
     p: &mut State,
@@ -651,13 +613,13 @@ fn push_record(
     e: u32,
     f: u32,
 ) -> NodeId
-    ensures { λ r. ⌜ ((script types lists : List ℕ) (node : ℕ → Node) →
+    ensures { λ r. ⌜ ((tokens types lists : List ℕ) (node : ℕ → Node) →
         let before = code (now (nodes .entry)) types lists (parserOf (now (p .entry))) in
         let after = code (now (nodes .exit)) types lists (parserOf (now (p .exit))) in
         nodeCells (node (parserOf (now (p .entry)) .used .values))
         ≡ padded nodeWidth
         (kind ∷ parserOf (now (p .entry)) .used .values ∷ a ∷ b ∷ c ∷ d ∷ e ∷ f ∷ [])
-        → Refines script 1 0 (pushNodeAnd 0 node) (λ i. i ≡ r) stackUnchanged 0 0 0
+        → Refines tokens 1 0 (pushNodeAnd 0 node) (λ i. i ≡ r) stackUnchanged 0 0 0
         before after) ⌝ }
 {
     if !has_room(nodes.len(), p) {
@@ -677,18 +639,9 @@ fn push_record(
             scratch: u.scratch,
         },
     );
-    put_record(
-        nodes,
-        Node::WIDTH * n as usize,
-        kind,
-        values,
-        a,
-        b,
-        c,
-        d,
-        e,
-        f,
-    );
+    let at = Node::WIDTH * n as usize;
+    put_record(nodes, at, kind, values, a, b, c, d, e, f);
+    put_record(nodes, at + 8, 0, 0, 0, 0, 0, 0, 0, 0);
     NodeId(n)
 }
 
@@ -697,38 +650,28 @@ pub fn push_token_node(
     nodes: &mut [u32],
     p: &mut State,
     kind: u32,
-    t: Token,
+    t: Entry,
     a: u32,
     b: u32,
 ) -> NodeId
-    ensures { λ r. ⌜ ((script types lists : List ℕ) (f : ℕ → Node) →
+    ensures { λ r. ⌜ ((tokens types lists : List ℕ) (f : ℕ → Node) →
         let before = code (now (nodes .entry)) types lists (parserOf (now (p .entry))) in
         let after = code (now (nodes .exit)) types lists (parserOf (now (p .exit))) in
         nodeCells (f (parserOf (now (p .entry)) .used .values))
         ≡ padded nodeWidth
-        (kind ∷ parserOf (now (p .entry)) .used .values ∷ tokenCells (lowToken t)
+        (kind ∷ parserOf (now (p .entry)) .used .values ∷ tokenCells (tokenOf t)
         ++ (a ∷ b ∷ []))
-        → Refines script 1 0 (pushNodeAnd 0 f) (λ i. i ≡ r) stackUnchanged 0 0 0 before after) ⌝ }
+        → Refines tokens 1 0 (pushNodeAnd 0 f) (λ i. i ≡ r) stackUnchanged 0 0 0 before after) ⌝ }
 {
-    push_record(
-        nodes,
-        p,
-        kind,
-        t.kind,
-        low_24_bits(t.start),
-        low_24_bits(t.len),
-        a,
-        b,
-        0,
-    )
+    push_record(nodes, p, kind, t.kind, t.start, t.len, a, b, 0)
 }
 
 // A call.
 pub fn push_call(nodes: &mut [u32], p: &mut State, target: NodeId, args: Run) -> NodeId
-    ensures { λ r. ⌜ ((script types lists : List ℕ) →
+    ensures { λ r. ⌜ ((tokens types lists : List ℕ) →
         let before = code (now (nodes .entry)) types lists (parserOf (now (p .entry))) in
         let after = code (now (nodes .exit)) types lists (parserOf (now (p .exit))) in
-        Refines script 1 0 (pushNode (λ id. N.Call id target args)) (λ i. i ≡ r)
+        Refines tokens 1 0 (pushNode (λ id. N.Call id target args)) (λ i. i ≡ r)
         stackUnchanged 0 0 0 before after) ⌝ }
 {
     push_record(
@@ -745,11 +688,11 @@ pub fn push_call(nodes: &mut [u32], p: &mut State, target: NodeId, args: Run) ->
 }
 
 // A field of a node.
-pub fn push_field(nodes: &mut [u32], p: &mut State, target: NodeId, name: Token) -> NodeId
-    ensures { λ r. ⌜ ((script types lists : List ℕ) →
+pub fn push_field(nodes: &mut [u32], p: &mut State, target: NodeId, name: Entry) -> NodeId
+    ensures { λ r. ⌜ ((tokens types lists : List ℕ) →
         let before = code (now (nodes .entry)) types lists (parserOf (now (p .entry))) in
         let after = code (now (nodes .exit)) types lists (parserOf (now (p .exit))) in
-        Refines script 1 0 (pushNode (λ id. N.Field id target (lowToken name))) (λ i. i ≡ r)
+        Refines tokens 1 0 (pushNode (λ id. N.Field id target (tokenOf name))) (λ i. i ≡ r)
         stackUnchanged 0 0 0 before after) ⌝ }
 {
     push_record(
@@ -758,19 +701,19 @@ pub fn push_field(nodes: &mut [u32], p: &mut State, target: NodeId, name: Token)
         NodeKind::FIELD,
         target.0,
         name.kind,
-        low_24_bits(name.start),
-        low_24_bits(name.len),
+        name.start,
+        name.len,
         0,
         0,
     )
 }
 
 // A let.
-pub fn push_let(nodes: &mut [u32], p: &mut State, docs: Run, name: Token, rhs: NodeId) -> NodeId
-    ensures { λ r. ⌜ ((script types lists : List ℕ) →
+pub fn push_let(nodes: &mut [u32], p: &mut State, docs: Run, name: Entry, rhs: NodeId) -> NodeId
+    ensures { λ r. ⌜ ((tokens types lists : List ℕ) →
         let before = code (now (nodes .entry)) types lists (parserOf (now (p .entry))) in
         let after = code (now (nodes .exit)) types lists (parserOf (now (p .exit))) in
-        Refines script 1 0 (pushNode (λ id. N.Let id docs (lowToken name) rhs)) (λ i. i ≡ r)
+        Refines tokens 1 0 (pushNode (λ id. N.Let id docs (tokenOf name) rhs)) (λ i. i ≡ r)
         stackUnchanged 0 0 0 before after) ⌝ }
 {
     push_record(
@@ -780,8 +723,8 @@ pub fn push_let(nodes: &mut [u32], p: &mut State, docs: Run, name: Token, rhs: N
         docs.start,
         docs.len,
         name.kind,
-        low_24_bits(name.start),
-        low_24_bits(name.len),
+        name.start,
+        name.len,
         rhs.0,
     )
 }
@@ -791,10 +734,10 @@ pub fn push_let(nodes: &mut [u32], p: &mut State, docs: Run, name: Token, rhs: N
 // Cells of a list under construction, at the far end of the list table, where they lie in reverse:
 // they are given the last first.
 pub fn push_cells(lists: &mut [u32], p: &mut State, cells: &[u32])
-    ensures { λ r. ⌜ ((script nodes types : List ℕ) →
+    ensures { λ r. ⌜ ((tokens nodes types : List ℕ) →
         let before = code nodes types (now (lists .entry)) (parserOf (now (p .entry))) in
         let after = code nodes types (now (lists .exit)) (parserOf (now (p .exit))) in
-        Pushes script (2 * length (now (cells .entry))) (reverse (now (cells .entry)))
+        Pushes tokens (2 * length (now (cells .entry))) (reverse (now (cells .entry)))
         before after) ⌝ }
 {
     if !going(p) {
@@ -802,7 +745,7 @@ pub fn push_cells(lists: &mut [u32], p: &mut State, cells: &[u32])
     }
     let u = get_used(p);
     let n = u.scratch as usize + cells.len();
-    if CELLS_PER_BYTE * Parser::MAX_BYTES < n {
+    if MAX_LISTS < n {
         return;
     }
     if lists.len() < n {
@@ -824,74 +767,65 @@ pub fn push_cells(lists: &mut [u32], p: &mut State, cells: &[u32])
 
 // One cell.
 pub fn push_cell(lists: &mut [u32], p: &mut State, v: u32)
-    ensures { λ r. ⌜ ((script nodes types : List ℕ) →
+    ensures { λ r. ⌜ ((tokens nodes types : List ℕ) →
         let before = code nodes types (now (lists .entry)) (parserOf (now (p .entry))) in
         let after = code nodes types (now (lists .exit)) (parserOf (now (p .exit))) in
-        Pushes script 2 (v ∷ []) before after) ⌝ }
+        Pushes tokens 2 (v ∷ []) before after) ⌝ }
 {
     let cells = [v];
     push_cells(lists, p, &cells);
 }
 
 // A token.
-pub fn push_token(lists: &mut [u32], p: &mut State, t: Token)
-    ensures { λ r. ⌜ ((script nodes types : List ℕ) →
+pub fn push_token(lists: &mut [u32], p: &mut State, t: Entry)
+    ensures { λ r. ⌜ ((tokens nodes types : List ℕ) →
         let before = code nodes types (now (lists .entry)) (parserOf (now (p .entry))) in
         let after = code nodes types (now (lists .exit)) (parserOf (now (p .exit))) in
-        Pushes script 6 (tokenCells (lowToken t)) before after) ⌝ }
+        Pushes tokens 6 (tokenCells (tokenOf t)) before after) ⌝ }
 {
-    let cells = [low_24_bits(t.len), low_24_bits(t.start), t.kind];
+    let cells = [t.len, t.start, t.kind];
     push_cells(lists, p, &cells);
 }
 
 // A name, and the number of the type or node that goes with it.
-pub fn push_named(lists: &mut [u32], p: &mut State, name: Token, id: u32)
-    ensures { λ r. ⌜ ((script nodes types : List ℕ) →
+pub fn push_named(lists: &mut [u32], p: &mut State, name: Entry, id: u32)
+    ensures { λ r. ⌜ ((tokens nodes types : List ℕ) →
         let before = code nodes types (now (lists .entry)) (parserOf (now (p .entry))) in
         let after = code nodes types (now (lists .exit)) (parserOf (now (p .exit))) in
-        Pushes script 8 (tokenCells (lowToken name) ++ (id ∷ [])) before after) ⌝ }
+        Pushes tokens 8 (tokenCells (tokenOf name) ++ (id ∷ [])) before after) ⌝ }
 {
-    let cells = [
-        id,
-        low_24_bits(name.len),
-        low_24_bits(name.start),
-        name.kind,
-    ];
+    let cells = [id, name.len, name.start, name.kind];
     push_cells(lists, p, &cells);
 }
 
-// The cells of a list move from the far end, where they lie in reverse, to the front.
+// The last of the `scratch` cells at the far end, which lie in reverse, go to the front as a list.
 fn move_list(part: &mut [u32], n: usize, scratch: usize)
     requires { ⌜ (n ≤ scratch) × (n + scratch ≤ length (now part)) ⌝ }
-    ensures { λ r. ⌜ ((top base : List ℕ) (z : ℕ) →
-        now (part .entry) ≡ replicate z 0 ++ (reverse top ++ base)
-        → length top ≡ n
-        → length base + n ≡ scratch
-        → n ≤ z
-        → now (part .exit) ≡ top ++ (replicate z 0 ++ base)) ⌝ }
+    ensures { λ r.
+        let before = now (part .entry) in
+        let cells = reverse (take n (drop (length before - scratch) before)) in
+        ⌜ now (part .exit) ≡ paste before 0 cells n ⌝ }
 {
     let mut i = 0;
     while i < n {
-        let from = part.len() - scratch + (n - 1 - i);
-        part[i] = part[from];
-        part[from] = 0;
+        part[i] = part[part.len() - scratch + (n - 1 - i)];
         i += 1;
     }
 }
 
 // The cells above the mark become a list.
 pub fn alloc_slice(lists: &mut [u32], p: &mut State, mark: u32, members: u32) -> Run
-    ensures { λ r. ⌜ ((script nodes types : List ℕ) →
+    ensures { λ r. ⌜ ((tokens nodes types : List ℕ) →
         let before = code nodes types (now (lists .entry)) (parserOf (now (p .entry))) in
         let after = code nodes types (now (lists .exit)) (parserOf (now (p .exit))) in
-        Lists script allocSlice r 0 0 0 mark members before after)
+        Lists tokens allocSlice r 0 0 0 mark members before after)
         × (r .len ≤ maxBytes) ⌝ }
 {
     let none = Run { start: 0, len: 0 };
     if !going(p) {
         return none;
     }
-    if Parser::MAX_RECORDS < members {
+    if MAX_BYTES < members as usize {
         return none;
     }
     let u = get_used(p);
@@ -904,10 +838,10 @@ pub fn alloc_slice(lists: &mut [u32], p: &mut State, mark: u32, members: u32) ->
     if lists.len() < at + n as usize + u.scratch as usize {
         return none;
     }
-    if Parser::MAX_CELLS < n {
+    if MAX_LISTS < n as usize {
         return none;
     }
-    if Parser::MAX_CELLS < cells {
+    if MAX_LISTS < cells as usize {
         return none;
     }
     set_used(
@@ -930,7 +864,7 @@ pub fn alloc_slice(lists: &mut [u32], p: &mut State, mark: u32, members: u32) ->
 
 // The end of a list: the closing token, then `alloc_slice`.
 pub fn close(
-    script: &[u8],
+    tokens: &[u32],
     lists: &mut [u32],
     p: &mut State,
     stop: u32,
@@ -941,29 +875,29 @@ pub fn close(
     ensures { λ r. ⌜ ((nodes types : List ℕ) →
         let before = code nodes types (now (lists .entry)) (parserOf (now (p .entry))) in
         let after = code nodes types (now (lists .exit)) (parserOf (now (p .exit))) in
-        Lists (now (script .entry)) (closed stop) r 1 1 8 mark members before after)
+        Lists (now (tokens .entry)) (closed stop) r 1 1 8 mark members before after)
         × (r .len ≤ maxBytes) ⌝ }
 {
-    expect(script, p, stop);
+    expect(tokens, p, stop);
     alloc_slice(lists, p, mark, members)
 }
 
 // ---- docs
 
-// A pending doc, at the far end of the type array.
-fn push_doc(types: &mut [u32], p: &mut State, d: Token)
-    ensures { λ r. ⌜ ((script nodes lists : List ℕ) (n : ℕ) →
+// The token of record `at` is a pending doc, at the far end of the type array.
+fn push_doc(tokens: &[u32], types: &mut [u32], p: &mut State, at: u32)
+    ensures { λ r. ⌜ ((nodes lists : List ℕ) (n : ℕ) →
         let before = code nodes (now (types .entry)) lists (parserOf (now (p .entry))) in
         let after = code nodes (now (types .exit)) lists (parserOf (now (p .exit))) in
-        Refines script 1 3 (keepDoc n (lowToken d)) (λ t. t ≡ continue n) stackUnchanged 0 0 0
-        before after) ⌝ }
+        Refines (now (tokens .entry)) 1 3 (keepDoc n (tokenAt (now (tokens .entry)) at))
+        (λ t. t ≡ continue n) stackUnchanged 0 0 0 before after) ⌝ }
 {
     if !going(p) {
         return;
     }
     let u = get_used(p);
     let n = u.docs;
-    if Parser::MAX_RECORDS <= n {
+    if MAX_BYTES <= n as usize {
         return;
     }
     if types.len() < 3 * n as usize + 3 {
@@ -980,54 +914,48 @@ fn push_doc(types: &mut [u32], p: &mut State, d: Token)
             scratch: u.scratch,
         },
     );
-    let at = types.len() - (3 * n as usize + 3);
-    let cells = [low_24_bits(d.len), low_24_bits(d.start), d.kind];
-    put(types, at, &cells);
+    let d = token_at(tokens, at as usize);
+    let cells = [d.len, d.start, d.kind];
+    put(types, types.len() - (3 * n as usize + 3), &cells);
 }
 
 // The docs that stand next are pending.
-pub fn collect_docs(script: &[u8], types: &mut [u32], p: &mut State)
+pub fn collect_docs(tokens: &[u32], types: &mut [u32], p: &mut State)
     ensures { λ r. ⌜ ((nodes lists : List ℕ) →
         let before = code nodes (now (types .entry)) lists (parserOf (now (p .entry))) in
         let after = code nodes (now (types .exit)) lists (parserOf (now (p .exit))) in
-        Refines (now (script .entry)) 0 0 collectDocs (λ n. n ≡ 0) stackUnchanged 0 0 0
+        Refines (now (tokens .entry)) 0 0 collectDocs (λ n. n ≡ 0) stackUnchanged 0 0 0
         before after) ⌝ }
 {
     while doc_follows(p) {
-        let d = current(p);
-        advance(script, p);
-        push_doc(types, p, d);
+        let i = at(p);
+        advance(tokens, p);
+        push_doc(tokens, types, p, i);
     }
 }
 
-// The last `n` cells of one array go into another, the last first, and are cleared.
-fn move_docs(src: &mut [u32], dst: &mut [u32], at: usize, n: usize)
+// The last `n` cells of one array go into another, the last first.
+fn move_docs(src: &[u32], dst: &mut [u32], at: usize, n: usize)
     requires { ⌜ (n ≤ length (now src)) × (at + n ≤ length (now dst)) ⌝ }
-    ensures { λ r. ⌜ ((top front cells back : List ℕ) (z : ℕ) →
-        now (src .entry) ≡ front ++ reverse top
-        → length top ≡ n
-        → now (dst .entry) ≡ cells ++ (replicate z 0 ++ back)
-        → length cells ≡ at
-        → n ≤ z
-        → (now (src .exit) ≡ front ++ replicate n 0)
-        × (now (dst .exit) ≡ (cells ++ top) ++ (replicate (z - n) 0 ++ back))) ⌝ }
+    ensures { λ r.
+        let cells = reverse (drop (length (now (src .entry)) - n) (now (src .entry))) in
+        ⌜ now (dst .exit) ≡ paste (now (dst .entry)) at cells n ⌝ }
 {
     let mut i = 0;
     while i < n {
-        let from = src.len() - 1 - i;
-        dst[at + i] = src[from];
-        src[from] = 0;
+        dst[at + i] = src[src.len() - 1 - i];
         i += 1;
     }
 }
 
 // The pending docs become a list.
-pub fn take_docs(types: &mut [u32], lists: &mut [u32], p: &mut State) -> Run
-    ensures { λ r. ⌜ ((script nodes : List ℕ) →
+pub fn take_docs(types: &[u32], lists: &mut [u32], p: &mut State) -> Run
+    ensures { λ r. ⌜ ((tokens nodes : List ℕ) →
         let before = code nodes (now (types .entry)) (now (lists .entry))
         (parserOf (now (p .entry))) in
-        let after = code nodes (now (types .exit)) (now (lists .exit)) (parserOf (now (p .exit))) in
-        Refines script 0 0 takeDocs (λ t. t ≡ r) stackUnchanged 0 0 0 before after)
+        let after = code nodes (now (types .entry)) (now (lists .exit))
+        (parserOf (now (p .exit))) in
+        Refines tokens 0 0 takeDocs (λ t. t ≡ r) stackUnchanged 0 0 0 before after)
         × (parserOf (now (p .exit)) .cur ≡ parserOf (now (p .entry)) .cur) ⌝ }
 {
     let none = Run { start: 0, len: 0 };
@@ -1038,10 +966,10 @@ pub fn take_docs(types: &mut [u32], lists: &mut [u32], p: &mut State) -> Run
     let docs = u.docs;
     let cells = u.cells;
     let at = cells as usize;
-    if Parser::MAX_RECORDS < docs {
+    if MAX_BYTES < docs as usize {
         return none;
     }
-    if Parser::MAX_CELLS < cells {
+    if MAX_LISTS < cells as usize {
         return none;
     }
     let n = 3 * docs as usize;
@@ -1070,24 +998,24 @@ pub fn take_docs(types: &mut [u32], lists: &mut [u32], p: &mut State) -> Run
 }
 
 // A pending doc, whose cells lie the last first.
-fn doc_at(types: &[u32], at: usize) -> Token
+fn doc_at(types: &[u32], at: usize) -> Entry
     requires { ⌜ at + 3 ≤ length (now types) ⌝ }
     ensures { λ r. ⌜ r ≡ docAt (now (types .entry)) at ⌝ }
 {
-    Token {
+    Entry {
         kind: types[at + 2],
-        start: wide(types[at + 1]),
-        len: wide(types[at]),
+        start: types[at + 1],
+        len: types[at],
     }
 }
 
 // The reading fails where there are pending docs: at the last of them where the script ends, else
 // at the first.
 pub fn require_no_docs(types: &[u32], p: &mut State)
-    ensures { λ r. ⌜ ((script nodes lists : List ℕ) →
+    ensures { λ r. ⌜ ((tokens nodes lists : List ℕ) →
         let before = code nodes (now (types .entry)) lists (parserOf (now (p .entry))) in
         let after = code nodes (now (types .entry)) lists (parserOf (now (p .exit))) in
-        Refines script 0 0 noDocsWait (λ n. n ≡ 0) stackUnchanged 0 0 0 before after) ⌝ }
+        Refines tokens 0 0 noDocsWait (λ n. n ≡ 0) stackUnchanged 0 0 0 before after) ⌝ }
 {
     if !going(p) {
         return;
@@ -1096,7 +1024,7 @@ pub fn require_no_docs(types: &[u32], p: &mut State)
     if docs == 0 {
         return;
     }
-    if Parser::MAX_RECORDS < docs {
+    if MAX_BYTES < docs as usize {
         return;
     }
     let n = 3 * docs as usize;

@@ -12,18 +12,18 @@ use Rattle.rules.specs.Combinators.{choose, failExpecting, Readers}
 use Rattle.rules.specs.Rules.{readers, parseType, typeByKind, atomType}
 use Rattle.ast.specs.declared.TypeExprId.{TypeExprId}
 use Rattle.parser_state.specs.Represents.{Code}
-use Rattle.parser_state.specs.Refines.{Refines, Refuses, stackUnchanged, deeper}
+use Rattle.parser_state.specs.Refines.{Rules, Refines, Refuses, stackUnchanged, deeper}
 use Rattle.parser_state.proofs.Steps.{either, at-kind, refused}
 
-deeper-zero : (script : List ℕ) (levels : ℕ) → levels ≡ 0 → deeper script levels .type ≡ failExpecting 10 0
+deeper-zero : (rules : Rules) (levels : ℕ) → levels ≡ 0 → deeper rules levels .type ≡ failExpecting 10 0
 unfolding readers
-deeper-zero script levels e = subst (λ (n : ℕ). deeper script n .type ≡ failExpecting 10 0) (sym e) refl
+deeper-zero rules levels e = subst (λ (n : ℕ). deeper rules n .type ≡ failExpecting 10 0) (sym e) refl
 
-deeper-suc : (script : List ℕ) (levels : ℕ) → (levels ≡ 0 → ⊥) → deeper script levels .type ≡ parseType (deeper script (levels - 1))
+deeper-suc : (rules : Rules) (levels : ℕ) → (levels ≡ 0 → ⊥) → deeper rules levels .type ≡ parseType (deeper rules (levels - 1))
 unfolding readers
-deeper-suc script levels f =
+deeper-suc rules levels f =
     let e : suc (levels - 1) ≡ levels = omega arith in
-    subst (λ (n : ℕ). deeper script n .type ≡ parseType (deeper script (levels - 1))) e refl
+    subst (λ (n : ℕ). deeper rules n .type ≡ parseType (deeper rules (levels - 1))) e refl
 
 -- a table has the kind further on
 past : {A : Type 0} {k n : ℕ} (x other : A) (xs : List (ℕ × A)) → (k ≡ n → ⊥) → choose ((n, x) ∷ xs) other k ≡ choose xs other k
@@ -59,20 +59,20 @@ module _ (below : Readers) (k : ℕ) where
       break : (n : ℕ) → kStr ≤ n → n ≤ kVoid → k ≡ n → ⊥
       break n p q e = ⊎-elim (λ w. omega arith) (λ w. omega arith) h
 
-module _ {script : List ℕ} {Q : TypeExprId → Type 0} {d r′ l′ : ℕ} {s s′ : Code} (levels : ℕ) where
-  pub too-deep : levels ≡ 0 → Refuses script 10 0 s s′ → Refines script 0 0 (deeper script levels .type) Q stackUnchanged d r′ l′ s s′
-  too-deep e p = rw (deeper-zero script levels e) (refused p)
+module _ {tokens : List ℕ} {Q : TypeExprId → Type 0} {d r′ l′ : ℕ} {s s′ : Code} (rules : Rules) (levels : ℕ) where
+  pub too-deep : levels ≡ 0 → Refuses tokens 10 0 s s′ → Refines tokens 0 0 (deeper rules levels .type) Q stackUnchanged d r′ l′ s s′
+  too-deep e p = rw (deeper-zero rules levels e) (refused p)
 
-module _ {script : List ℕ} {Q : TypeExprId → Type 0} {r l d r′ l′ : ℕ} {s s′ : Code} (levels : ℕ) where
-  pub type-at : (kind : ℕ) → (levels ≡ 0 → ⊥) → Refines script r l (typeByKind (deeper script (levels - 1)) kind) Q stackUnchanged d r′ l′ s s′ → s .parser .cur .kind ≡ kind
-      → Refines script r l (deeper script levels .type) Q stackUnchanged d r′ l′ s s′
+module _ {tokens : List ℕ} {Q : TypeExprId → Type 0} {r l d r′ l′ : ℕ} {s s′ : Code} (rules : Rules) (levels : ℕ) where
+  pub type-at : (kind : ℕ) → (levels ≡ 0 → ⊥) → Refines tokens r l (typeByKind (deeper rules (levels - 1)) kind) Q stackUnchanged d r′ l′ s s′ → s .parser .cur .kind ≡ kind
+      → Refines tokens r l (deeper rules levels .type) Q stackUnchanged d r′ l′ s s′
   unfolding parseType
-  type-at kind f p e = rw (deeper-suc script levels f) (at-kind _ kind p e)
+  type-at kind f p e = rw (deeper-suc rules levels f) (at-kind _ kind p e)
 
-  pub type-atom : {k : ℕ} → (levels ≡ 0 → ⊥) → Refines script r l atomType Q stackUnchanged d r′ l′ s s′ → k ≡ s .parser .cur .kind → kStr ≤ k → k < kOption → Refines script r l (deeper script levels .type) Q stackUnchanged d r′ l′ s s′
-  type-atom {k} f p e a b = type-at k f (rw (of-atom (deeper script (levels - 1)) k a b) p) (sym e)
+  pub type-atom : {k : ℕ} → (levels ≡ 0 → ⊥) → Refines tokens r l atomType Q stackUnchanged d r′ l′ s s′ → k ≡ s .parser .cur .kind → kStr ≤ k → k < kOption → Refines tokens r l (deeper rules levels .type) Q stackUnchanged d r′ l′ s s′
+  type-atom {k} f p e a b = type-at k f (rw (of-atom (deeper rules (levels - 1)) k a b) p) (sym e)
 
-module _ {script : List ℕ} {Q : TypeExprId → Type 0} {d r′ l′ : ℕ} {s s′ : Code} (levels : ℕ) where
-  pub type-none : {k : ℕ} → (levels ≡ 0 → ⊥) → Refuses script 23 0 s s′ → k ≡ s .parser .cur .kind → (k < kStr) ⊎ (kVoid < k) → (k ≡ kOption → ⊥) → (k ≡ kArray → ⊥) → (k ≡ kForeign → ⊥) → (k ≡ kRecord → ⊥)
-      → Refines script 0 0 (deeper script levels .type) Q stackUnchanged d r′ l′ s s′
-  type-none {k} f p e h a b c d = type-at levels k f (rw (of-none (deeper script (levels - 1)) k h a b c d) (refused p)) (sym e)
+module _ {tokens : List ℕ} {Q : TypeExprId → Type 0} {d r′ l′ : ℕ} {s s′ : Code} (rules : Rules) (levels : ℕ) where
+  pub type-none : {k : ℕ} → (levels ≡ 0 → ⊥) → Refuses tokens 23 0 s s′ → k ≡ s .parser .cur .kind → (k < kStr) ⊎ (kVoid < k) → (k ≡ kOption → ⊥) → (k ≡ kArray → ⊥) → (k ≡ kForeign → ⊥) → (k ≡ kRecord → ⊥)
+      → Refines tokens 0 0 (deeper rules levels .type) Q stackUnchanged d r′ l′ s s′
+  type-none {k} f p e h a b c d = type-at rules levels k f (rw (of-none (deeper rules (levels - 1)) k h a b c d) (refused p)) (sym e)

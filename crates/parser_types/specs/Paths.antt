@@ -7,4 +7,4 @@ use Rattle.parser_state.specs.Refines.{Refines, Collected, allGrown}
 
 -- so many paths are pushed
 abbrev pub ReadsPaths : List ℕ → Rule (List (List ℕ)) → Code → Code → ℕ → Type 0
-ReadsPaths script x s s′ n = Refines script 0 0 x (Collected script n s′) allGrown 1 1 2 s s′
+ReadsPaths tokens x s s′ n = Refines tokens 0 0 x (Collected tokens n s′) allGrown 1 1 2 s s′

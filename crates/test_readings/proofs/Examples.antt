@@ -1,14 +1,16 @@
 -- What the definitions say of the cases that `test_readings` reads, in their order: written by
 -- tools/cases, with the program's stdin and stdout.
 use mathlib.Core.Path.{_≡_, refl}
-use mathlib.Core.List.{[], _∷_, flatten}
+use mathlib.Core.List.{List, [], _∷_, flatten}
 use Prim.Native.Nat.{ℕ}
 use lib.ListN.{replicate}
 use Rattle.lex.specs.Bytes.{or}
+use Rattle.tokens.specs.Tables as T
 use Rattle.ast.specs.Layout.{tokenCells, runCells, padded, nodeCells, typeCells, diagnosticCells}
 use Rattle.rules.specs.Rules.{stageOne}
-use Rattle.rules.specs.Parse.{parse, parseCollect}
-use Rattle.rules.specs.Promise.{Arrays, Outcome, tooShort, zeroed, holding, outcome, promised}
+use Rattle.rules.specs.Parse.{Reading, parse, parseCollect}
+use Rattle.rules.specs.Promise.{Arrays, Outcome, tooShort, zeroed, holding, outcome}
+use Rattle.parser.specs.Steps.{anyTooShort, parsePromised}
 use Rattle.ast.specs.declared.Parsed.{Parsed}
 use Rattle.ast.specs.declared.Parsed.the-variants as P
 use Rattle.rules.proofs.Compute.{computedFrom}
@@ -29,9 +31,15 @@ rubbish a b c d e = record { nodes = replicate a 4294967295; types = replicate b
 abbrev result : Parsed → Arrays → Outcome
 result answer arrays = record { answer = answer; arrays = arrays }
 
+-- what is promised of the answer and the five arrays, with tables as the program lends them
+abbrev promised : (List ℕ → Reading) → List ℕ → Arrays → Outcome
+promised how script l =
+    let r = parsePromised how script (replicate 516 4294967295) (replicate 768 4294967295) l in
+    result (r .answer) (r .arrays)
+
 -- `unfolding reading` opens all that the definitions are made of
 unfoldable reading : Unit {0}
-unfolding computedFrom or flatten tokenCells runCells nodeCells typeCells diagnosticCells tooShort zeroed holding outcome promised
+unfolding computedFrom or flatten tokenCells runCells nodeCells typeCells diagnosticCells tooShort T.tooShort anyTooShort zeroed holding outcome parsePromised
 reading = tt
 
 -- empty script, strict, exactly enough

@@ -15,6 +15,10 @@ ghost use lib.ListN.{length};
 const ROOM: usize = 65537;
 
 // Room for scripts of 128 bytes.
+const TOKENS: usize = 516;
+
+const ERRORS: usize = 768;
+
 const NODES: usize = 2048;
 
 const TYPES: usize = 1024;
@@ -119,11 +123,31 @@ fn read(
     roots: &mut [u32],
     diagnostics: &mut [u32],
 ) {
+    let mut tokens = [RUBBISH; TOKENS];
+    let mut errors = [RUBBISH; ERRORS];
     if collecting {
-        let answer = parser::parse_collect(script, nodes, types, lists, roots, diagnostics);
+        let answer = parser::parse_collect(
+            script,
+            &mut tokens,
+            &mut errors,
+            nodes,
+            types,
+            lists,
+            roots,
+            diagnostics,
+        );
         write_reading(answer, nodes, types, lists, roots, diagnostics);
     } else {
-        let answer = parser::parse(script, nodes, types, lists, roots, diagnostics);
+        let answer = parser::parse(
+            script,
+            &mut tokens,
+            &mut errors,
+            nodes,
+            types,
+            lists,
+            roots,
+            diagnostics,
+        );
         write_reading(answer, nodes, types, lists, roots, diagnostics);
     }
 }

@@ -49,9 +49,10 @@ impl Tree {
     fn read(script: Vec<u8>) -> Tree {
         let [mut nodes, mut types, mut lists, mut roots, mut diagnostics] =
             c::CELLS.map(|cells| vec![0; cells * script.len()]);
+        let [mut tokens, mut errors] = c::table_lengths(script.len()).map(|cells| vec![0; cells]);
         let mut numbers = [0; 12];
         let arrays = [&mut nodes[..], &mut types, &mut lists, &mut roots, &mut diagnostics];
-        let number = c::read(Mode::Strict, &script, arrays, &mut numbers);
+        let number = c::parse(Mode::Strict, &script, [&mut tokens, &mut errors], arrays, &mut numbers);
         assert_eq!(number, 0, "error {:?} in {:?}", &numbers[1..6], String::from_utf8_lossy(&script[..script.len().min(80)]));
         Tree { script, nodes, types, lists, roots, counts: numbers[6..].try_into().unwrap() }
     }

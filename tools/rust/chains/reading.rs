@@ -52,6 +52,7 @@ const PAINT: u64 = 0x5a5a_a5a5_5a5a_a5a5;
 /// The number that a reading answers, and the bytes of stack that it took.
 fn stack_of(mode: Mode, script: &[u8]) -> (u32, usize) {
     let mut arrays = c::CELLS.map(|cells| vec![0; cells * script.len()]);
+    let mut tables = c::table_lengths(script.len()).map(|cells| vec![0; cells]);
     let mut numbers = [0u32; 12];
     let here = 0u64;
     let top = (&raw const here) as usize & !15;
@@ -59,7 +60,7 @@ fn stack_of(mode: Mode, script: &[u8]) -> (u32, usize) {
     for at in (low..high).step_by(8) {
         unsafe { std::ptr::write_volatile(at as *mut u64, PAINT) };
     }
-    let number = c::read(mode, script, arrays.each_mut().map(Vec::as_mut_slice), &mut numbers);
+    let number = c::parse(mode, script, tables.each_mut().map(Vec::as_mut_slice), arrays.each_mut().map(Vec::as_mut_slice), &mut numbers);
     let gone = (low..high).step_by(8).find(|&at| unsafe { std::ptr::read_volatile(at as *const u64) } != PAINT);
     (number, gone.map_or(1024, |at| top - at))
 }

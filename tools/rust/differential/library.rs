@@ -5,7 +5,19 @@ use crate::scripts::Random;
 
 pub use crate::c::{CELLS, Mode};
 
-pub const NAMES: [&str; 5] = ["nodes", "types", "lists", "roots", "diagnostics"];
+/// The five arrays of a reading and the two tables.
+pub const LENT: usize = 7;
+pub const NAMES: [&str; LENT] = ["nodes", "types", "lists", "roots", "diagnostics", "tokens", "errors"];
+
+/// Where the tables stand among them.
+pub const TOKENS: usize = 5;
+pub const ERRORS: usize = 6;
+
+/// The least lengths of all seven for `n` bytes.
+pub fn least(n: usize) -> [usize; LENT] {
+    let ([nodes, types, lists, roots, diagnostics], [tokens, errors]) = (CELLS.map(|cells| cells * n), c::table_lengths(n));
+    [nodes, types, lists, roots, diagnostics, tokens, errors]
+}
 
 /// Cells before and behind each array that stay as they are.
 const GUARD: usize = 4;
@@ -30,20 +42,20 @@ impl Rubbish {
     }
 }
 
-/// The five arrays and the twelve numbers.
+/// The five arrays, the two tables and the twelve numbers.
 pub struct Lent {
-    cells: [Vec<u32>; 5],
-    lens: [usize; 5],
+    cells: [Vec<u32>; LENT],
+    lens: [usize; LENT],
     pub numbers: [u32; 12],
 }
 
 impl Lent {
     pub fn new() -> Self {
-        Lent { cells: [const { Vec::new() }; 5], lens: [0; 5], numbers: [0; 12] }
+        Lent { cells: [const { Vec::new() }; LENT], lens: [0; LENT], numbers: [0; 12] }
     }
 
     /// Arrays of these lengths, filled with rubbish.
-    pub fn lend(&mut self, lens: [usize; 5], rubbish: &Rubbish, random: &mut Random) {
+    pub fn lend(&mut self, lens: [usize; LENT], rubbish: &Rubbish, random: &mut Random) {
         for (cells, len) in self.cells.iter_mut().zip(lens) {
             if cells.len() < len + 2 * GUARD {
                 cells.resize(len + 2 * GUARD, 0);
@@ -60,21 +72,37 @@ impl Lent {
         &self.cells[i][GUARD..GUARD + self.lens[i]]
     }
 
+    pub fn array_mut(&mut self, i: usize) -> &mut [u32] {
+        &mut self.cells[i][GUARD..GUARD + self.lens[i]]
+    }
+
     /// All that is lent, for a test that nothing changed.
-    pub fn copy(&self) -> ([Vec<u32>; 5], [u32; 12]) {
+    pub fn copy(&self) -> ([Vec<u32>; LENT], [u32; 12]) {
         (std::array::from_fn(|i| self.array(i).to_vec()), self.numbers)
     }
 
     pub fn guarded(&self) -> bool {
         let whole = |i: usize| &self.cells[i][..self.lens[i] + 2 * GUARD];
-        (0..5).all(|i| whole(i)[..GUARD].iter().chain(&whole(i)[GUARD + self.lens[i]..]).all(|&cell| cell == UNTOUCHED))
+        (0..LENT).all(|i| whole(i)[..GUARD].iter().chain(&whole(i)[GUARD + self.lens[i]..]).all(|&cell| cell == UNTOUCHED))
     }
 
+    fn all(&mut self) -> ([&mut [u32]; 5], [&mut [u32]; 2], &mut [u32; 12]) {
+        let mut lens = self.lens.iter();
+        let [nodes, types, lists, roots, diagnostics, tokens, errors] =
+            self.cells.each_mut().map(|cells| &mut cells[GUARD..GUARD + lens.next().expect("a length each")]);
+        ([nodes, types, lists, roots, diagnostics], [tokens, errors], &mut self.numbers)
+    }
+
+    /// Cutting and reading.
+    pub fn parse(&mut self, mode: Mode, script: &[u8]) -> u32 {
+        let (arrays, tables, numbers) = self.all();
+        c::parse(mode, script, tables, arrays, numbers)
+    }
+
+    /// Reading from the tables as they are.
     pub fn read(&mut self, mode: Mode, script: &[u8]) -> u32 {
-        let lens = self.lens;
-        let mut left = lens.iter();
-        let arrays = self.cells.each_mut().map(|cells| &mut cells[GUARD..GUARD + left.next().expect("five lengths")]);
-        c::read(mode, script, arrays, &mut self.numbers)
+        let (arrays, [tokens, errors], numbers) = self.all();
+        c::read(mode, script, [tokens, errors], arrays, numbers)
     }
 
     fn lent<'a>(&'a self, script: &'a [u8]) -> c::Lent<'a> {

@@ -7,15 +7,17 @@
 //! programs   random programs, whole and damaged, of up to some hundred bytes
 //! long       programs of up to 65,536 bytes, whole and damaged, deep nests and long chains
 //! pairs      two scripts each: the comparison of their trees beside the shapes of the Rust's
-//! refusals   1 to 3: scripts that are too long, arrays that are too short, numbers that lie outside
-//! limits     scripts of 0, 1, 65,536 and 65,537 bytes of many shapes; arrays exactly long enough, longer, and one cell short of each
+//! refusals   1 to 3: scripts that are too long, arrays and tables that are too short, numbers that lie outside
+//! limits     scripts of 0, 1, 65,536 and 65,537 bytes of many shapes; arrays and tables exactly long enough, longer, and one cell short of each
 //! columns    lines and columns of a million positions, in whole and broken UTF-8, beside a count of its own
 //! marks      lists of positions beside single lookups, with their refusals; how long they take
 //! practice   practice sheets beside a generator of its own; each is read
 //! sheets     correction sheets, read back by a reader of its own; refusals; how long one takes
+//! tables     tables of tokens and lexer errors beside the Rust's lexer; damaged ones; refusals
+//! steps      cutting and then reading beside both at once; reading from damaged tables is refused with 43
 //! words      errors of every number, wanted and seen beside the tables of docs/WORDS.md, and their refusals
 //!
-//! Without a family all are run. Of each script the numbers, all cells of all arrays, the starts of nodes, the tokens of types, spans, lines and columns
+//! Without a family all are run. Of each script the numbers, all cells of all arrays and tables, the starts of nodes, the tokens of types, spans, lines and columns
 //! are compared. The arrays are lent full of rubbish and longer than needed. Every tree is held to the law of a finished tree (law.rs),
 //! and every error that a reading returns is described (words.rs).
 #![feature(allocator_api, portable_simd, core_intrinsics)]
@@ -35,6 +37,8 @@ mod practice;
 mod scripts;
 mod shape;
 mod sheet;
+mod steps;
+mod tables;
 mod words;
 
 use crate::ast::{Ast, NodeId, TypeExprId};
@@ -42,7 +46,7 @@ use crate::diagnostic::Span;
 use crate::expected::{Expected, Rust};
 use crate::law::Law;
 use crate::lex::Type;
-use crate::library::{CELLS, Lent, MODES, Mode, NAMES, Rubbish};
+use crate::library::{ERRORS, LENT, Lent, MODES, Mode, NAMES, Rubbish, TOKENS, least};
 use crate::numbers::{kind_number, tokens_of};
 use crate::scripts::{Program, Random, damage, rewritten, rows};
 use crate::words::Words;
@@ -55,11 +59,6 @@ const LIMITS: [&str; 36] = [
     " ", "\n", "a", "a ", "1.", "1 ", "+", "a+", "a -b ", "- ", "x.", "f()", "[]", "(", "[", "{", "f(", "(a) ", "[a ", "$", "$ ", "\"", "\"s\" ", "#! d\n", "#! d\nlet a=a ", "let 1 ",
     "match {} ", "match {a{b}{c}} ", "fn f(a:Int){a} ", "fn f(){", "import \"x\" ", "extern \"p\" {fn f(a:Int)} ", "a as Option<Int> ", "a as Record<a:Int> ", "!= ", "\u{e9}",
 ];
-
-/// The least lengths of the five arrays for `n` bytes.
-fn least(n: usize) -> [usize; 5] {
-    CELLS.map(|cells| cells * n)
-}
 
 /// `node_start` of the Rust goes down a whole chain of operators.
 const STACK: usize = 1 << 30;
@@ -134,7 +133,7 @@ impl Beside {
     }
 
     /// Lengths of at least the least for `n` bytes, mostly longer.
-    fn lengths(&mut self, n: usize) -> [usize; 5] {
+    fn lengths(&mut self, n: usize) -> [usize; LENT] {
         least(n).map(|cells| cells + if self.random.chance(50) { self.random.below(40) } else { 0 })
     }
 
@@ -154,13 +153,14 @@ impl Beside {
         }
     }
 
-    fn compare_in(&mut self, count: &mut Count, mode: Mode, script: &[u8], lens: [usize; 5]) -> Result<(), String> {
+    fn compare_in(&mut self, count: &mut Count, mode: Mode, script: &[u8], lens: [usize; LENT]) -> Result<(), String> {
         let mut asked = Asked::default();
         let random = &mut self.random;
         self.rust.read(script, mode != Mode::Strict, &mut self.expected, &mut |tree| asked = Asked::ask(tree, random));
         self.lent.lend(lens, &self.rubbish, &mut self.random);
-        let number = self.lent.read(mode, script);
+        let number = self.lent.parse(mode, script);
         self.same_reading(number)?;
+        self.same_cutting(script)?;
         self.same_words(number)?;
         if number == 0 {
             count.trees += 1;
@@ -185,6 +185,17 @@ impl Beside {
             }
         }
         if lent.guarded() { Ok(()) } else { Err("cells outside of an array changed".to_string()) }
+    }
+
+    /// The tables are those of the Rust's lexer.
+    fn same_cutting(&self, script: &[u8]) -> Result<(), String> {
+        for (i, records) in [TOKENS, ERRORS].into_iter().zip(tables::tables(script)) {
+            let table = self.lent.array(i);
+            if table[..records.len()] != records[..] || table[records.len()..].iter().any(|&cell| cell != 0) {
+                return Err(format!("the {} differ", NAMES[i]));
+            }
+        }
+        Ok(())
     }
 
     /// The tree that was just read is lawful.
@@ -359,11 +370,11 @@ impl Beside {
             let [Some(left), Some(right)] = shapes else { continue };
             count.trees += 2;
             self.lend(script2.len());
-            self.lent.read(Mode::Strict, &script2);
+            self.lent.parse(Mode::Strict, &script2);
             self.lawful(&mut count, &script2);
             std::mem::swap(&mut self.lent, &mut other);
             self.lend(script.len());
-            self.lent.read(Mode::Strict, &script);
+            self.lent.parse(Mode::Strict, &script);
             self.lawful(&mut count, &script);
             let wanted = u64::from(left == right);
             same += wanted;
@@ -380,8 +391,9 @@ impl Beside {
         let mut count = Count::new("refusals");
         let script = b"fn f(a: Int) Int { a + 1 } #! d\nlet x = [1 \"s\"]";
         for mode in MODES {
-            for array in 0..5 {
-                for missing in [1, CELLS[array], CELLS[array] * script.len()] {
+            for array in 0..LENT {
+                let cells = least(1)[array] - least(0)[array];
+                for missing in [1, cells, cells * script.len()] {
                     let mut lens = least(script.len());
                     lens[array] -= missing;
                     self.unchanged(&mut count, mode, script, lens, 2);
@@ -390,11 +402,11 @@ impl Beside {
             for n in [LONGEST + 1, LONGEST + 2, 3 * LONGEST] {
                 let script = vec![b'a'; n];
                 self.unchanged(&mut count, mode, &script, least(n), 1);
-                self.unchanged(&mut count, mode, &script, [0; 5], 1);
+                self.unchanged(&mut count, mode, &script, [0; LENT], 1);
             }
             self.compare(&mut count, script);
             self.lend(script.len());
-            self.lent.read(mode, script);
+            self.lent.parse(mode, script);
             self.lawful(&mut count, script);
             let counts = [self.lent.numbers[6], self.lent.numbers[7]];
             for more in [0, 1, 1000, u32::MAX - 1000] {
@@ -425,17 +437,17 @@ impl Beside {
                 let exact = least(n);
                 if n > LONGEST {
                     self.unchanged(&mut count, mode, &script, exact, 1);
-                    self.unchanged(&mut count, mode, &script, [0; 5], 1);
+                    self.unchanged(&mut count, mode, &script, [0; LENT], 1);
                     refused += 2;
                     continue;
                 }
-                for lens in [exact, [1, 2, 3, 4, 5].map(|i| exact[i - 1] + i), exact.map(|cells| cells + 1000)] {
+                for lens in [exact, std::array::from_fn(|i| exact[i] + i + 1), exact.map(|cells| cells + 1000)] {
                     count.scripts += 1;
                     if let Err(what) = self.compare_in(&mut count, mode, &script, lens) {
                         count.differs(&script, &what);
                     }
                 }
-                for array in (0..5).filter(|&i| exact[i] > 0) {
+                for array in (0..LENT).filter(|&i| exact[i] > 0) {
                     let mut lens = exact;
                     lens[array] -= 1;
                     self.unchanged(&mut count, mode, &script, lens, 2);
@@ -447,13 +459,13 @@ impl Beside {
         count.done()
     }
 
-    /// The call is refused with this number, and nothing lent changes.
-    fn unchanged(&mut self, count: &mut Count, mode: Mode, script: &[u8], lens: [usize; 5], wanted: u32) {
+    /// Cutting and reading, and reading alone, are refused with this number, and nothing lent changes.
+    fn unchanged(&mut self, count: &mut Count, mode: Mode, script: &[u8], lens: [usize; LENT], wanted: u32) {
         count.scripts += 1;
         self.lent.lend(lens, &self.rubbish, &mut self.random);
         let before = self.lent.copy();
-        let number = self.lent.read(mode, script);
-        if number != wanted || self.lent.copy() != before || !self.lent.guarded() {
+        let numbers = [self.lent.parse(mode, script), self.lent.read(mode, script)];
+        if numbers != [wanted; 2] || self.lent.copy() != before || !self.lent.guarded() {
             count.differs(script, &format!("a refusal with {wanted}, arrays of {lens:?}"));
         }
     }
@@ -470,8 +482,8 @@ fn source(script: &[u8], t: &lex::Token<'_>) -> (usize, usize) {
     (t.start, end)
 }
 
-const FAMILIES: [&str; 12] =
-    ["refusals", "limits", "bytes", "tokens", "programs", "long", "pairs", "columns", "marks", "practice", "sheets", "words"];
+const FAMILIES: [&str; 14] =
+    ["refusals", "limits", "bytes", "tables", "steps", "tokens", "programs", "long", "pairs", "columns", "marks", "practice", "sheets", "words"];
 
 fn run(quick: bool, seed: u64, families: &[String]) -> u64 {
     let mut beside = Beside::new(seed);
@@ -483,6 +495,8 @@ fn run(quick: bool, seed: u64, families: &[String]) -> u64 {
             "marks" => beside.marks(if quick { 50_000 } else { 500_000 }),
             "practice" => beside.practice(if quick { 5_000 } else { 100_000 }),
             "words" => beside.describe(if quick { 100_000 } else { 2_000_000 }),
+            "tables" => beside.tables(if quick { 100_000 } else { 2_000_000 }),
+            "steps" => beside.steps(if quick { 50_000 } else { 1_000_000 }),
             "refusals" => beside.refusals(),
             "limits" => beside.limits(),
             "bytes" => beside.bytes(if quick { 2 } else { 3 }),

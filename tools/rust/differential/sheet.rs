@@ -319,7 +319,7 @@ impl Beside {
                 let bytes = 1 + self.random.below(200);
                 let script = self.program(bytes);
                 self.lend(script.len());
-                if self.lent.read(Mode::Collecting, &script) != 0 {
+                if self.lent.parse(Mode::Collecting, &script) != 0 {
                     continue;
                 }
                 let errors = self.lent.array(4)[..5 * self.lent.numbers[11] as usize].to_vec();

@@ -26,7 +26,7 @@ returns-2 c =
     let c5 = c4 .before in
     let c7 = c5 .before .before in
     let dot = sym (c4 .peek .ensures) ∙ c3 .if1 .left in
-    let name = ap isIdentStart (sym (c .before .before .peek2 .ensures)) ∙ sym (c .before .is-ident-start .ensures) ∙ c .if2 .taken in
+    let name = ap isIdentStart (sym (c .before .before .peek2 .ensures)) ∙ sym (c .before .begins-name .ensures) ∙ c .if2 .taken in
     number-field (c7 .args .rest .now) _ (c5 .skip-digits .ensures) dot name
 
 add-double : tie.Need-add-double
@@ -41,7 +41,7 @@ double-requires c κs =
     let c4 = c3 .before in
     let c5 = c4 .before in
     let c7 = c5 .before .before in
-    omega (arith, nonzero-inside (c7 .args .rest .now) (c5 .skip-digits .result) (omega (arith, c4 .peek .ensures, c3 .if1 .left)))
+    (c7 .pre, omega (arith, nonzero-inside (c7 .args .rest .now) (c5 .skip-digits .result) (omega (arith, c4 .peek .ensures, c3 .if1 .left))))
 
 returns-3 : tie.Need-returns-3
 returns-3 c =
@@ -51,7 +51,7 @@ returns-3 c =
     let c6 = c5 .before in
     let c8 = c6 .before .before in
     let dot = sym (c5 .peek .ensures) ∙ c4 .if1 .left in
-    let name = ap isIdentStart (sym (c3 .peek2 .ensures)) ∙ sym (c .before .before .is-ident-start .ensures) ∙ c .before .if2 .left in
+    let name = ap isIdentStart (sym (c3 .peek2 .ensures)) ∙ sym (c .before .before .begins-name .ensures) ∙ c .before .if2 .left in
     c .double .ensures ∙ number-double (c8 .args .rest .now) _ (c6 .skip-digits .ensures) dot name
 
 pub number-spec : {M : Type 1} → statement M

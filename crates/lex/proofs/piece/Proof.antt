@@ -29,8 +29,8 @@ returns c =
     let c6 = c4 .before .before in
     c .punctuation .ensures ∙ ap (punctuation _) (c .before .peek .ensures) ∙ sym (sign-piece (c6 .args .rest .now) (omega (arith, c4 .shared-slice-known2 .given 0)) (rw (c3 .from-punctuator .ensures) at (c .before .before .if1 .taken)))
 
-is-digit-requires : tie.Need-is-digit-requires
-is-digit-requires c κs = search needs
+begins-number-requires : tie.Need-begins-number-requires
+begins-number-requires c κs = search needs
 
 number-requires : tie.Need-number-requires
 number-requires c κs = search needs
@@ -39,7 +39,7 @@ returns-2 : tie.Need-returns-2
 unfolding piece
 returns-2 c =
     let c5 = c .before .before .before .before .before in
-    let digit = sym (c .before .before .is-digit .ensures) ∙ c .before .if2 .taken in rw (digit-no-name _ (omega (arith, c5 .shared-slice-known2 .given 0)) digit, digit, piece) (c .number .ensures)
+    let digit = sym (c .before .before .begins-number .ensures) ∙ c .before .if2 .taken in rw (digit-no-name _ (omega (arith, c5 .shared-slice-known2 .given 0)) digit, digit, piece) (c .number .ensures)
 
 sub-string : tie.Need-sub-string
 sub-string c = search needs
@@ -58,17 +58,17 @@ unfolding piece
 returns-3 c =
     let c3 = c .before .before .before in
     let c4 = c3 .before in
-    rw (quote-no-name _ (c .before .before .if3 .taken), sym (c4 .is-digit .ensures) ∙ c3 .if2 .left, eq-eqb _ _ (c .before .before .if3 .taken), piece) (rw part-to-end at (c .string .ensures))
+    rw (quote-no-name _ (c .before .before .if3 .taken), sym (c4 .begins-number .ensures) ∙ c3 .if2 .left, eq-eqb _ _ (c .before .before .if3 .taken), piece) (rw part-to-end at (c .string .ensures))
 
-is-ident-start-requires : tie.Need-is-ident-start-requires
-is-ident-start-requires c κs = search needs
+begins-name-requires : tie.Need-begins-name-requires
+begins-name-requires c κs = search needs
 
 name-requires : tie.Need-name-requires
 name-requires c κs = search needs
 
 returns-4 : tie.Need-returns-4
 unfolding piece
-returns-4 c = rw (sym (c .before .before .is-ident-start .ensures) ∙ c .before .if4 .taken, piece) (c .name .ensures)
+returns-4 c = rw (sym (c .before .before .begins-name .ensures) ∙ c .before .if4 .taken, piece) (c .name .ensures)
 
 symbol-requires : tie.Need-symbol-requires
 symbol-requires c κs = search needs
@@ -79,7 +79,7 @@ returns-5 c =
     let c3 = c .before .before .before in
     let c4 = c3 .before in
     let c5 = c4 .before in
-    rw (sym (c .before .before .is-ident-start .ensures) ∙ c .before .if4 .left, sym (c5 .is-digit .ensures) ∙ c4 .if2 .left, ne-eqb _ _ (c3 .if3 .left), piece) (c .symbol .ensures)
+    rw (sym (c .before .before .begins-name .ensures) ∙ c .before .if4 .left, sym (c5 .begins-number .ensures) ∙ c4 .if2 .left, ne-eqb _ _ (c3 .if3 .left), piece) (c .symbol .ensures)
 
 pub piece-spec : {M : Type 1} → statement M
 piece-spec =
@@ -90,7 +90,7 @@ piece-spec =
     peek-requires
     punctuation-requires
     returns
-    is-digit-requires
+    begins-number-requires
     number-requires
     returns-2
     sub-string
@@ -98,7 +98,7 @@ piece-spec =
     part-string-end
     string-requires
     returns-3
-    is-ident-start-requires
+    begins-name-requires
     name-requires
     returns-4
     symbol-requires

@@ -14,17 +14,17 @@ use Rattle.lex.proofs.skip_separators.Statement.{statement}
 use Rattle.lex.proofs.skip_separators.Tie as tie
 
 abbrev Inv-loop : tie.InvT-loop
-Inv-loop script pos p₀ p = p + skipped false (drop p script) ≡ pos + skipped false (drop pos script)
+Inv-loop classes script pos p₀ p = p + skipped false (drop p script) ≡ pos + skipped false (drop pos script)
 
 abbrev μ-loop : tie.MeasureT-loop
-μ-loop script pos p₀ p = length script - p
+μ-loop classes script pos p₀ p = length script - p
 
 loop-again : tie.Need-loop-again Inv-loop μ-loop
 loop-again c =
     let c4 = c .before .before .before .before in
     let c5 = c4 .before in
     let c7 = c5 .before .before in
-    let blank = skip-blank (c7 .args .script .now) _ _ (c5 .loop .inv) (c4 .loop-test .taken) (sym (c .before .before .is-ws .ensures) ∙ c .before .if1 .taken) in
+    let blank = skip-blank (c7 .args .script .now) _ _ (c5 .loop .inv) (c4 .loop-test .taken) (sym (c .before .before .separates .ensures) ∙ c .before .if1 .taken) in
     skip-spaces (c7 .args .script .now) _ _ blank _ (c .skip-byte .ensures)
 
 add-p : tie.Need-add-p Inv-loop μ-loop
@@ -54,7 +54,7 @@ loop-again-2 c =
     let c9 = c8 .before in
     let c11 = c9 .before .before in
     let comment = ap (beginsComment _) (sym (c4 .peek .ensures)) ∙ sym (c3 .begins-comment .ensures) ∙ c .before .before .if2 .taken in
-    skip-comment (c11 .args .script .now) _ _ (c9 .loop .inv) (c8 .loop-test .taken) (sym (c6 .is-ws .ensures) ∙ c5 .if1 .left) comment _ (rw part-to-end at (c .line-end .ensures))
+    skip-comment (c11 .args .script .now) _ _ (c9 .loop .inv) (c8 .loop-test .taken) (sym (c6 .separates .ensures) ∙ c5 .if1 .left) comment _ (rw part-to-end at (c .line-end .ensures))
 
 returns : tie.Need-returns Inv-loop μ-loop
 returns c =
@@ -64,7 +64,7 @@ returns c =
     let c7 = c6 .before in
     let c9 = c7 .before .before in
     let comment = ap (beginsComment _) (sym (c .before .before .peek .ensures)) ∙ sym (c .before .begins-comment .ensures) ∙ c .if2 .left in
-    skip-stop (c9 .args .script .now) _ _ (c7 .loop .inv) (c6 .loop-test .taken) (sym (c4 .is-ws .ensures) ∙ c3 .if1 .left) comment
+    skip-stop (c9 .args .script .now) _ _ (c7 .loop .inv) (c6 .loop-test .taken) (sym (c4 .separates .ensures) ∙ c3 .if1 .left) comment
 
 returns-2 : tie.Need-returns-2 Inv-loop μ-loop
 returns-2 c =

@@ -21,7 +21,7 @@ returns : tie.Need-returns
 unfolding symbol
 returns c =
     let c4 = c .before .before .before .before in
-    rw (ne-eqb _ _ (c .before .if1 .taken), symbol) (c .unknown-character .ensures ∙ sym (no-punctuation _ _ (c4 .pre .1)))
+    rw (ne-eqb _ _ (c .before .if1 .taken), symbol) (c .unknown-character .ensures ∙ sym (no-punctuation _ _ (c4 .pre .2)))
 
 peek-requires : tie.Need-peek-requires
 peek-requires c κs = search needs
@@ -34,7 +34,7 @@ unfolding symbol
 returns-2 c =
     let c3 = c .before .before .before in
     let c6 = c3 .before .before .before in
-    rw (eq-eqb _ _ (c3 .if1 .left), ne-eqb _ _ (λ e. c .before .if2 .taken (c .before .before .peek .ensures ∙ e)), symbol) (c .unknown-character2 .ensures ∙ sym (no-sign _ (c6 .pre .1)))
+    rw (eq-eqb _ _ (c3 .if1 .left), ne-eqb _ _ (λ e. c .before .if2 .taken (c .before .before .peek .ensures ∙ e)), symbol) (c .unknown-character2 .ensures ∙ sym (no-sign _ (c6 .pre .2)))
 
 sub-doc : tie.Need-sub-doc
 sub-doc c =

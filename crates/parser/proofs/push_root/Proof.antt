@@ -27,9 +27,7 @@ returns-4 c =
     root-written (sym (going .ensures) ∙ not-false _ (if1 .left)) (omega arith) (omega arith)
 
 pub push-root-spec : {M : Type 1} → statement M
-push-root-spec =
-    tie.close
-    (tie.spec
+push-root-spec = tie.close (tie.spec
     (λ c κs. search needs)
     returns
     returns-2

@@ -61,18 +61,43 @@ returns-6 c =
 returns-7 : tie.Need-returns-7
 unfolding refusal or
 returns-7 c =
-    let if1 = c .before .before .before .before .before .if1 in
-    let if2 = c .before .before .before .before .if2 in
-    let if3 = c .before .before .before .if3 in
-    let if4 = c .before .before .if4 in
-    let if5 = c .before .if5 in
-    let if6 = c .if6 in
-    rw (le-ltb _ _ (if1 .left), le-ltb _ _ (if2 .left), le-ltb _ _ (if3 .left), le-ltb _ _ (if4 .left), le-ltb _ _ (if5 .left), le-ltb _ _ (if6 .left), refusal, or) refl
+    let if1 = c .before .before .before .before .before .before .if1 in
+    let if2 = c .before .before .before .before .before .if2 in
+    let if3 = c .before .before .before .before .if3 in
+    let if4 = c .before .before .before .if4 in
+    let if5 = c .before .before .if5 in
+    let if6 = c .before .if6 in
+    let if7 = c .if7 in
+    rw (le-ltb _ _ (if1 .left), le-ltb _ _ (if2 .left), le-ltb _ _ (if3 .left), le-ltb _ _ (if4 .left), le-ltb _ _ (if5 .left), le-ltb _ _ (if6 .left), lt-ltb _ _ (if7 .taken), refusal, or) refl
+
+returns-8 : tie.Need-returns-8
+unfolding refusal or
+returns-8 c =
+    let if1 = c .before .before .before .before .before .before .before .if1 in
+    let if2 = c .before .before .before .before .before .before .if2 in
+    let if3 = c .before .before .before .before .before .if3 in
+    let if4 = c .before .before .before .before .if4 in
+    let if5 = c .before .before .before .if5 in
+    let if6 = c .before .before .if6 in
+    let if7 = c .before .if7 in
+    let if8 = c .if8 in
+    rw (le-ltb _ _ (if1 .left), le-ltb _ _ (if2 .left), le-ltb _ _ (if3 .left), le-ltb _ _ (if4 .left), le-ltb _ _ (if5 .left), le-ltb _ _ (if6 .left), le-ltb _ _ (if7 .left), lt-ltb _ _ (if8 .taken), refusal, or) refl
+
+returns-9 : tie.Need-returns-9
+unfolding refusal or
+returns-9 c =
+    let if1 = c .before .before .before .before .before .before .before .if1 in
+    let if2 = c .before .before .before .before .before .before .if2 in
+    let if3 = c .before .before .before .before .before .if3 in
+    let if4 = c .before .before .before .before .if4 in
+    let if5 = c .before .before .before .if5 in
+    let if6 = c .before .before .if6 in
+    let if7 = c .before .if7 in
+    let if8 = c .if8 in
+    rw (le-ltb _ _ (if1 .left), le-ltb _ _ (if2 .left), le-ltb _ _ (if3 .left), le-ltb _ _ (if4 .left), le-ltb _ _ (if5 .left), le-ltb _ _ (if6 .left), le-ltb _ _ (if7 .left), le-ltb _ _ (if8 .left), refusal, or) refl
 
 pub refusal-spec : {M : Type 1} → statement M
-refusal-spec =
-    tie.close
-    (tie.spec
+refusal-spec = tie.close (tie.spec
     returns
     (λ c. search needs)
     returns-2
@@ -83,4 +108,9 @@ refusal-spec =
     returns-5
     (λ c. search needs)
     returns-6
-    returns-7)
+    (λ c. search needs)
+    (λ c. search needs)
+    returns-7
+    (λ c. search needs)
+    returns-8
+    returns-9)

@@ -13,7 +13,7 @@ returns c =
     let advance = c .before .before .before .before .before .before .before .before .before .before .before .before .before .advance in
     let parse-type = c .before .before .before .before .before .before .before .before .before .parse-type in
     let push-cast = c .before .before .push-cast in
-    enough (read _ (advance .ensures _ _ _) (current .ensures) (seq _ (parse-type .ensures _) (seq _ (push-cast .ensures _ _ _) done))) tt
+    λ rules. enough (read _ (advance .ensures _ _ _) (current .ensures) (seq _ (parse-type .ensures rules _) (seq _ (push-cast .ensures _ _ _) done))) tt
 
 pub cast-spec : {M : Type 1} → statement M
 cast-spec =

@@ -1,9 +1,10 @@
 -- `parser_operators::postfix_follows` meets its contract.
 use borrow.Author.Needs.{needs}
-use mathlib.Core.Path.{refl, sym, _∙_}
+use mathlib.Core.Path.{refl, sym, ap, _∙_}
 use borrow.Author.Tests.{not-true, not-false, eq-eqb, ne-eqb}
 use Rattle.lex.specs.Kind.{kDot, kBraceLeft}
-use Rattle.parser_operators.specs.Tests.{postfixBy}
+use Rattle.parser_state.specs.declared.Used.{Used}
+use Rattle.parser_operators.specs.Tests.{callAt, postfixBy}
 use Rattle.parser_operators.proofs.postfix_follows.Statement.{statement}
 use Rattle.parser_operators.proofs.postfix_follows.Tie as tie
 
@@ -26,13 +27,14 @@ returns-2 c =
 returns-3 : tie.Need-returns-3
 unfolding postfixBy
 returns-3 c =
-    let kind = c .before .before .before .kind in
-    let going = c .before .before .before .before .before .going in
-    let if1 = c .before .before .before .before .if1 in
-    let if2 = c .before .before .if2 in
-    let if3 = c .before .if3 in
+    let kind = c .before .before .before .before .kind in
+    let going = c .before .before .before .before .before .before .going in
+    let if1 = c .before .before .before .before .before .if1 in
+    let if2 = c .before .before .before .if2 in
+    let if3 = c .before .before .if3 in
+    let get-used = c .before .get-used in
     let is-callable-target = c .is-callable-target in
-    is-callable-target .ensures ∙ rw (sym (going .ensures) ∙ not-false _ (if1 .left), ← kind .ensures, ne-eqb _ kDot (if2 .left), eq-eqb _ kBraceLeft (if3 .taken), postfixBy) refl
+    is-callable-target .ensures ∙ rw (sym (going .ensures) ∙ not-false _ (if1 .left), ← kind .ensures, ne-eqb _ kDot (if2 .left), eq-eqb _ kBraceLeft (if3 .taken), postfixBy) (ap (λ (u : Used). callAt (c .before .before .before .before .before .before .before .before .args .nodes .now) (u .nodes) (c .before .before .before .before .before .before .before .before .args .n)) (get-used .ensures))
 
 returns-4 : tie.Need-returns-4
 unfolding postfixBy
@@ -52,6 +54,7 @@ postfix-follows-spec =
     returns
     (λ c κs. search needs)
     returns-2
+    (λ c κs. search needs)
     (λ c κs. search needs)
     returns-3
     returns-4)

@@ -7,7 +7,7 @@ use Rattle.parser_operators.proofs.push_cast.Tie as tie
 
 returns : tie.Need-returns
 unfolding nodeCells tokenCells
-returns c = λ script types lists. c .before .before .push-token-node .ensures script types lists _ refl
+returns c = λ tokens types lists. c .before .before .push-token-node .ensures tokens types lists _ refl
 
 pub push-cast-spec : {M : Type 1} → statement M
 push-cast-spec =

@@ -4,10 +4,11 @@ use Rattle.parser_state.proofs.collect_docs.Statement.{statement}
 use Rattle.parser_state.proofs.collect_docs.Tie as tie
 use Rattle.parser_state.proofs.Rounds.{LoopInvariant, again-of, lighter, ifKind-is-no, round-again, round-out, round-start, doc-going, doc-kind, no-doc, weight}
 use Rattle.rules.specs.Combinators.{collectDocs, docStep, pure, keepDoc}
-use Rattle.parser_state.proofs.Steps.{current-represents, represents-going, ifKind-yes, read}
+use Rattle.parser_state.proofs.Steps.{current-represents, represents-going, ifKind-yes, read-at}
 use Rattle.parser_state.specs.Refines.{stackUnchanged}
 use Rattle.parser_state.specs.Represents.{parserOf, code}
-use mathlib.Core.Path.{_≡_, refl, sym, _∙_}
+use mathlib.Core.Path.{_≡_, refl, sym, ap, _∙_}
+use Rattle.lex.specs.declared.tok.Token.{Token}
 use mathlib.Core.Bool.{true}
 use mathlib.Core.List.{List, []}
 use Prim.Native.Nat.{ℕ}
@@ -15,10 +16,10 @@ use native.Mathlib.Omega.{arith}
 use lib.ListN.{length}
 
 abbrev Inv-loop : tie.InvT-loop
-Inv-loop script types₀ p₀ types p = (length types ≡ length types₀) × ((nodes lists : List ℕ) → LoopInvariant script docStep stackUnchanged 0 (λ n. n ≡ 0) (code nodes types₀ lists (parserOf p₀)) (code nodes types lists (parserOf p)))
+Inv-loop tokens types₀ p₀ types p = (length types ≡ length types₀) × ((nodes lists : List ℕ) → LoopInvariant tokens docStep stackUnchanged 0 (λ n. n ≡ 0) (code nodes types₀ lists (parserOf p₀)) (code nodes types lists (parserOf p)))
 
 abbrev μ-loop : tie.MeasureT-loop
-μ-loop script types₀ p₀ types p = weight script (code [] types [] (parserOf p))
+μ-loop tokens types₀ p₀ types p = weight tokens (code [] types [] (parserOf p))
 
 loop-holds : tie.Need-loop-holds Inv-loop μ-loop
 loop-holds c = (refl, λ nodes lists. round-start)
@@ -28,9 +29,9 @@ loop-less c =
     let doc-follows = c .before .before .before .before .before .before .before .before .before .before .doc-follows in
     let if1 = c .before .before .before .before .before .before .before .before .before .if1 in
     let advance = c .before .before .before .before .before .advance in
-    let current = c .before .before .before .before .before .before .before .current in
+    let at = c .before .before .before .before .before .before .before .at in
     let push-doc = c .before .before .push-doc in
-    lighter (doc-going _ (sym (doc-follows .ensures) ∙ if1 .taken)) (read (keepDoc 0) (advance .ensures [] _ []) (current .ensures) (push-doc .ensures _ [] [] 0))
+    lighter (doc-going _ (sym (doc-follows .ensures) ∙ if1 .taken)) (read-at (keepDoc 0) (advance .ensures [] _ []) (at .ensures) (push-doc .ensures [] [] 0))
 
 loop-again : tie.Need-loop-again Inv-loop μ-loop
 loop-again c =
@@ -38,12 +39,12 @@ loop-again c =
     let doc-follows = c .before .before .before .before .before .before .before .before .before .before .doc-follows in
     let if1 = c .before .before .before .before .before .before .before .before .before .if1 in
     let advance = c .before .before .before .before .before .advance in
-    let current = c .before .before .before .before .before .before .before .current in
+    let at = c .before .before .before .before .before .before .before .at in
     let push-doc = c .before .before .push-doc in
     let yes : _ ≡ true = sym (doc-follows .ensures) ∙ if1 .taken in (
       omega arith,
       λ nodes lists. round-again (loop .inv .1 nodes lists) (doc-going _ yes)
-          (again-of _ (ifKind-yes _ _ (read (keepDoc 0) (advance .ensures nodes _ lists) (current .ensures) (push-doc .ensures _ nodes lists 0)) (doc-kind _ yes))),
+          (again-of _ (ifKind-yes _ _ (read-at (keepDoc 0) (advance .ensures nodes _ lists) (at .ensures) (push-doc .ensures nodes lists 0)) (doc-kind _ yes))),
     )
 
 returns : tie.Need-returns Inv-loop μ-loop
@@ -53,7 +54,7 @@ returns c =
     let doc-follows = c .before .doc-follows in
     let if1 = c .if1 in
     λ nodes lists. round-out (loop .inv .1 nodes lists) (λ stack. refl) (λ R L stack n m e h.
-    ifKind-is-no _ _ _ m (rw (current-represents (h .related)) (no-doc _ (represents-going h) (sym (doc-follows .ensures) ∙ if1 .left))))
+    ifKind-is-no _ _ _ m (rw (ap (λ (t : Token). t .kind) (current-represents (h .related))) (no-doc _ (represents-going h) (sym (doc-follows .ensures) ∙ if1 .left))))
 
 advance-requires : tie.Need-advance-requires Inv-loop μ-loop
 advance-requires c κs =

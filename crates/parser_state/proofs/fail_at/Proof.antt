@@ -5,9 +5,14 @@ use Rattle.parser_state.proofs.fail_at.Statement.{statement}
 use Rattle.parser_state.proofs.fail_at.Tie as tie
 
 returns : tie.Need-returns
-returns c = λ script nodes types lists. failing-before script nodes types lists _ _ _ _ (c .fail-with .ensures .0) (c .fail-with .ensures .1)
+returns c =
+    let args = c .before .before .before .before .args in
+    let token-at = c .before .before .token-at in
+    let fail-with = c .fail-with in
+    λ nodes types lists. failing-before (args .tokens .now) nodes types lists _ _ _ (args .at) _ (token-at .ensures) (fail-with .ensures .0) (fail-with .ensures .1)
 
 pub fail-at-spec : {M : Type 1} → statement M
 fail-at-spec = tie.close (tie.spec
+    (λ c κs. search needs)
     (λ c κs. search needs)
     returns)

@@ -8,7 +8,7 @@ returns : tie.Need-returns
 returns c =
     let current = c .before .before .current in
     let fail-with = c .fail-with in
-    λ script nodes types lists. failing script nodes types lists _ _ _ _ _ (current .ensures) (fail-with .ensures .0) (fail-with .ensures .1)
+    λ tokens nodes types lists. failing tokens nodes types lists _ _ _ _ _ (current .ensures) (fail-with .ensures .0) (fail-with .ensures .1)
 
 pub fail-expecting-spec : {M : Type 1} → statement M
 fail-expecting-spec = tie.close (tie.spec

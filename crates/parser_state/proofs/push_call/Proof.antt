@@ -7,7 +7,7 @@ use Rattle.parser_state.proofs.push_call.Tie as tie
 
 returns : tie.Need-returns
 unfolding nodeCells runCells
-returns c = λ script types lists. c .before .before .push-record .ensures script types lists _ refl
+returns c = λ tokens types lists. c .before .before .push-record .ensures tokens types lists _ refl
 
 pub push-call-spec : {M : Type 1} → statement M
 push-call-spec =

@@ -6,7 +6,7 @@ use Rattle.parser_state.proofs.push_cell.Tie as tie
 returns : tie.Need-returns
 returns c =
     let push-cells = c .before .before .push-cells in
-    λ script nodes types. push-cells .ensures script nodes types
+    λ tokens nodes types. push-cells .ensures tokens nodes types
 
 pub push-cell-spec : {M : Type 1} → statement M
 push-cell-spec = tie.close (tie.spec

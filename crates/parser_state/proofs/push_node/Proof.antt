@@ -1,7 +1,6 @@
 -- `parser_state::push_node` meets its contract.
 use borrow.Author.Needs.{needs}
 use mathlib.Core.Path.{sym, ap, _∙_}
-use mathlib.Core.List.{append-nil}
 use native.Mathlib.Omega.{arith}
 use Rattle.parser_state.specs.declared.Used.{Used}
 use borrow.Author.Tests.{not-true, not-false}
@@ -11,7 +10,7 @@ use Rattle.parser_state.proofs.push_node.Statement.{statement}
 use Rattle.parser_state.proofs.push_node.Tie as tie
 
 returns : tie.Need-returns
-returns c = λ script types lists f rooms few e. no-room script _ types lists _ f _ rooms few (sym (c .before .has-room .ensures) ∙ not-true _ (c .if1 .taken))
+returns c = λ tokens types lists f rooms few e. no-room tokens _ types lists _ f _ rooms few (sym (c .before .has-room .ensures) ∙ not-true _ (c .if1 .taken))
 
 put-requires : tie.Need-put-requires
 put-requires c κs =
@@ -46,7 +45,7 @@ returns-2 c =
     let set-used = c .before .before .before .before .before .before .set-used in
     let node-cells = c .before .before .before .before .before .node-cells in
     let put = c .before .before .put in
-    λ script types lists f rooms few e. node-making script _ _ types lists (node-cells .result) f _ rooms 0 few (fits .going) (append-nil _ ∙ node-cells .ensures ∙ ap nodeCells e) (get-used .ensures) (set-used .ensures) (put .ensures)
+    λ tokens types lists f rooms few e. node-making tokens _ _ types lists (node-cells .result) f _ rooms few (fits .going) (node-cells .ensures ∙ ap nodeCells e) (get-used .ensures) (set-used .ensures) (put .ensures)
 
 pub push-node-spec : {M : Type 1} → statement M
 push-node-spec =

@@ -52,5 +52,5 @@ put-record-spec =
     (λ c. search needs)
     (λ c. search needs)
     (λ c. simp length-set (omega arith))
-    (λ c. simp length-set (omega arith))
+    (λ c. search needs)
     returns)

@@ -11,14 +11,14 @@ unfolding rejectKind
 returns c =
     let kind = c .before .before .before .kind in
     let if1 = c .before .before .if1 in
-    λ script nodes types lists. ifKind-yes _ _ (refused (c .fail-expecting .ensures _ nodes types lists)) (sym (kind .ensures) ∙ if1 .taken)
+    λ tokens nodes types lists. ifKind-yes _ _ (refused (c .fail-expecting .ensures _ nodes types lists)) (sym (kind .ensures) ∙ if1 .taken)
 
 returns-2 : tie.Need-returns-2
 unfolding rejectKind
 returns-2 c =
     let kind = c .before .kind in
     let if1 = c .if1 in
-    λ script nodes types lists. ifKind-no _ _ done (λ e. if1 .left (kind .ensures ∙ e))
+    λ tokens nodes types lists. ifKind-no _ _ done (λ e. if1 .left (kind .ensures ∙ e))
 
 pub reject-kind-spec : {M : Type 1} → statement M
 reject-kind-spec = tie.close (tie.spec

@@ -21,23 +21,23 @@ returns : tie.Need-returns
 returns c =
     let going = c .before .going in
     let if1 = c .if1 in
-    λ script nodes lists. idle (sym (going .ensures) ∙ not-true _ (if1 .taken))
+    λ tokens nodes lists. idle (sym (going .ensures) ∙ not-true _ (if1 .taken))
 
 returns-2 : tie.Need-returns-2
 returns-2 c =
     let get-used = c .before .get-used in
     let if2 = c .if2 in
-    λ script nodes lists. docs-none script nodes _ lists _ (sym (ap (λ (u : Used). u .docs) (get-used .ensures)) ∙ if2 .taken)
+    λ tokens nodes lists. docs-none tokens nodes _ lists _ (sym (ap (λ (u : Used). u .docs) (get-used .ensures)) ∙ if2 .taken)
 
 returns-3 : tie.Need-returns-3
 returns-3 c =
     let get-used = c .before .before .get-used in
-    λ script nodes lists. full (λ R L stack m h. omega (arith, ap (λ (u : Used). u .docs) (get-used .ensures), h .credit .records, h .lent .small, left-some h))
+    λ tokens nodes lists. full (λ R L stack m h. omega (arith, ap (λ (u : Used). u .docs) (get-used .ensures), h .credit .records, h .lent .small, left-some h))
 
 returns-4 : tie.Need-returns-4
 returns-4 c =
     let get-used = c .before .before .before .get-used in
-    λ script nodes lists. full (λ R L stack m h. omega (arith, ap (λ (u : Used). u .docs) (get-used .ensures), h .credit .records, h .lent .types, left-some h))
+    λ tokens nodes lists. full (λ R L stack m h. omega (arith, ap (λ (u : Used). u .docs) (get-used .ensures), h .credit .records, h .lent .types, left-some h))
 
 returns-5 : tie.Need-returns-5
 returns-5 c =
@@ -50,7 +50,7 @@ returns-5 c =
     let kind = c .before .before .before .before .kind in
     let doc-at = c .before .before .doc-at in
     let fail-with = c .fail-with in
-    λ script nodes lists. docs-fail script nodes _ lists _ _ _ _ _ (doc-at .ensures) (fail-with .ensures .0 (sym (going .ensures) ∙ not-false _ (if1 .left))) (sym (going .ensures) ∙ not-false _ (if1 .left)) (λ e. if2 .left (ap (λ (u : Used). u .docs) (get-used .ensures) ∙ e)) (λ _. (refl, ap (λ (n : ℕ). length {A = ℕ} (args .types .now) - 3 * n) (ap (λ (u : Used). u .docs) (get-used .ensures)))) (λ e. absurd (true≢false (eq-eqb _ 1 (sym (kind .ensures) ∙ if5 .taken)) e))
+    λ tokens nodes lists. docs-fail tokens nodes _ lists _ _ _ _ _ (doc-at .ensures) (fail-with .ensures .0 (sym (going .ensures) ∙ not-false _ (if1 .left))) (sym (going .ensures) ∙ not-false _ (if1 .left)) (λ e. if2 .left (ap (λ (u : Used). u .docs) (get-used .ensures) ∙ e)) (λ _. (refl, ap (λ (n : ℕ). length {A = ℕ} (args .types .now) - 3 * n) (ap (λ (u : Used). u .docs) (get-used .ensures)))) (λ e. absurd (true≢false (eq-eqb _ 1 (sym (kind .ensures) ∙ if5 .taken)) e))
 
 returns-6 : tie.Need-returns-6
 returns-6 c =
@@ -62,7 +62,7 @@ returns-6 c =
     let kind = c .before .before .before .before .kind in
     let doc-at2 = c .before .before .doc-at2 in
     let fail-with2 = c .fail-with2 in
-    λ script nodes lists. docs-fail script nodes _ lists _ _ _ _ _ (doc-at2 .ensures) (fail-with2 .ensures .0 (sym (going .ensures) ∙ not-false _ (if1 .left))) (sym (going .ensures) ∙ not-false _ (if1 .left)) (λ e. if2 .left (ap (λ (u : Used). u .docs) (get-used .ensures) ∙ e)) (λ e. absurd (true≢false e (ne-eqb _ 1 (λ z. if5 .left (kind .ensures ∙ z))))) (λ _. (refl, refl))
+    λ tokens nodes lists. docs-fail tokens nodes _ lists _ _ _ _ _ (doc-at2 .ensures) (fail-with2 .ensures .0 (sym (going .ensures) ∙ not-false _ (if1 .left))) (sym (going .ensures) ∙ not-false _ (if1 .left)) (λ e. if2 .left (ap (λ (u : Used). u .docs) (get-used .ensures) ∙ e)) (λ e. absurd (true≢false e (ne-eqb _ 1 (λ z. if5 .left (kind .ensures ∙ z))))) (λ _. (refl, refl))
 
 pub require-no-docs-spec : {M : Type 1} → statement M
 require-no-docs-spec =
@@ -72,6 +72,7 @@ require-no-docs-spec =
     returns
     (λ c κs. search needs)
     returns-2
+    (λ c. search needs)
     returns-3
     (λ c. search needs)
     (λ c. search needs)

@@ -21,5 +21,4 @@ set-used-spec = tie.close (tie.spec
     (λ c. search needs)
     (λ c. search needs)
     (λ c. search needs)
-    (λ c. search needs)
     returns)

@@ -15,10 +15,10 @@ use Rattle.parser_types.proofs.bracketed_paths.Statement.{statement}
 use Rattle.parser_types.proofs.bracketed_paths.Tie as tie
 
 abbrev Inv-loop : tie.InvT-loop
-Inv-loop script lists₀ p₀ members₀ lists p members = (length lists ≡ length lists₀) × ((nodes types : List ℕ) → MembersInvariant script kBraceRight importPath (code nodes types lists₀ (parserOf p₀)) (code nodes types lists (parserOf p)) members)
+Inv-loop tokens lists₀ p₀ members₀ lists p members = (length lists ≡ length lists₀) × ((nodes types : List ℕ) → MembersInvariant tokens kBraceRight importPath (code nodes types lists₀ (parserOf p₀)) (code nodes types lists (parserOf p)) members)
 
 abbrev μ-loop : tie.MeasureT-loop
-μ-loop script lists₀ p₀ members₀ lists p members = weight script (code [] [] lists (parserOf p))
+μ-loop tokens lists₀ p₀ members₀ lists p members = weight tokens (code [] [] lists (parserOf p))
 
 loop-holds : tie.Need-loop-holds Inv-loop μ-loop
 loop-holds c = (refl, λ nodes types. midway-start)

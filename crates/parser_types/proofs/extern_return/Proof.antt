@@ -12,7 +12,7 @@ returns c =
     let kind = c .before .before .before .before .before .before .kind in
     let if1 = c .before .before .before .before .before .if1 in
     let supplied-void = c .before .before .supplied-void in
-    λ nodes. ifKind-yes _ _ (supplied-void .ensures _ nodes _) (sym (kind .ensures) ∙ if1 .taken)
+    λ rules nodes. ifKind-yes _ _ (supplied-void .ensures _ nodes _) (sym (kind .ensures) ∙ if1 .taken)
 
 returns-2 : tie.Need-returns-2
 returns-2 c =
@@ -21,7 +21,7 @@ returns-2 c =
     let if1 = c .before .before .before .before .before .before .before .before .if1 in
     let if2 = c .before .before .before .before .before .if2 in
     let supplied-void2 = c .before .before .supplied-void2 in
-    λ nodes. ifKind-no _ _ (ifKind-yes _ _ (supplied-void2 .ensures _ nodes _) (sym (kind2 .ensures) ∙ if2 .taken)) (λ e. if1 .left (kind .ensures ∙ e))
+    λ rules nodes. ifKind-no _ _ (ifKind-yes _ _ (supplied-void2 .ensures _ nodes _) (sym (kind2 .ensures) ∙ if2 .taken)) (λ e. if1 .left (kind .ensures ∙ e))
 
 returns-3 : tie.Need-returns-3
 unfolding returnType
@@ -31,7 +31,7 @@ returns-3 c =
     let if1 = c .before .before .before .before .before .before .before .before .before .before .before .if1 in
     let if2 = c .before .before .before .before .before .before .before .before .if2 in
     let parse-type = c .before .before .before .before .parse-type in
-    λ nodes. ifKind-no _ _ (ifKind-no _ _ (enough (ifKind-both _ _ _ (struck-as (parse-type .ensures nodes)) (parse-type .ensures nodes)) tt) (λ e. if2 .left (kind2 .ensures ∙ e))) (λ e. if1 .left (kind .ensures ∙ e))
+    λ rules nodes. ifKind-no _ _ (ifKind-no _ _ (enough (ifKind-both _ _ _ (struck-as (parse-type .ensures rules nodes)) (parse-type .ensures rules nodes)) tt) (λ e. if2 .left (kind2 .ensures ∙ e))) (λ e. if1 .left (kind .ensures ∙ e))
 
 pub extern-return-spec : {M : Type 1} → statement M
 extern-return-spec =

@@ -12,7 +12,7 @@ returns c =
     let kind = c .before .before .before .before .before .before .kind in
     let if1 = c .before .before .before .before .before .if1 in
     let supplied-void = c .before .before .supplied-void in
-    λ nodes. ifKind-yes _ _ (supplied-void .ensures _ nodes _) (sym (kind .ensures) ∙ if1 .taken)
+    λ rules nodes. ifKind-yes _ _ (supplied-void .ensures _ nodes _) (sym (kind .ensures) ∙ if1 .taken)
 
 returns-2 : tie.Need-returns-2
 unfolding returnType
@@ -20,7 +20,7 @@ returns-2 c =
     let kind = c .before .before .before .before .before .before .before .before .before .kind in
     let if1 = c .before .before .before .before .before .before .before .before .if1 in
     let parse-type = c .before .before .before .before .parse-type in
-    λ nodes. ifKind-no _ _ (enough (ifKind-both _ _ _ (struck-as (parse-type .ensures nodes)) (parse-type .ensures nodes)) tt) (λ e. if1 .left (kind .ensures ∙ e))
+    λ rules nodes. ifKind-no _ _ (enough (ifKind-both _ _ _ (struck-as (parse-type .ensures rules nodes)) (parse-type .ensures rules nodes)) tt) (λ e. if1 .left (kind .ensures ∙ e))
 
 pub fn-return-spec : {M : Type 1} → statement M
 fn-return-spec =

@@ -10,7 +10,7 @@ unfolding parseArgs
 returns c =
     let expect = c .before .before .before .before .before .before .before .before .expect in
     let typed-names = c .before .before .before .before .typed-names in
-    ((λ nodes. enough (then (expect .ensures nodes _ _) (typed-names .ensures .0 nodes)) tt), typed-names .ensures .1)
+    ((λ rules nodes. enough (then (expect .ensures nodes _ _) (typed-names .ensures .0 rules nodes)) tt), typed-names .ensures .1)
 
 pub parse-args-spec : {M : Type 1} → statement M
 parse-args-spec =

@@ -1,7 +1,7 @@
 -- `parser_types::parse_extern` meets its contract.
 use borrow.Author.Needs.{needs}
 use Rattle.ast.specs.declared.Node.the-variants as N
-use Rattle.parser_state.specs.Represents.{lowToken}
+use Rattle.tokens.specs.Table.{tokenOf}
 use Rattle.parser_state.specs.declared.Used.{Used}
 use Rattle.parser_state.proofs.Steps.{then, seq, read, enough}
 use Rattle.rules.specs.Rules.{parseExtern}
@@ -15,14 +15,14 @@ unfolding parseExtern
 returns c =
     let current2 = c .before .before .before .before .before .before .before .before .before .before .before .before .before .before .before .before .before .before .before .current2 in
     let current = c .before .before .before .before .before .before .before .before .before .before .before .before .before .before .before .before .before .before .before .before .before .before .before .current in
-    let take-docs = c .before .before .before .before .before .before .before .before .before .before .before .before .before .before .before .before .before .before .before .before .before .before .before .before .before .before .before .before .before .take-docs in
+    let take-docs = c .before .before .before .before .before .before .before .before .before .before .before .before .before .before .before .before .before .before .before .before .before .before .before .before .before .before .before .take-docs in
     let expect = c .before .before .before .before .before .before .before .before .before .before .before .before .before .before .before .before .before .before .before .before .before .expect in
     let extern-name = c .before .before .before .before .before .before .before .before .before .before .before .before .before .before .before .before .before .extern-name in
     let expect2 = c .before .before .before .before .before .before .before .before .before .before .before .before .before .before .before .expect2 in
     let extern-fns = c .before .before .before .before .before .before .before .before .before .before .before .extern-fns in
     let get-used = c .before .before .before .before .before .get-used in
     let push-node = c .before .before .push-node in
-    enough (seq _ (take-docs .ensures .0 _ _) (read _ (expect .ensures _ _ _) (current .ensures) (read _ (extern-name .ensures _ _ _) (current2 .ensures) (then (expect2 .ensures _ _ _) (seq _ (extern-fns .ensures _) (push-node .ensures _ _ _ _ 1 (omega arith) (ap (λ (u : Used). N.Extern (u .values) (lowToken (current .result)) (take-docs .result) (lowToken (current2 .result)) (extern-fns .result)) (get-used .ensures)))))))) tt
+    λ rules. enough (seq _ (take-docs .ensures .0 _ _) (read _ (expect .ensures _ _ _) (current .ensures) (read _ (extern-name .ensures _ _ _) (current2 .ensures) (then (expect2 .ensures _ _ _) (seq _ (extern-fns .ensures rules _) (push-node .ensures _ _ _ _ 1 (omega arith) (ap (λ (u : Used). N.Extern (u .values) (tokenOf (current .result)) (take-docs .result) (tokenOf (current2 .result)) (extern-fns .result)) (get-used .ensures)))))))) tt
 
 pub parse-extern-spec : {M : Type 1} → statement M
 parse-extern-spec =
@@ -37,7 +37,7 @@ parse-extern-spec =
     (λ c κs. search needs)
     (λ c κs. search needs)
     (λ c κs. search needs)
-    (λ c. omega (arith, c .before .before .push-node .kept, c .before .before .before .before .before .before .before .before .before .before .before .extern-fns .kept, c .before .before .before .before .before .before .before .before .before .before .before .before .before .before .before .before .before .before .before .before .before .before .before .before .before .before .before .before .before .take-docs .kept))
-    (λ c. omega (arith, c .before .before .push-node .kept, c .before .before .before .before .before .before .before .before .before .before .before .extern-fns .kept, c .before .before .before .before .before .before .before .before .before .before .before .before .before .before .before .before .before .before .before .before .before .before .before .before .before .before .before .before .before .take-docs .kept))
-    (λ c. omega (arith, c .before .before .push-node .kept, c .before .before .before .before .before .before .before .before .before .before .before .extern-fns .kept, c .before .before .before .before .before .before .before .before .before .before .before .before .before .before .before .before .before .before .before .before .before .before .before .before .before .before .before .before .before .take-docs .kept))
+    (λ c. omega (arith, c .before .before .push-node .kept, c .before .before .before .before .before .before .before .before .before .before .before .extern-fns .kept, c .before .before .before .before .before .before .before .before .before .before .before .before .before .before .before .before .before .before .before .before .before .before .before .before .before .before .before .take-docs .kept))
+    (λ c. omega (arith, c .before .before .push-node .kept, c .before .before .before .before .before .before .before .before .before .before .before .extern-fns .kept, c .before .before .before .before .before .before .before .before .before .before .before .before .before .before .before .before .before .before .before .before .before .before .before .before .before .before .before .take-docs .kept))
+    (λ c. omega (arith, c .before .before .push-node .kept, c .before .before .before .before .before .before .before .before .before .before .before .extern-fns .kept, c .before .before .before .before .before .before .before .before .before .before .before .before .before .before .before .before .before .before .before .before .before .before .before .before .before .before .before .take-docs .kept))
     returns)

@@ -13,13 +13,13 @@ use Rattle.lex.proofs.byte_search.skip_front.Statement.{statement}
 use Rattle.lex.proofs.byte_search.skip_front.Tie as tie
 
 abbrev Inv-loop : tie.InvT-loop
-Inv-loop set except haystack i₀ i =
+Inv-loop classes set except haystack i₀ i =
     (i ≤ 8)
     × (8 ≤ length haystack)
     × (i + countWhile (inSet set except) (drop i haystack) ≡ countWhile (inSet set except) haystack)
 
 abbrev μ-loop : tie.MeasureT-loop
-μ-loop set except haystack i₀ i = 8 - i
+μ-loop classes set except haystack i₀ i = 8 - i
 
 returns : tie.Need-returns Inv-loop μ-loop
 returns c = c .skip-set .ensures ∙ zero-add _
@@ -28,7 +28,7 @@ returns-2 : tie.Need-returns-2 Inv-loop μ-loop
 returns-2 c =
     let c4 = c .before .before .before .before in
     run-stop (inSet _ _) _ _ _ (c4 .loop .inv .2) (search needs)
-    (sym (c .before .in-set-letters-first .ensures) ∙ not-true _ (c .if2 .taken))
+    (sym (c .before .in-set-by-class .ensures) ∙ not-true _ (c .if2 .taken))
 
 loop-again : tie.Need-loop-again Inv-loop μ-loop
 loop-again c =
@@ -36,7 +36,7 @@ loop-again c =
       search needs,
       search needs,
       run-more (inSet _ _) _ _ _ (c4 .loop .inv .2) (search needs)
-          (sym (c .before .in-set-letters-first .ensures) ∙ not-false _ (c .if2 .left)),
+          (sym (c .before .in-set-by-class .ensures) ∙ not-false _ (c .if2 .left)),
     )
 
 returns-3 : tie.Need-returns-3 Inv-loop μ-loop

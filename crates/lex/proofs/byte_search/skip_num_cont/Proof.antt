@@ -11,20 +11,20 @@ use Rattle.lex.proofs.byte_search.skip_num_cont.Statement.{statement}
 use Rattle.lex.proofs.byte_search.skip_num_cont.Tie as tie
 
 abbrev Inv-loop : tie.InvT-loop
-Inv-loop haystack i₀ i = (i ≤ length haystack) × (i + countWhile isNumCont (drop i haystack) ≡ countWhile isNumCont haystack)
+Inv-loop classes haystack i₀ i = (i ≤ length haystack) × (i + countWhile isNumCont (drop i haystack) ≡ countWhile isNumCont haystack)
 
 abbrev μ-loop : tie.MeasureT-loop
-μ-loop haystack i₀ i = length haystack - i
+μ-loop classes haystack i₀ i = length haystack - i
 
 returns : tie.Need-returns Inv-loop μ-loop
 returns c =
     let c4 = c .before .before .before .before in
-    run-stop isNumCont _ _ _ (c4 .loop .inv .1) (search needs) (sym (c .before .is-num-cont .ensures) ∙ not-true _ (c .if1 .taken))
+    run-stop isNumCont _ _ _ (c4 .loop .inv .1) (search needs) (sym (c .before .continues-number .ensures) ∙ not-true _ (c .if1 .taken))
 
 loop-again : tie.Need-loop-again Inv-loop μ-loop
 loop-again c =
     let c4 = c .before .before .before .before in
-    (search needs, run-more isNumCont _ _ _ (c4 .loop .inv .1) (search needs) (sym (c .before .is-num-cont .ensures) ∙ not-false _ (c .if1 .left)))
+    (search needs, run-more isNumCont _ _ _ (c4 .loop .inv .1) (search needs) (sym (c .before .continues-number .ensures) ∙ not-false _ (c .if1 .left)))
 
 returns-2 : tie.Need-returns-2 Inv-loop μ-loop
 returns-2 c = run-end isNumCont _ _ _ (c .before .loop .inv .1) (search needs)

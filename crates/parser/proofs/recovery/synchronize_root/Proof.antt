@@ -15,10 +15,10 @@ use Rattle.parser.proofs.recovery.synchronize_root.Statement.{statement
 use Rattle.parser.proofs.recovery.synchronize_root.Tie as tie
 
 abbrev Inv-loop : tie.InvT-loop
-Inv-loop script p₀ p = (nodes types lists : List ℕ) → LoopInvariant script synchronizeStep stackUnchanged 0 (λ n. n ≡ 0) (code nodes types lists (parserOf p₀)) (code nodes types lists (parserOf p))
+Inv-loop tokens p₀ p = (nodes types lists : List ℕ) → LoopInvariant tokens synchronizeStep stackUnchanged 0 (λ n. n ≡ 0) (code nodes types lists (parserOf p₀)) (code nodes types lists (parserOf p))
 
 abbrev μ-loop : tie.MeasureT-loop
-μ-loop script p₀ p = weight script (code [] [] [] (parserOf p))
+μ-loop tokens p₀ p = weight tokens (code [] [] [] (parserOf p))
 
 loop-holds : tie.Need-loop-holds Inv-loop μ-loop
 loop-holds c = λ nodes types lists. round-start

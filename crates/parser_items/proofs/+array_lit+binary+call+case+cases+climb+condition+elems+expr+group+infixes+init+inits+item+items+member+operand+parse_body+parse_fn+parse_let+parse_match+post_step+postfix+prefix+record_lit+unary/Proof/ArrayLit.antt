@@ -30,7 +30,7 @@ pub array-lit-meets : {M : Type 1} (t : ℕ) → lts.Closed (claims t) (array-li
 array-lit-meets t = lts.spec (claims t) (array-lit-at t) array-lit.Post
     (λ c κs. search needs)  -- current-requires
     (λ c κs. search needs)  -- advance-requires
-    (λ c κs. (omega (arith, c .before .before .before .before .before .before .before .before .before .before .before .before .pre .0), search needs))  -- elems-requires
+    (λ c κs. (omega (arith, c .before .before .before .before .before .before .before .before .before .before .before .before .before .pre .0), search needs))  -- elems-requires
     (λ c κs. search needs)  -- push-token-node-requires
     (λ c. omega (arith, c .before .before .push-token-node .kept, c .before .before .before .before .before .before .before .before .before .before .before .elems .kept))  -- same-length
     (λ c. omega (arith, c .before .before .push-token-node .kept, c .before .before .before .before .before .before .before .before .before .before .before .elems .kept))  -- same-length-2

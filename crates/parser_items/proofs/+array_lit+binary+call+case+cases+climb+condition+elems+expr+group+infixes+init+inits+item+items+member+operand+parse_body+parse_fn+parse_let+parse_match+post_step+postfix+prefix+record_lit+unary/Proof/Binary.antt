@@ -31,7 +31,7 @@ binary-meets t = lts.spec (claims t) (binary-at t) binary.Post
     (λ c κs. search needs)  -- current-requires
     (λ c κs. search needs)  -- advance-requires
     (λ c. search needs)  -- add-expr
-    (λ c κs. (omega (arith, c .before .before .before .before .before .before .before .before .before .before .before .before .pre .0), search needs))  -- expr-requires
+    (λ c κs. (omega (arith, c .before .before .before .before .before .before .before .before .before .before .before .before .before .pre .0), search needs))  -- expr-requires
     (λ c κs. search needs)  -- push-token-node-requires
     (λ c. omega (arith, c .before .before .push-token-node .kept, c .before .before .before .before .before .before .before .before .before .before .before .expr .kept))  -- same-length
     (λ c. omega (arith, c .before .before .push-token-node .kept, c .before .before .before .before .before .before .before .before .before .before .before .expr .kept))  -- same-length-2

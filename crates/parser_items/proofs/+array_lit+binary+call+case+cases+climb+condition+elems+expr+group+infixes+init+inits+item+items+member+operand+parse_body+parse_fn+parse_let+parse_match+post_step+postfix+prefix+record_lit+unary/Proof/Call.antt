@@ -25,7 +25,7 @@ returns t c =
 pub call-meets : {M : Type 1} (t : ℕ) → lts.Closed (claims t) (call-at t) call.Post M
 call-meets t = lts.spec (claims t) (call-at t) call.Post
     (λ c κs. search needs)  -- advance-requires
-    (λ c κs. (omega (arith, c .before .before .before .before .before .before .before .before .before .before .pre .0), search needs))  -- items-requires
+    (λ c κs. (omega (arith, c .before .before .before .before .before .before .before .before .before .before .before .pre .0), search needs))  -- items-requires
     (λ c κs. search needs)  -- push-call-requires
     (λ c. omega (arith, c .before .before .push-call .kept, c .before .before .before .before .before .before .before .before .before .before .before .items .kept))  -- same-length
     (λ c. omega (arith, c .before .before .push-call .kept, c .before .before .before .before .before .before .before .before .before .before .before .items .kept))  -- same-length-2

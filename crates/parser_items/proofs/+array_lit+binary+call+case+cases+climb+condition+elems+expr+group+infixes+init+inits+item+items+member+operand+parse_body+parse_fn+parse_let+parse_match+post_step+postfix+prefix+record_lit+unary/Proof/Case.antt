@@ -20,8 +20,8 @@ returns : (t : ℕ) → lts.Need-returns (claims t) (case-at t) case.Post
 returns t c =
     let kind = c .before .before .before .before .before .before .before .before .before .before .before .before .before .before .kind in
     let current = c .before .before .before .before .before .before .before .before .before .before .before .current in
-    let args = c .before .before .before .before .before .before .before .before .before .before .before .before .before .before .before .before .before .before .before .before .args in
-    let pre = c .before .before .before .before .before .before .before .before .before .before .before .before .before .before .before .before .before .before .before .before .pre in
+    let args = c .before .before .before .before .before .before .before .before .before .before .before .before .before .before .before .before .before .before .before .before .before .args in
+    let pre = c .before .before .before .before .before .before .before .before .before .before .before .before .before .before .before .before .before .before .before .before .before .pre in
     let if1 = c .before .before .before .before .before .before .before .before .before .before .before .before .before .if1 in
     let parse-body = c .before .before .before .before .before .before .parse-body in
     default-again _ (args .d) (pre .1) (current .ensures) (sym (kind .ensures) ∙ if1 .taken) (parse-body .ensures)
@@ -29,8 +29,8 @@ returns t c =
 returns-2 : (t : ℕ) → lts.Need-returns-2 (claims t) (case-at t) case.Post
 returns-2 t c =
     let kind = c .before .before .before .before .before .before .before .before .before .before .before .before .before .kind in
-    let args = c .before .before .before .before .before .before .before .before .before .before .before .before .before .before .before .before .before .before .before .args in
-    let pre = c .before .before .before .before .before .before .before .before .before .before .before .before .before .before .before .before .before .before .before .pre in
+    let args = c .before .before .before .before .before .before .before .before .before .before .before .before .before .before .before .before .before .before .before .before .args in
+    let pre = c .before .before .before .before .before .before .before .before .before .before .before .before .before .before .before .before .before .before .before .before .pre in
     let if1 = c .before .before .before .before .before .before .before .before .before .before .before .before .if1 in
     let condition = c .before .before .before .before .before .before .before .condition in
     let wrapping-add-u32 = c .wrapping-add-u32 in
@@ -40,12 +40,12 @@ pub case-meets : {M : Type 1} (t : ℕ) → lts.Closed (claims t) (case-at t) ca
 case-meets t = lts.spec (claims t) (case-at t) case.Post
     (λ c κs. search needs)  -- kind-requires
     (λ c κs. search needs)  -- current-requires
-    (λ c κs. (omega (arith, c .before .before .before .before .before .before .before .before .before .before .before .before .before .pre .0), search needs))  -- parse-body-requires
+    (λ c κs. (omega (arith, c .before .before .before .before .before .before .before .before .before .before .before .before .before .before .pre .0), search needs))  -- parse-body-requires
     (λ c. search needs)  -- same-length
     (λ c. search needs)  -- same-length-2
     (λ c. search needs)  -- same-length-3
     (returns t)
-    (λ c κs. (omega (arith, c .before .before .before .before .before .before .before .before .before .before .before .pre .0), search needs))  -- condition-requires
+    (λ c κs. (omega (arith, c .before .before .before .before .before .before .before .before .before .before .before .before .pre .0), search needs))  -- condition-requires
     (λ c κs. search needs)  -- wrapping-add-u32-requires
     (λ c. search needs)  -- same-length-4
     (λ c. search needs)  -- same-length-5

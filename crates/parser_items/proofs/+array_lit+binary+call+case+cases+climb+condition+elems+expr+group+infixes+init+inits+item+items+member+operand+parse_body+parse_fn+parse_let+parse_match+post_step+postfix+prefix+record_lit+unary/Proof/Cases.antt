@@ -15,7 +15,7 @@ use Rattle.parser_state.proofs.Steps.{lists-seq}
 use Rattle.parser_state.proofs.Rounds.{LoopInvariant, round-start-at, round-again, weight}
 use Rattle.parser_state.proofs.Loops.{member-going}
 use Rattle.parser_state.specs.Represents.{parserOf, code}
-use Rattle.parser_state.specs.Refines.{deeper}
+use Rattle.parser_state.specs.Refines.{rulesOf, deeper}
 use Rattle.rules.specs.Rules.{nextCase}
 use Rattle.parser_operators.specs.Matches.{casesGrown, CasesAre, matchEnd}
 use Rattle.parser_operators.proofs.Matches.{match-end, default-none}
@@ -30,17 +30,17 @@ abbrev claims : ℕ → lts.Claims
 claims t = (get-used-reads.Asked, get-used-reads.Learnt, member-follows-reads.Asked, member-follows-reads.Learnt, case-below t, case.Post, close-reads.Asked, close-reads.Learnt, match-node-reads.Asked, match-node-reads.Learnt)
 
 abbrev Inv-loop : lts.InvT-loop
-Inv-loop script nodes₀ types₀ lists₀ p₀ t levels mark members₀ d₀ nodes types lists p members d = (length nodes ≡ length nodes₀) × (length types ≡ length types₀) × (length lists ≡ length lists₀) × LoopInvariant script (nextCase (deeper script levels)) casesGrown (record { cases = []; default = none }) (CasesAre script d members (code nodes types lists (parserOf p))) (code nodes₀ types₀ lists₀ (parserOf p₀)) (code nodes types lists (parserOf p))
+Inv-loop script tokens nodes₀ types₀ lists₀ p₀ at levels mark members₀ d₀ nodes types lists p members d = (length nodes ≡ length nodes₀) × (length types ≡ length types₀) × (length lists ≡ length lists₀) × LoopInvariant tokens (nextCase (deeper (rulesOf script) levels)) casesGrown (record { cases = []; default = none }) (CasesAre tokens d members (code nodes types lists (parserOf p))) (code nodes₀ types₀ lists₀ (parserOf p₀)) (code nodes types lists (parserOf p))
 
 abbrev μ-loop : lts.MeasureT-loop
-μ-loop script nodes₀ types₀ lists₀ p₀ t levels mark members₀ d₀ nodes types lists p members d = weight script (code nodes types lists (parserOf p))
+μ-loop script tokens nodes₀ types₀ lists₀ p₀ at levels mark members₀ d₀ nodes types lists p members d = weight tokens (code nodes types lists (parserOf p))
 
 loop-holds : (t : ℕ) → lts.Need-loop-holds (claims t) (cases-at t) cases.Post Inv-loop μ-loop
 loop-holds t c = (refl, refl, refl, round-start-at (λ R L stack m h. (sym (default-none _ refl), (refl, omega (arith, h .related .credit .records, ap length (h .related .left))))))
 
 case-requires : (t : ℕ) → lts.Need-case-requires (claims t) (cases-at t) cases.Post Inv-loop μ-loop
 case-requires t c κs =
-    let pre = c .before .before .before .before .before .before .before .before .before .before .before .before .before .before .pre in
+    let pre = c .before .before .before .before .before .before .before .before .before .before .before .before .before .before .before .pre in
     let member-follows = c .before .before .before .before .before .member-follows in
     let if1 = c .before .before .before .before .if1 in
     (omega (arith, pre .0), sym (member-follows .ensures) ∙ if1 .taken)
@@ -70,7 +70,7 @@ returns t c =
     let if1 = c .before .before .before .before .before .before .before .before .before .before .if1 in
     let close = c .before .before .before .before .before .before .before .close in
     let match-node = c .before .before .match-node in
-    match-end _ _ _ (loop .inv .3) (sym (member-follows .ensures) ∙ if1 .left) (ap (λ (u : Used). u .scratch) (get-used .ensures)) (lists-seq _ (close .ensures .0 _ _) (match-node .ensures _ _ _) (omega arith) (omega arith))
+    match-end _ _ _ (loop .inv .3) (sym (member-follows .ensures) ∙ if1 .left) (ap (λ (u : Used). u .scratch) (get-used .ensures)) (lists-seq _ (close .ensures .0 _ _) (match-node .ensures _ _) (omega arith) (omega arith))
 
 pub cases-meets : {M : Type 1} (t : ℕ) → lts.Closed (claims t) (cases-at t) cases.Post M
 cases-meets t = lts.spec (claims t) (cases-at t) cases.Post Inv-loop μ-loop

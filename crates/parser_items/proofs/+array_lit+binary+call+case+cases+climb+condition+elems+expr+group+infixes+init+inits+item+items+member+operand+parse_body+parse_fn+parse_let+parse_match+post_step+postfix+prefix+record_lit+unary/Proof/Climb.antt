@@ -1,6 +1,7 @@
 -- `climb` meets its contract.
 use borrow.Author.Needs.{needs}
 use Rattle.parser_operators.specs.Tests.{operatorNumber}
+use Rattle.parser_state.specs.Refines.{rulesOf}
 use Rattle.parser_state.specs.Represents.{parserOf}
 use native.Mathlib.Omega.{arith}
 use Prim.Native.Nat.{ℕ}
@@ -26,13 +27,13 @@ returns t c =
     let kind = c .before .before .before .before .before .before .before .before .before .before .before .before .kind in
     let if1 = c .before .before .before .before .before .before .before .before .before .before .before .if1 in
     let cast = c .before .before .before .before .before .before .cast in
-    ifKind-yes _ _ (cast .ensures) (sym (kind .ensures) ∙ if1 .taken)
+    ifKind-yes _ _ (cast .ensures (rulesOf (c .before .before .before .before .before .before .before .before .before .before .before .before .before .before .before .before .before .before .before .args .script .now))) (sym (kind .ensures) ∙ if1 .taken)
 
 returns-2 : (t : ℕ) → lts.Need-returns-2 (claims t) (climb-at t) climb.Post
 returns-2 t c =
     let kind = c .before .before .before .kind in
-    let args = c .before .before .before .before .before .before .before .before .before .args in
-    let pre = c .before .before .before .before .before .before .before .before .before .pre in
+    let args = c .before .before .before .before .before .before .before .before .before .before .args in
+    let pre = c .before .before .before .before .before .before .before .before .before .before .pre in
     let if1 = c .before .before .if1 in
     let operator = c .before .operator in
     let if2 = c .if2 in
@@ -41,7 +42,7 @@ returns-2 t c =
 binary-requires : (t : ℕ) → lts.Need-binary-requires (claims t) (climb-at t) climb.Post
 binary-requires t c κs =
     let kind = c .before .before .before .before .before .before .before .before .kind in
-    let pre = c .before .before .before .before .before .before .before .before .before .before .before .before .before .before .pre in
+    let pre = c .before .before .before .before .before .before .before .before .before .before .before .before .before .before .before .pre in
     let operator = c .before .before .before .before .before .before .operator in
     let if2 = c .before .before .before .before .before .if2 in
     (omega (arith, pre .0), (infix-kind _ (operator .ensures ∙ ap operatorNumber (kind .ensures)) (if2 .left), left-below (if2 .left) (c .left-power .ensures)))
@@ -49,13 +50,13 @@ binary-requires t c κs =
 returns-3 : (t : ℕ) → lts.Need-returns-3 (claims t) (climb-at t) climb.Post
 returns-3 t c =
     let kind = c .before .before .before .before .before .before .before .before .before .before .before .before .before .before .before .kind in
-    let pre = c .before .before .before .before .before .before .before .before .before .before .before .before .before .before .before .before .before .before .before .before .before .pre in
+    let pre = c .before .before .before .before .before .before .before .before .before .before .before .before .before .before .before .before .before .before .before .before .before .before .pre in
     let if1 = c .before .before .before .before .before .before .before .before .before .before .before .before .before .before .if1 in
     let operator = c .before .before .before .before .before .before .before .before .before .before .before .before .before .operator in
     let if2 = c .before .before .before .before .before .before .before .before .before .before .before .before .if2 in
     let left-power = c .before .before .before .before .before .before .before .left-power in
     let binary = c .before .before .before .before .before .before .binary in
-    infix-sign _ _ _ _ (pre .1) (λ e. if1 .left (kind .ensures ∙ e)) (left-is _ (operator .ensures ∙ ap operatorNumber (kind .ensures)) (if2 .left) (left-power .ensures)) (binary .ensures)
+    infix-sign _ _ _ _ _ (pre .1) (λ e. if1 .left (kind .ensures ∙ e)) (left-is _ (operator .ensures ∙ ap operatorNumber (kind .ensures)) (if2 .left) (left-power .ensures)) (binary .ensures)
 
 pub climb-meets : {M : Type 1} (t : ℕ) → lts.Closed (claims t) (climb-at t) climb.Post M
 climb-meets t = lts.spec (claims t) (climb-at t) climb.Post

@@ -27,8 +27,8 @@ returns t c =
 pub condition-meets : {M : Type 1} (t : ℕ) → lts.Closed (claims t) (condition-at t) condition.Post M
 condition-meets t = lts.spec (claims t) (condition-at t) condition.Post
     (λ c κs. search needs)  -- current-requires
-    (λ c κs. (omega (arith, c .before .before .before .before .before .before .before .before .before .before .pre .0), search needs))  -- expr-requires
-    (λ c κs. (omega (arith, c .before .before .before .before .before .before .before .before .before .before .before .before .before .before .before .before .before .before .before .before .before .pre .0), search needs))  -- parse-body-requires
+    (λ c κs. (omega (arith, c .before .before .before .before .before .before .before .before .before .before .before .pre .0), search needs))  -- expr-requires
+    (λ c κs. (omega (arith, c .before .before .before .before .before .before .before .before .before .before .before .before .before .before .before .before .before .before .before .before .before .before .pre .0), search needs))  -- parse-body-requires
     (λ c κs. search needs)  -- push-case-requires
     (λ c. omega (arith, c .before .before .push-case .kept, c .before .before .before .before .before .before .before .before .before .before .before .parse-body .kept, c .before .before .before .before .before .before .before .before .before .before .before .before .before .before .before .before .before .before .before .before .before .before .expr .kept))  -- same-length
     (λ c. omega (arith, c .before .before .push-case .kept, c .before .before .before .before .before .before .before .before .before .before .before .parse-body .kept, c .before .before .before .before .before .before .before .before .before .before .before .before .before .before .before .before .before .before .before .before .before .before .expr .kept))  -- same-length-2

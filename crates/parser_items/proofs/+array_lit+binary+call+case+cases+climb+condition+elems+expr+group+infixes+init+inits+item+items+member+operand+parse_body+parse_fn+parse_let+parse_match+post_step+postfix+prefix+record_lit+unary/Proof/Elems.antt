@@ -15,7 +15,7 @@ use Rattle.parser_items.proofs.+array_lit+binary+call+case+cases+climb+
 use Rattle.parser_state.proofs.Loops.{MembersInvariant, midway-start, midway-turn, midway-end, falls}
 use Rattle.parser_state.proofs.Rounds.{weight}
 use Rattle.parser_state.specs.Represents.{parserOf, code}
-use Rattle.parser_state.specs.Refines.{deeper}
+use Rattle.parser_state.specs.Refines.{rulesOf, deeper}
 use mathlib.Core.Path.{_≡_, refl, sym, _∙_, ap}
 use lib.ListN.{length}
 use Rattle.parser_state.proofs.Steps.{seq, enough}
@@ -29,10 +29,10 @@ abbrev claims : ℕ → lts.Claims
 claims t = (get-used-reads.Asked, get-used-reads.Learnt, member-follows-reads.Asked, member-follows-reads.Learnt, expr-below t, expr.Post, push-cell-reads.Asked, push-cell-reads.Learnt, wrapping-add-u32-reads.Asked, wrapping-add-u32-reads.Learnt, close-reads.Asked, close-reads.Learnt)
 
 abbrev Inv-loop : lts.InvT-loop
-Inv-loop script nodes₀ types₀ lists₀ p₀ levels mark members₀ nodes types lists p members = (length nodes ≡ length nodes₀) × (length types ≡ length types₀) × (length lists ≡ length lists₀) × MembersInvariant script kBraketRight (nodeMember (deeper script levels .expr 0)) (code nodes₀ types₀ lists₀ (parserOf p₀)) (code nodes types lists (parserOf p)) members
+Inv-loop script tokens nodes₀ types₀ lists₀ p₀ levels mark members₀ nodes types lists p members = (length nodes ≡ length nodes₀) × (length types ≡ length types₀) × (length lists ≡ length lists₀) × MembersInvariant tokens kBraketRight (nodeMember (deeper (rulesOf script) levels .expr 0)) (code nodes₀ types₀ lists₀ (parserOf p₀)) (code nodes types lists (parserOf p)) members
 
 abbrev μ-loop : lts.MeasureT-loop
-μ-loop script nodes₀ types₀ lists₀ p₀ levels mark members₀ nodes types lists p members = weight script (code nodes types lists (parserOf p))
+μ-loop script tokens nodes₀ types₀ lists₀ p₀ levels mark members₀ nodes types lists p members = weight tokens (code nodes types lists (parserOf p))
 
 loop-holds : (t : ℕ) → lts.Need-loop-holds (claims t) (elems-at t) elems.Post Inv-loop μ-loop
 loop-holds t c = (refl, refl, refl, midway-start)
@@ -71,7 +71,7 @@ elems-meets t = lts.spec (claims t) (elems-at t) elems.Post Inv-loop μ-loop
     (λ c κs. search needs)  -- get-used-requires
     (loop-holds t)
     (λ c κs. search needs)  -- member-follows-requires
-    (λ c κs. (omega (arith, c .before .before .before .before .before .before .before .before .before .before .before .before .before .before .pre .0), search needs))  -- expr-requires
+    (λ c κs. (omega (arith, c .before .before .before .before .before .before .before .before .before .before .before .before .before .before .before .pre .0), search needs))  -- expr-requires
     (λ c κs. search needs)  -- push-cell-requires
     (λ c κs. search needs)  -- wrapping-add-u32-requires
     (loop-less t)

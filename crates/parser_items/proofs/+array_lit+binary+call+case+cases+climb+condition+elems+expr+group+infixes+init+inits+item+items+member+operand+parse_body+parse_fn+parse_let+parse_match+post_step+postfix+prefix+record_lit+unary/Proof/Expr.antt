@@ -2,6 +2,7 @@
 use borrow.Author.Needs.{needs}
 use native.Mathlib.Omega.{arith}
 use Prim.Native.Nat.{ℕ}
+use Rattle.parser_state.specs.Refines.{rulesOf}
 use Rattle.parser_items.proofs.expr.Reads as expr
 use Rattle.parser_state.proofs.fail_expecting.Reads as fail-expecting-reads
 use Rattle.parser_items.proofs.operand.Reads as operand
@@ -20,7 +21,7 @@ returns : (t : ℕ) → lts.Need-returns (claims t) (expr-at t) expr.Post
 returns t c =
     let if1 = c .before .before .if1 in
     let fail-expecting = c .fail-expecting in
-    expr-deep _ _ (if1 .taken) (fail-expecting .ensures _ _ _ _)
+    expr-deep (rulesOf (c .before .before .before .before .before .before .before .before .args .script .now)) _ _ (if1 .taken) (fail-expecting .ensures _ _ _ _)
 
 returns-2 : (t : ℕ) → lts.Need-returns-2 (claims t) (expr-at t) expr.Post
 unfolding parseExpr
@@ -29,18 +30,18 @@ returns-2 t c =
     let operand = c .before .before .before .before .before .before .before .before .before .before .before .before .before .before .before .before .before .before .before .before .before .before .before .before .before .before .before .before .operand in
     let postfix = c .before .before .before .before .before .before .before .before .before .before .before .before .before .before .before .before .before .postfix in
     let infixes = c .before .before .before .before .before .before .infixes in
-    expr-by _ _ (if1 .left) (enough (seq _ (operand .ensures) (seq _ (postfix .ensures) (infixes .ensures))) tt)
+    expr-by (rulesOf (c .before .before .before .before .before .before .before .before .before .before .before .before .before .before .before .before .before .before .before .before .before .before .before .before .before .before .before .before .before .before .before .before .before .before .before .before .before .before .before .args .script .now)) _ _ (if1 .left) (enough (seq _ (operand .ensures) (seq _ (postfix .ensures) (infixes .ensures))) tt)
 
 pub expr-meets : {M : Type 1} (t : ℕ) → lts.Closed (claims t) (expr-at t) expr.Post M
 expr-meets t = lts.spec (claims t) (expr-at t) expr.Post
     (λ c κs. search needs)  -- fail-expecting-requires
     (returns t)
     (λ c. omega (arith, c .before .before .before .before .if1 .left))  -- sub-operand
-    (λ c κs. (omega (arith, c .before .before .before .before .before .before .before .before .before .pre .0, c .before .before .before .before .if1 .left), search needs))  -- operand-requires
+    (λ c κs. (omega (arith, c .before .before .before .before .before .before .before .before .before .before .pre .0, c .before .before .before .before .if1 .left), search needs))  -- operand-requires
     (λ c. omega (arith, c .before .before .before .before .before .before .before .before .before .before .before .before .before .before .before .if1 .left))  -- sub-postfix
-    (λ c κs. (omega (arith, c .before .before .before .before .before .before .before .before .before .before .before .before .before .before .before .before .before .before .before .before .pre .0, c .before .before .before .before .before .before .before .before .before .before .before .before .before .before .before .if1 .left), search needs))  -- postfix-requires
+    (λ c κs. (omega (arith, c .before .before .before .before .before .before .before .before .before .before .before .before .before .before .before .before .before .before .before .before .before .pre .0, c .before .before .before .before .before .before .before .before .before .before .before .before .before .before .before .if1 .left), search needs))  -- postfix-requires
     (λ c. omega (arith, c .before .before .before .before .before .before .before .before .before .before .before .before .before .before .before .before .before .before .before .before .before .before .before .before .before .before .if1 .left))  -- sub-infixes
-    (λ c κs. (omega (arith, c .before .before .before .before .before .before .before .before .before .before .before .before .before .before .before .before .before .before .before .before .before .before .before .before .before .before .before .before .before .before .before .pre .0, c .before .before .before .before .before .before .before .before .before .before .before .before .before .before .before .before .before .before .before .before .before .before .before .before .before .before .if1 .left), search needs))  -- infixes-requires
+    (λ c κs. (omega (arith, c .before .before .before .before .before .before .before .before .before .before .before .before .before .before .before .before .before .before .before .before .before .before .before .before .before .before .before .before .before .before .before .before .pre .0, c .before .before .before .before .before .before .before .before .before .before .before .before .before .before .before .before .before .before .before .before .before .before .before .before .before .before .if1 .left), search needs))  -- infixes-requires
     (λ c. omega (arith, c .before .before .before .before .before .before .infixes .kept, c .before .before .before .before .before .before .before .before .before .before .before .before .before .before .before .before .before .postfix .kept, c .before .before .before .before .before .before .before .before .before .before .before .before .before .before .before .before .before .before .before .before .before .before .before .before .before .before .before .before .operand .kept))  -- same-length
     (λ c. omega (arith, c .before .before .before .before .before .before .infixes .kept, c .before .before .before .before .before .before .before .before .before .before .before .before .before .before .before .before .before .postfix .kept, c .before .before .before .before .before .before .before .before .before .before .before .before .before .before .before .before .before .before .before .before .before .before .before .before .before .before .before .before .operand .kept))  -- same-length-2
     (λ c. omega (arith, c .before .before .before .before .before .before .infixes .kept, c .before .before .before .before .before .before .before .before .before .before .before .before .before .before .before .before .before .postfix .kept, c .before .before .before .before .before .before .before .before .before .before .before .before .before .before .before .before .before .before .before .before .before .before .before .before .before .before .before .before .operand .kept))  -- same-length-3

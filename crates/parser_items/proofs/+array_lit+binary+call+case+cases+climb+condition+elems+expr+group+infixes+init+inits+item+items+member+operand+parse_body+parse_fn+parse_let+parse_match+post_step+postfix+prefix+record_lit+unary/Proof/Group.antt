@@ -26,7 +26,7 @@ returns t c =
 pub group-meets : {M : Type 1} (t : ℕ) → lts.Closed (claims t) (group-at t) group.Post M
 group-meets t = lts.spec (claims t) (group-at t) group.Post
     (λ c κs. search needs)  -- advance-requires
-    (λ c κs. (omega (arith, c .before .before .before .before .before .before .before .before .before .before .pre .0), search needs))  -- expr-requires
+    (λ c κs. (omega (arith, c .before .before .before .before .before .before .before .before .before .before .before .pre .0), search needs))  -- expr-requires
     (λ c κs. search needs)  -- expect-requires
     (λ c. search needs)  -- same-length
     (λ c. search needs)  -- same-length-2

@@ -10,7 +10,7 @@ use Rattle.parser_items.proofs.+array_lit+binary+call+case+cases+climb+
 use Rattle.rules.specs.Rules.{infixes, infixStep, stageOne}
 use Rattle.parser_state.proofs.Rounds.{LoopInvariant, round-start, round-again, round-out, again-of, weight, lighter}
 use Rattle.parser_state.specs.Represents.{parserOf, code}
-use Rattle.parser_state.specs.Refines.{stackUnchanged, deeper}
+use Rattle.parser_state.specs.Refines.{stackUnchanged, rulesOf, deeper}
 use Rattle.parser_operators.proofs.Exprs.{infix-on, infix-out}
 use Rattle.parser_items.proofs.Levels.{out-at}
 use mathlib.Core.Path.{_≡_, refl, sym, _∙_}
@@ -20,24 +20,24 @@ abbrev claims : ℕ → lts.Claims
 claims t = (infix-follows-reads.Asked, infix-follows-reads.Learnt, climb-below t, climb.Post)
 
 abbrev Inv-loop : lts.InvT-loop
-Inv-loop script nodes₀ types₀ lists₀ p₀ least levels x₀ nodes types lists p x = (length nodes ≡ length nodes₀) × (length types ≡ length types₀) × (length lists ≡ length lists₀) × LoopInvariant script (infixStep (deeper script levels) stageOne script least) stackUnchanged x₀ (λ a. a ≡ x) (code nodes₀ types₀ lists₀ (parserOf p₀)) (code nodes types lists (parserOf p))
+Inv-loop script tokens nodes₀ types₀ lists₀ p₀ least levels x₀ nodes types lists p x = (length nodes ≡ length nodes₀) × (length types ≡ length types₀) × (length lists ≡ length lists₀) × LoopInvariant tokens (infixStep (deeper (rulesOf script) levels) stageOne script least) stackUnchanged x₀ (λ a. a ≡ x) (code nodes₀ types₀ lists₀ (parserOf p₀)) (code nodes types lists (parserOf p))
 
 abbrev μ-loop : lts.MeasureT-loop
-μ-loop script nodes₀ types₀ lists₀ p₀ least levels x₀ nodes types lists p x = weight script (code nodes types lists (parserOf p))
+μ-loop script tokens nodes₀ types₀ lists₀ p₀ least levels x₀ nodes types lists p x = weight tokens (code nodes types lists (parserOf p))
 
 loop-holds : (t : ℕ) → lts.Need-loop-holds (claims t) (infixes-at t) infixes.Post Inv-loop μ-loop
 loop-holds t c = (refl, refl, refl, round-start)
 
 climb-requires : (t : ℕ) → lts.Need-climb-requires (claims t) (infixes-at t) infixes.Post Inv-loop μ-loop
 climb-requires t c κs =
-    let pre = c .before .before .before .before .before .before .before .before .before .before .before .before .pre in
+    let pre = c .before .before .before .before .before .before .before .before .before .before .before .before .before .pre in
     let infix-follows = c .before .before .before .before .before .infix-follows in
     let if1 = c .before .before .before .before .if1 in
     (omega (arith, pre .0), sym (infix-follows .ensures) ∙ if1 .taken)
 
 loop-less : (t : ℕ) → lts.Need-loop-less (claims t) (infixes-at t) infixes.Post Inv-loop μ-loop
 loop-less t c =
-    let args = c .before .before .before .before .before .before .before .before .before .before .before .before .before .before .before .before .before .before .before .args in
+    let args = c .before .before .before .before .before .before .before .before .before .before .before .before .before .before .before .before .before .before .before .before .args in
     let loop = c .before .before .before .before .before .before .before .before .before .before .before .before .before .before .loop in
     let infix-follows = c .before .before .before .before .before .before .before .before .before .before .before .before .infix-follows in
     let if1 = c .before .before .before .before .before .before .before .before .before .before .before .if1 in
@@ -46,7 +46,7 @@ loop-less t c =
 
 loop-again : (t : ℕ) → lts.Need-loop-again (claims t) (infixes-at t) infixes.Post Inv-loop μ-loop
 loop-again t c =
-    let args = c .before .before .before .before .before .before .before .before .before .before .before .before .before .before .before .before .before .before .before .args in
+    let args = c .before .before .before .before .before .before .before .before .before .before .before .before .before .before .before .before .before .before .before .before .args in
     let loop = c .before .before .before .before .before .before .before .before .before .before .before .before .before .before .loop in
     let infix-follows = c .before .before .before .before .before .before .before .before .before .before .before .before .infix-follows in
     let if1 = c .before .before .before .before .before .before .before .before .before .before .before .if1 in
@@ -56,11 +56,11 @@ loop-again t c =
 returns : (t : ℕ) → lts.Need-returns (claims t) (infixes-at t) infixes.Post Inv-loop μ-loop
 unfolding infixes
 returns t c =
-    let args = c .before .before .before .before .before .before .before .before .args in
+    let args = c .before .before .before .before .before .before .before .before .before .args in
     let loop = c .before .before .before .loop in
     let infix-follows = c .before .infix-follows in
     let if1 = c .if1 in
-    round-out (loop .inv .3) (λ stack. refl) (λ R L stack a m e h. out-at (infixStep (deeper (args .script .now) (args .levels)) stageOne (args .script .now) (args .least)) e (infix-out (deeper (args .script .now) (args .levels)) (args .least) (loop .x) (sym (infix-follows .ensures) ∙ if1 .left) R L stack m h))
+    round-out (loop .inv .3) (λ stack. refl) (λ R L stack a m e h. out-at (infixStep (deeper (rulesOf (args .script .now)) (args .levels)) stageOne (args .script .now) (args .least)) e (infix-out (deeper (rulesOf (args .script .now)) (args .levels)) (args .script .now) (args .least) (loop .x) (sym (infix-follows .ensures) ∙ if1 .left) R L stack m h))
 
 pub infixes-meets : {M : Type 1} (t : ℕ) → lts.Closed (claims t) (infixes-at t) infixes.Post M
 infixes-meets t = lts.spec (claims t) (infixes-at t) infixes.Post Inv-loop μ-loop

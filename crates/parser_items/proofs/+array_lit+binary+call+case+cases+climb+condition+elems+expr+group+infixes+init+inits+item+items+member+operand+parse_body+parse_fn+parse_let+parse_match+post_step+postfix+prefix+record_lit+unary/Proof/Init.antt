@@ -31,7 +31,7 @@ init-meets t = lts.spec (claims t) (init-at t) init.Post
     (λ c κs. search needs)  -- current-requires
     (λ c κs. search needs)  -- expect-ident-requires
     (λ c κs. search needs)  -- expect-requires
-    (λ c κs. (omega (arith, c .before .before .before .before .before .before .before .before .before .before .before .before .before .before .pre .0), search needs))  -- expr-requires
+    (λ c κs. (omega (arith, c .before .before .before .before .before .before .before .before .before .before .before .before .before .before .before .pre .0), search needs))  -- expr-requires
     (λ c κs. search needs)  -- push-named-requires
     (λ c. omega (arith, c .before .before .push-named .kept, c .before .before .before .before .before .before .before .before .before .before .before .expr .kept))  -- same-length
     (λ c. omega (arith, c .before .before .push-named .kept, c .before .before .before .before .before .before .before .before .before .before .before .expr .kept))  -- same-length-2

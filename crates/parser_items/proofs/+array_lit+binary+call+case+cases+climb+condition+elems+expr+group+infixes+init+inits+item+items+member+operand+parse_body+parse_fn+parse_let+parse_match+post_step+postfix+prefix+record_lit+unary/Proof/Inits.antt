@@ -14,7 +14,7 @@ use Rattle.parser_items.proofs.+array_lit+binary+call+case+cases+climb+
 use Rattle.parser_state.proofs.Loops.{MembersInvariant, midway-start, midway-turn, midway-end, falls}
 use Rattle.parser_state.proofs.Rounds.{weight}
 use Rattle.parser_state.specs.Represents.{parserOf, code}
-use Rattle.parser_state.specs.Refines.{deeper}
+use Rattle.parser_state.specs.Refines.{rulesOf, deeper}
 use mathlib.Core.Path.{_≡_, refl, sym, _∙_, ap}
 use lib.ListN.{length}
 use Rattle.rules.specs.Rules.{field}
@@ -24,10 +24,10 @@ abbrev claims : ℕ → lts.Claims
 claims t = (get-used-reads.Asked, get-used-reads.Learnt, member-follows-reads.Asked, member-follows-reads.Learnt, init-below t, init.Post, wrapping-add-u32-reads.Asked, wrapping-add-u32-reads.Learnt, close-reads.Asked, close-reads.Learnt)
 
 abbrev Inv-loop : lts.InvT-loop
-Inv-loop script nodes₀ types₀ lists₀ p₀ levels mark members₀ nodes types lists p members = (length nodes ≡ length nodes₀) × (length types ≡ length types₀) × (length lists ≡ length lists₀) × MembersInvariant script kCurlyRight (field (deeper script levels)) (code nodes₀ types₀ lists₀ (parserOf p₀)) (code nodes types lists (parserOf p)) members
+Inv-loop script tokens nodes₀ types₀ lists₀ p₀ levels mark members₀ nodes types lists p members = (length nodes ≡ length nodes₀) × (length types ≡ length types₀) × (length lists ≡ length lists₀) × MembersInvariant tokens kCurlyRight (field (deeper (rulesOf script) levels)) (code nodes₀ types₀ lists₀ (parserOf p₀)) (code nodes types lists (parserOf p)) members
 
 abbrev μ-loop : lts.MeasureT-loop
-μ-loop script nodes₀ types₀ lists₀ p₀ levels mark members₀ nodes types lists p members = weight script (code nodes types lists (parserOf p))
+μ-loop script tokens nodes₀ types₀ lists₀ p₀ levels mark members₀ nodes types lists p members = weight tokens (code nodes types lists (parserOf p))
 
 loop-holds : (t : ℕ) → lts.Need-loop-holds (claims t) (inits-at t) inits.Post Inv-loop μ-loop
 loop-holds t c = (refl, refl, refl, midway-start)
@@ -62,7 +62,7 @@ inits-meets t = lts.spec (claims t) (inits-at t) inits.Post Inv-loop μ-loop
     (λ c κs. search needs)  -- get-used-requires
     (loop-holds t)
     (λ c κs. search needs)  -- member-follows-requires
-    (λ c κs. (omega (arith, c .before .before .before .before .before .before .before .before .before .before .before .before .before .before .pre .0), search needs))  -- init-requires
+    (λ c κs. (omega (arith, c .before .before .before .before .before .before .before .before .before .before .before .before .before .before .before .pre .0), search needs))  -- init-requires
     (λ c κs. search needs)  -- wrapping-add-u32-requires
     (loop-less t)
     (loop-again t)

@@ -2,6 +2,7 @@
 use borrow.Author.Needs.{needs}
 use native.Mathlib.Omega.{arith}
 use Prim.Native.Nat.{ℕ}
+use Rattle.parser_state.specs.Refines.{rulesOf}
 use Rattle.parser_items.proofs.item.Reads as item
 use Rattle.parser_state.proofs.kind.Reads as kind-reads
 use Rattle.parser_types.proofs.parse_import.Reads as parse-import-reads
@@ -53,7 +54,7 @@ returns-4 t c =
     let if3 = c .before .before .before .before .before .before .before .before .before .before .before .before .if3 in
     let if4 = c .before .before .before .before .before .before .before .before .before .before .before .if4 in
     let parse-extern = c .before .before .before .before .before .before .parse-extern in
-    at-kind _ (kind .result) (entry-past _ _ _ (if1 .left) (entry-past _ _ _ (if2 .left) (entry-past _ _ _ (if3 .left) (entry-here _ _ _ (if4 .taken) (parse-extern .ensures))))) (sym (kind .ensures))
+    at-kind _ (kind .result) (entry-past _ _ _ (if1 .left) (entry-past _ _ _ (if2 .left) (entry-past _ _ _ (if3 .left) (entry-here _ _ _ (if4 .taken) (parse-extern .ensures (rulesOf (c .before .before .before .before .before .before .before .before .before .before .before .before .before .before .before .before .before .before .before .before .before .before .args .script .now))))))) (sym (kind .ensures))
 
 returns-5 : (t : ℕ) → lts.Need-returns-5 (claims t) (item-at t) item.Post
 returns-5 t c =
@@ -88,12 +89,12 @@ item-meets t = lts.spec (claims t) (item-at t) item.Post
     (λ c. search needs)  -- same-length
     (λ c. search needs)  -- same-length-2
     (returns t)
-    (λ c κs. (omega (arith, c .before .before .before .before .before .before .before .before .before .before .before .before .pre .0), search needs))  -- parse-let-requires
+    (λ c κs. (omega (arith, c .before .before .before .before .before .before .before .before .before .before .before .before .before .pre .0), search needs))  -- parse-let-requires
     (λ c. search needs)  -- same-length-3
     (λ c. search needs)  -- same-length-4
     (λ c. search needs)  -- same-length-5
     (returns-2 t)
-    (λ c κs. (omega (arith, c .before .before .before .before .before .before .before .before .before .before .before .before .before .pre .0), search needs))  -- parse-fn-requires
+    (λ c κs. (omega (arith, c .before .before .before .before .before .before .before .before .before .before .before .before .before .before .pre .0), search needs))  -- parse-fn-requires
     (λ c. search needs)  -- same-length-6
     (λ c. search needs)  -- same-length-7
     (λ c. search needs)  -- same-length-8
@@ -105,12 +106,12 @@ item-meets t = lts.spec (claims t) (item-at t) item.Post
     (returns-4 t)
     (λ c κs. search needs)  -- require-no-docs-requires
     (λ c κs. search needs)  -- kind-requires-2
-    (λ c κs. (omega (arith, c .before .before .before .before .before .before .before .before .before .before .before .before .before .before .before .before .before .before .before .before .pre .0), search needs))  -- parse-match-requires
+    (λ c κs. (omega (arith, c .before .before .before .before .before .before .before .before .before .before .before .before .before .before .before .before .before .before .before .before .before .pre .0), search needs))  -- parse-match-requires
     (λ c. search needs)  -- same-length-12
     (λ c. search needs)  -- same-length-13
     (λ c. search needs)  -- same-length-14
     (returns-5 t)
-    (λ c κs. (omega (arith, c .before .before .before .before .before .before .before .before .before .before .before .before .before .before .before .before .before .before .before .before .pre .0), search needs))  -- expr-requires
+    (λ c κs. (omega (arith, c .before .before .before .before .before .before .before .before .before .before .before .before .before .before .before .before .before .before .before .before .before .pre .0), search needs))  -- expr-requires
     (λ c. search needs)  -- same-length-15
     (λ c. search needs)  -- same-length-16
     (λ c. search needs)  -- same-length-17

@@ -1,4 +1,5 @@
 -- `member` meets its contract.
+use Rattle.parser_state.specs.Refines.{rulesOf}
 use borrow.Author.Needs.{needs}
 use Prim.Native.Nat.{ℕ}
 use Rattle.parser_items.proofs.member.Reads as member
@@ -19,7 +20,7 @@ returns t c =
     let begins-expr = c .before .before .before .before .before .before .before .before .before .before .before .before .begins-expr in
     let if2 = c .before .before .before .before .before .before .before .before .before .before .before .if2 in
     let expr = c .before .before .before .before .before .before .expr in
-    prefix-by _ (if1 .taken) (prefix-expr _ (sym (begins-expr .ensures) ∙ if2 .taken) (expr .ensures))
+    prefix-by (rulesOf (c .before .before .before .before .before .before .before .before .before .before .before .before .before .before .before .before .before .before .before .before .args .script .now)) _ (if1 .taken) (prefix-expr _ (sym (begins-expr .ensures) ∙ if2 .taken) (expr .ensures))
 
 returns-2 : (t : ℕ) → lts.Need-returns-2 (claims t) (member-at t) member.Post
 returns-2 t c = c .before .before .before .before .before .before .prefix .ensures

@@ -27,7 +27,7 @@ claims t = (kind-reads.Asked, kind-reads.Learnt, operand-class-reads.Asked, oper
 record-lit-requires : (t : ℕ) → lts.Need-record-lit-requires (claims t) (operand-at t) operand.Post
 record-lit-requires t c κs =
     let kind = c .before .before .before .before .before .before .kind in
-    let pre = c .before .before .before .before .before .before .before .before .before .before .before .before .pre in
+    let pre = c .before .before .before .before .before .before .before .before .before .before .before .before .before .pre in
     let operand-class = c .before .before .before .before .before .operand-class in
     let if1 = c .before .before .before .before .if1 in
     (omega (arith, pre .0), operand-kind _ (operand-class .ensures ∙ ap operandClass (kind .ensures)) (λ z. omega (arith, if1 .taken)))
@@ -44,7 +44,7 @@ returns t c =
 array-lit-requires : (t : ℕ) → lts.Need-array-lit-requires (claims t) (operand-at t) operand.Post
 array-lit-requires t c κs =
     let kind = c .before .before .before .before .before .before .before .kind in
-    let pre = c .before .before .before .before .before .before .before .before .before .before .before .before .before .pre in
+    let pre = c .before .before .before .before .before .before .before .before .before .before .before .before .before .before .pre in
     let operand-class = c .before .before .before .before .before .before .operand-class in
     let if2 = c .before .before .before .before .if2 in
     (omega (arith, pre .0), operand-kind _ (operand-class .ensures ∙ ap operandClass (kind .ensures)) (λ z. omega (arith, if2 .taken)))
@@ -99,7 +99,7 @@ returns-4 t c =
 group-requires : (t : ℕ) → lts.Need-group-requires (claims t) (operand-at t) operand.Post
 group-requires t c κs =
     let kind = c .before .before .before .before .before .before .before .before .before .before .kind in
-    let pre = c .before .before .before .before .before .before .before .before .before .before .before .before .before .before .before .before .pre in
+    let pre = c .before .before .before .before .before .before .before .before .before .before .before .before .before .before .before .before .before .pre in
     let operand-class = c .before .before .before .before .before .before .before .before .before .operand-class in
     let if5 = c .before .before .before .before .if5 in
     (omega (arith, pre .0), operand-kind _ (operand-class .ensures ∙ ap operandClass (kind .ensures)) (λ z. omega (arith, if5 .taken)))
@@ -120,7 +120,7 @@ returns-5 t c =
 unary-requires : (t : ℕ) → lts.Need-unary-requires (claims t) (operand-at t) operand.Post
 unary-requires t c κs =
     let kind = c .before .before .before .before .before .before .before .before .before .before .before .kind in
-    let pre = c .before .before .before .before .before .before .before .before .before .before .before .before .before .before .before .before .before .pre in
+    let pre = c .before .before .before .before .before .before .before .before .before .before .before .before .before .before .before .before .before .before .pre in
     let operand-class = c .before .before .before .before .before .before .before .before .before .before .operand-class in
     let if6 = c .before .before .before .before .if6 in
     (omega (arith, pre .0), operand-kind _ (operand-class .ensures ∙ ap operandClass (kind .ensures)) (λ z. omega (arith, if6 .taken)))

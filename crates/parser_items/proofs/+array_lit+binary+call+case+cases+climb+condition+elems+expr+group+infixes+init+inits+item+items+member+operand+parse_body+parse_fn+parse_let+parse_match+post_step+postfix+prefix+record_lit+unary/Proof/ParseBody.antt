@@ -23,7 +23,7 @@ returns t c =
 pub parse-body-meets : {M : Type 1} (t : ℕ) → lts.Closed (claims t) (parse-body-at t) parse-body.Post M
 parse-body-meets t = lts.spec (claims t) (parse-body-at t) parse-body.Post
     (λ c κs. search needs)  -- expect-requires
-    (λ c κs. (omega (arith, c .before .before .before .before .before .before .before .before .before .before .pre .0), search needs))  -- items-requires
+    (λ c κs. (omega (arith, c .before .before .before .before .before .before .before .before .before .before .before .pre .0), search needs))  -- items-requires
     (λ c. search needs)  -- same-length
     (λ c. search needs)  -- same-length-2
     (λ c. search needs)  -- same-length-3

@@ -21,7 +21,7 @@ returns : (t : ℕ) → lts.Need-returns (claims t) (parse-let-at t) parse-let.P
 unfolding parseLet
 returns t c =
     let current = c .before .before .before .before .before .before .before .before .before .before .before .before .before .before .before .before .before .before .before .before .current in
-    let take-docs = c .before .before .before .before .before .before .before .before .before .before .before .before .before .before .before .before .before .before .before .before .before .before .before .before .before .before .before .before .take-docs in
+    let take-docs = c .before .before .before .before .before .before .before .before .before .before .before .before .before .before .before .before .before .before .before .before .before .before .before .before .before .before .take-docs in
     let expect = c .before .before .before .before .before .before .before .before .before .before .before .before .before .before .before .before .before .before .before .before .before .before .expect in
     let expect-ident = c .before .before .before .before .before .before .before .before .before .before .before .before .before .before .before .before .before .before .expect-ident in
     let expect2 = c .before .before .before .before .before .before .before .before .before .before .before .before .before .before .before .before .expect2 in
@@ -36,9 +36,9 @@ parse-let-meets t = lts.spec (claims t) (parse-let-at t) parse-let.Post
     (λ c κs. search needs)  -- current-requires
     (λ c κs. search needs)  -- expect-ident-requires
     (λ c κs. search needs)  -- expect-requires-2
-    (λ c κs. (omega (arith, c .before .before .before .before .before .before .before .before .before .before .before .before .before .before .before .before .before .before .before .before .before .before .before .before .pre .0), search needs))  -- prefix-requires
+    (λ c κs. (omega (arith, c .before .before .before .before .before .before .before .before .before .before .before .before .before .before .before .before .before .before .before .before .before .before .before .pre .0), search needs))  -- prefix-requires
     (λ c κs. search needs)  -- push-let-requires
-    (λ c. omega (arith, c .before .before .push-let .kept, c .before .before .before .before .before .before .before .before .before .before .before .prefix .kept, c .before .before .before .before .before .before .before .before .before .before .before .before .before .before .before .before .before .before .before .before .before .before .before .before .before .before .before .before .take-docs .kept))  -- same-length
-    (λ c. omega (arith, c .before .before .push-let .kept, c .before .before .before .before .before .before .before .before .before .before .before .prefix .kept, c .before .before .before .before .before .before .before .before .before .before .before .before .before .before .before .before .before .before .before .before .before .before .before .before .before .before .before .before .take-docs .kept))  -- same-length-2
-    (λ c. omega (arith, c .before .before .push-let .kept, c .before .before .before .before .before .before .before .before .before .before .before .prefix .kept, c .before .before .before .before .before .before .before .before .before .before .before .before .before .before .before .before .before .before .before .before .before .before .before .before .before .before .before .before .take-docs .kept))  -- same-length-3
+    (λ c. omega (arith, c .before .before .push-let .kept, c .before .before .before .before .before .before .before .before .before .before .before .prefix .kept, c .before .before .before .before .before .before .before .before .before .before .before .before .before .before .before .before .before .before .before .before .before .before .before .before .before .before .take-docs .kept))  -- same-length
+    (λ c. omega (arith, c .before .before .push-let .kept, c .before .before .before .before .before .before .before .before .before .before .before .prefix .kept, c .before .before .before .before .before .before .before .before .before .before .before .before .before .before .before .before .before .before .before .before .before .before .before .before .before .before .take-docs .kept))  -- same-length-2
+    (λ c. omega (arith, c .before .before .push-let .kept, c .before .before .before .before .before .before .before .before .before .before .before .prefix .kept, c .before .before .before .before .before .before .before .before .before .before .before .before .before .before .before .before .before .before .before .before .before .before .before .before .before .before .take-docs .kept))  -- same-length-3
     (returns t)

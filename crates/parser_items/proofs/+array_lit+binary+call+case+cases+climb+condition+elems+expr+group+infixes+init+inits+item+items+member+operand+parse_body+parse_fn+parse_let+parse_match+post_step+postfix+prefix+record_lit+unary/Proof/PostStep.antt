@@ -19,8 +19,8 @@ claims t = (kind-reads.Asked, kind-reads.Learnt, field-access-reads.Asked, field
 call-requires : (t : ℕ) → lts.Need-call-requires (claims t) (post-step-at t) post-step.Post
 call-requires t c κs =
     let kind = c .before .before .before .before .before .kind in
-    let pre = c .before .before .before .before .before .before .before .before .before .before .before .pre in
-    let args = c .before .before .before .before .before .before .before .before .before .before .before .args in
+    let pre = c .before .before .before .before .before .before .before .before .before .before .before .before .pre in
+    let args = c .before .before .before .before .before .before .before .before .before .before .before .before .args in
     let if1 = c .before .before .before .before .if1 in
     (omega (arith, pre .0), omega (arith, postfix-brace (args .nodes .now) (parserOf (args .p .now)) (args .lhs) (pre .1) (λ e. if1 .left (kind .ensures ∙ e))))
 
@@ -34,7 +34,7 @@ returns t c =
 returns-2 : (t : ℕ) → lts.Need-returns-2 (claims t) (post-step-at t) post-step.Post
 returns-2 t c =
     let kind = c .before .before .before .before .before .before .before .before .before .before .before .before .kind in
-    let pre = c .before .before .before .before .before .before .before .before .before .before .before .before .before .before .before .before .before .before .pre in
+    let pre = c .before .before .before .before .before .before .before .before .before .before .before .before .before .before .before .before .before .before .before .pre in
     let if1 = c .before .before .before .before .before .before .before .before .before .before .before .if1 in
     let call = c .before .before .before .before .before .before .call in
     post-call _ _ (pre .1) (λ e. if1 .left (kind .ensures ∙ e)) (call .ensures)

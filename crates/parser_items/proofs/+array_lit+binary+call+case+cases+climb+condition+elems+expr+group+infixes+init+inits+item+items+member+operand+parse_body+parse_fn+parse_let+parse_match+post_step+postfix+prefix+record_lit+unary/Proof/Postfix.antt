@@ -10,7 +10,7 @@ use Rattle.parser_items.proofs.+array_lit+binary+call+case+cases+climb+
 use Rattle.rules.specs.Rules.{postfix, postfixStep}
 use Rattle.parser_state.proofs.Rounds.{LoopInvariant, round-start, round-again, round-out, again-of, weight, lighter}
 use Rattle.parser_state.specs.Represents.{parserOf, code}
-use Rattle.parser_state.specs.Refines.{stackUnchanged, deeper}
+use Rattle.parser_state.specs.Refines.{stackUnchanged, rulesOf, deeper}
 use Rattle.parser_operators.proofs.Exprs.{postfix-goes, post-out}
 use Rattle.parser_items.proofs.Levels.{out-at}
 use mathlib.Core.Path.{_≡_, refl, sym, _∙_}
@@ -20,17 +20,17 @@ abbrev claims : ℕ → lts.Claims
 claims t = (postfix-follows-reads.Asked, postfix-follows-reads.Learnt, post-step-below t, post-step.Post)
 
 abbrev Inv-loop : lts.InvT-loop
-Inv-loop script nodes₀ types₀ lists₀ p₀ levels x₀ nodes types lists p x = (length nodes ≡ length nodes₀) × (length types ≡ length types₀) × (length lists ≡ length lists₀) × LoopInvariant script (postfixStep (deeper script levels)) stackUnchanged x₀ (λ a. a ≡ x) (code nodes₀ types₀ lists₀ (parserOf p₀)) (code nodes types lists (parserOf p))
+Inv-loop script tokens nodes₀ types₀ lists₀ p₀ levels x₀ nodes types lists p x = (length nodes ≡ length nodes₀) × (length types ≡ length types₀) × (length lists ≡ length lists₀) × LoopInvariant tokens (postfixStep (deeper (rulesOf script) levels)) stackUnchanged x₀ (λ a. a ≡ x) (code nodes₀ types₀ lists₀ (parserOf p₀)) (code nodes types lists (parserOf p))
 
 abbrev μ-loop : lts.MeasureT-loop
-μ-loop script nodes₀ types₀ lists₀ p₀ levels x₀ nodes types lists p x = weight script (code nodes types lists (parserOf p))
+μ-loop script tokens nodes₀ types₀ lists₀ p₀ levels x₀ nodes types lists p x = weight tokens (code nodes types lists (parserOf p))
 
 loop-holds : (t : ℕ) → lts.Need-loop-holds (claims t) (postfix-at t) postfix.Post Inv-loop μ-loop
 loop-holds t c = (refl, refl, refl, round-start)
 
 post-step-requires : (t : ℕ) → lts.Need-post-step-requires (claims t) (postfix-at t) postfix.Post Inv-loop μ-loop
 post-step-requires t c κs =
-    let pre = c .before .before .before .before .before .before .before .before .before .before .before .before .before .pre in
+    let pre = c .before .before .before .before .before .before .before .before .before .before .before .before .before .before .pre in
     let postfix-follows = c .before .before .before .before .before .postfix-follows in
     let if1 = c .before .before .before .before .if1 in
     (omega (arith, pre .0), sym (postfix-follows .ensures) ∙ if1 .taken)
@@ -54,11 +54,11 @@ loop-again t c =
 returns : (t : ℕ) → lts.Need-returns (claims t) (postfix-at t) postfix.Post Inv-loop μ-loop
 unfolding postfix
 returns t c =
-    let args = c .before .before .before .before .before .before .before .before .before .args in
+    let args = c .before .before .before .before .before .before .before .before .before .before .args in
     let loop = c .before .before .before .before .loop in
     let postfix-follows = c .before .postfix-follows in
     let if1 = c .if1 in
-    round-out (loop .inv .3) (λ stack. refl) (λ R L stack a m e h. out-at (postfixStep (deeper (args .script .now) (args .levels))) e (post-out (deeper (args .script .now) (args .levels)) (loop .x) (sym (postfix-follows .ensures) ∙ if1 .left) R L stack m h))
+    round-out (loop .inv .3) (λ stack. refl) (λ R L stack a m e h. out-at (postfixStep (deeper (rulesOf (args .script .now)) (args .levels))) e (post-out (deeper (rulesOf (args .script .now)) (args .levels)) (loop .x) (sym (postfix-follows .ensures) ∙ if1 .left) R L stack m h))
 
 pub postfix-meets : {M : Type 1} (t : ℕ) → lts.Closed (claims t) (postfix-at t) postfix.Post M
 postfix-meets t = lts.spec (claims t) (postfix-at t) postfix.Post Inv-loop μ-loop

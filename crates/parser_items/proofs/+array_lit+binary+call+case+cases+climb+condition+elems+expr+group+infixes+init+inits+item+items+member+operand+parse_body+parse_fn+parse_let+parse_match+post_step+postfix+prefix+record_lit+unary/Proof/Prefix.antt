@@ -2,6 +2,7 @@
 use borrow.Author.Needs.{needs}
 use native.Mathlib.Omega.{arith}
 use Prim.Native.Nat.{ℕ}
+use Rattle.parser_state.specs.Refines.{rulesOf}
 use Rattle.parser_items.proofs.prefix.Reads as prefix
 use Rattle.parser_state.proofs.fail_expecting.Reads as fail-expecting-reads
 use Rattle.parser_operators.proofs.begins_expr.Reads as begins-expr-reads
@@ -22,7 +23,7 @@ returns : (t : ℕ) → lts.Need-returns (claims t) (prefix-at t) prefix.Post
 returns t c =
     let if1 = c .before .before .if1 in
     let fail-expecting = c .fail-expecting in
-    prefix-deep _ (if1 .taken) (fail-expecting .ensures _ _ _ _)
+    prefix-deep (rulesOf (c .before .before .before .before .before .before .before .before .args .script .now)) _ (if1 .taken) (fail-expecting .ensures _ _ _ _)
 
 returns-2 : (t : ℕ) → lts.Need-returns-2 (claims t) (prefix-at t) prefix.Post
 returns-2 t c =
@@ -30,7 +31,7 @@ returns-2 t c =
     let begins-expr = c .before .before .before .before .before .before .before .before .before .before .before .before .begins-expr in
     let if2 = c .before .before .before .before .before .before .before .before .before .before .before .if2 in
     let expr = c .before .before .before .before .before .before .expr in
-    prefix-by _ (if1 .left) (prefix-expr _ (sym (begins-expr .ensures) ∙ if2 .taken) (expr .ensures))
+    prefix-by (rulesOf (c .before .before .before .before .before .before .before .before .before .before .before .before .before .before .before .before .before .before .before .before .args .script .now)) _ (if1 .left) (prefix-expr _ (sym (begins-expr .ensures) ∙ if2 .taken) (expr .ensures))
 
 returns-3 : (t : ℕ) → lts.Need-returns-3 (claims t) (prefix-at t) prefix.Post
 unfolding parsePrefix
@@ -38,7 +39,7 @@ returns-3 t c =
     let if1 = c .before .before .before .before .before .before .before .before .before .before .before .before .before .before .before .before .before .before .before .if1 in
     let collect-docs = c .before .before .before .before .before .before .before .before .before .before .before .before .before .collect-docs in
     let item = c .before .before .before .before .before .before .item in
-    prefix-by _ (if1 .left) (enough (then (collect-docs .ensures _ _) (item .ensures)) tt)
+    prefix-by (rulesOf (c .before .before .before .before .before .before .before .before .before .before .before .before .before .before .before .before .before .before .before .before .before .before .before .before .before .args .script .now)) _ (if1 .left) (enough (then (collect-docs .ensures _ _) (item .ensures)) tt)
 
 pub prefix-meets : {M : Type 1} (t : ℕ) → lts.Closed (claims t) (prefix-at t) prefix.Post M
 prefix-meets t = lts.spec (claims t) (prefix-at t) prefix.Post
@@ -46,14 +47,14 @@ prefix-meets t = lts.spec (claims t) (prefix-at t) prefix.Post
     (returns t)
     (λ c κs. search needs)  -- begins-expr-requires
     (λ c. search needs)  -- sub-expr
-    (λ c κs. (omega (arith, c .before .before .before .before .before .before .before .before .before .before .before .before .pre .0), search needs))  -- expr-requires
+    (λ c κs. (omega (arith, c .before .before .before .before .before .before .before .before .before .before .before .before .before .pre .0), search needs))  -- expr-requires
     (λ c. search needs)  -- same-length
     (λ c. search needs)  -- same-length-2
     (λ c. search needs)  -- same-length-3
     (returns-2 t)
     (λ c κs. search needs)  -- collect-docs-requires
     (λ c. search needs)  -- sub-item
-    (λ c κs. (omega (arith, c .before .before .before .before .before .before .before .before .before .before .before .before .before .before .before .before .before .pre .0), search needs))  -- item-requires
+    (λ c κs. (omega (arith, c .before .before .before .before .before .before .before .before .before .before .before .before .before .before .before .before .before .before .pre .0), search needs))  -- item-requires
     (λ c. omega (arith, c .before .before .before .before .before .before .item .kept, c .before .before .before .before .before .before .before .before .before .before .before .before .before .collect-docs .kept))  -- same-length-4
     (λ c. omega (arith, c .before .before .before .before .before .before .item .kept, c .before .before .before .before .before .before .before .before .before .before .before .before .before .collect-docs .kept))  -- same-length-5
     (λ c. omega (arith, c .before .before .before .before .before .before .item .kept, c .before .before .before .before .before .before .before .before .before .before .before .before .before .collect-docs .kept))  -- same-length-6

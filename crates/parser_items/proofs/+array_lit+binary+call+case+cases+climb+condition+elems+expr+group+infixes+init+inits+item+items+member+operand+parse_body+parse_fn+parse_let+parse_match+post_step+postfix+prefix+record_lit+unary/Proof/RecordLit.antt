@@ -30,7 +30,7 @@ pub record-lit-meets : {M : Type 1} (t : ℕ) → lts.Closed (claims t) (record-
 record-lit-meets t = lts.spec (claims t) (record-lit-at t) record-lit.Post
     (λ c κs. search needs)  -- current-requires
     (λ c κs. search needs)  -- advance-requires
-    (λ c κs. (omega (arith, c .before .before .before .before .before .before .before .before .before .before .before .before .pre .0), search needs))  -- inits-requires
+    (λ c κs. (omega (arith, c .before .before .before .before .before .before .before .before .before .before .before .before .before .pre .0), search needs))  -- inits-requires
     (λ c κs. search needs)  -- push-token-node-requires
     (λ c. omega (arith, c .before .before .push-token-node .kept, c .before .before .before .before .before .before .before .before .before .before .before .inits .kept))  -- same-length
     (λ c. omega (arith, c .before .before .push-token-node .kept, c .before .before .before .before .before .before .before .before .before .before .before .inits .kept))  -- same-length-2

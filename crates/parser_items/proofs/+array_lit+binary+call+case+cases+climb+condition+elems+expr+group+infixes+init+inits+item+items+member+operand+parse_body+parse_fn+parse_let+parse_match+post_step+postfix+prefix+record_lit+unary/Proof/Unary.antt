@@ -30,7 +30,7 @@ pub unary-meets : {M : Type 1} (t : ℕ) → lts.Closed (claims t) (unary-at t) 
 unary-meets t = lts.spec (claims t) (unary-at t) unary.Post
     (λ c κs. search needs)  -- current-requires
     (λ c κs. search needs)  -- advance-requires
-    (λ c κs. (omega (arith, c .before .before .before .before .before .before .before .before .before .before .before .before .pre .0), search needs))  -- expr-requires
+    (λ c κs. (omega (arith, c .before .before .before .before .before .before .before .before .before .before .before .before .before .pre .0), search needs))  -- expr-requires
     (λ c κs. search needs)  -- push-token-node-requires
     (λ c. omega (arith, c .before .before .push-token-node .kept, c .before .before .before .before .before .before .before .before .before .before .before .expr .kept))  -- same-length
     (λ c. omega (arith, c .before .before .push-token-node .kept, c .before .before .before .before .before .before .before .before .before .before .before .expr .kept))  -- same-length-2

@@ -23,7 +23,7 @@ abbrev claims : ℕ → lts.Claims
 claims t = (fail-expecting-reads.Asked, fail-expecting-reads.Learnt, kind-reads.Asked, kind-reads.Learnt, foreign-type-reads.Asked, foreign-type-reads.Learnt, option-type-below t, option-type.Post, array-type-below t, array-type.Post, record-type-below t, record-type.Post, atom-type-reads.Asked, atom-type-reads.Learnt)
 
 returns : (t : ℕ) → lts.Need-returns (claims t) (parse-type-at t) parse-type.Post
-returns t c = λ nodes. too-deep _ (c .before .before .if1 .taken) (c .fail-expecting .ensures _ nodes _ _)
+returns t c = λ rules nodes. too-deep rules _ (c .before .before .if1 .taken) (c .fail-expecting .ensures _ nodes _ _)
 
 returns-2 : (t : ℕ) → lts.Need-returns-2 (claims t) (parse-type-at t) parse-type.Post
 unfolding typeByKind choose
@@ -32,7 +32,7 @@ returns-2 t c =
     let if1 = c .before .before .before .before .before .before .before .before .if1 in
     let match = c .before .before .before .before .before .match in
     let foreign-type = c .before .before .foreign-type in
-    λ nodes. type-at _ kForeign (if1 .left) (foreign-type .ensures nodes _) (sym (kind .ensures) ∙ match .keys1)
+    λ rules nodes. type-at rules _ kForeign (if1 .left) (foreign-type .ensures nodes _) (sym (kind .ensures) ∙ match .keys1)
 
 returns-3 : (t : ℕ) → lts.Need-returns-3 (claims t) (parse-type-at t) parse-type.Post
 unfolding typeByKind choose
@@ -41,7 +41,7 @@ returns-3 t c =
     let if1 = c .before .before .before .before .before .before .before .before .before .before .before .if1 in
     let match = c .before .before .before .before .before .before .before .before .match in
     let option-type = c .before .before .before .before .option-type in
-    λ nodes. type-at _ kOption (if1 .left) (option-type .ensures nodes) (sym (kind .ensures) ∙ match .keys2)
+    λ rules nodes. type-at rules _ kOption (if1 .left) (option-type .ensures rules nodes) (sym (kind .ensures) ∙ match .keys2)
 
 returns-4 : (t : ℕ) → lts.Need-returns-4 (claims t) (parse-type-at t) parse-type.Post
 unfolding typeByKind choose
@@ -50,7 +50,7 @@ returns-4 t c =
     let if1 = c .before .before .before .before .before .before .before .before .before .before .before .if1 in
     let match = c .before .before .before .before .before .before .before .before .match in
     let array-type = c .before .before .before .before .array-type in
-    λ nodes. type-at _ kArray (if1 .left) (array-type .ensures nodes) (sym (kind .ensures) ∙ match .keys3)
+    λ rules nodes. type-at rules _ kArray (if1 .left) (array-type .ensures rules nodes) (sym (kind .ensures) ∙ match .keys3)
 
 returns-5 : (t : ℕ) → lts.Need-returns-5 (claims t) (parse-type-at t) parse-type.Post
 unfolding typeByKind choose
@@ -59,7 +59,7 @@ returns-5 t c =
     let if1 = c .before .before .before .before .before .before .before .before .before .before .before .if1 in
     let match = c .before .before .before .before .before .before .before .before .match in
     let record-type = c .before .before .before .before .record-type in
-    λ nodes. type-at _ kRecord (if1 .left) (record-type .ensures nodes) (sym (kind .ensures) ∙ match .keys4)
+    λ rules nodes. type-at rules _ kRecord (if1 .left) (record-type .ensures rules nodes) (sym (kind .ensures) ∙ match .keys4)
 
 returns-6 : (t : ℕ) → lts.Need-returns-6 (claims t) (parse-type-at t) parse-type.Post
 returns-6 t c =
@@ -68,7 +68,7 @@ returns-6 t c =
     let if2 = c .before .before .before .before .before .before .if2 in
     let if3 = c .before .before .before .before .before .if3 in
     let atom-type = c .before .before .atom-type in
-    λ nodes. type-atom _ (if1 .left) (atom-type .ensures nodes _) (kind .ensures) (if2 .left) (if3 .taken)
+    λ rules nodes. type-atom rules _ (if1 .left) (atom-type .ensures nodes _) (kind .ensures) (if2 .left) (if3 .taken)
 
 returns-7 : (t : ℕ) → lts.Need-returns-7 (claims t) (parse-type-at t) parse-type.Post
 returns-7 t c =
@@ -76,7 +76,7 @@ returns-7 t c =
     let if1 = c .before .before .before .before .before .before .if1 in
     let match = c .before .before .before .match in
     let if2 = c .before .before .if2 in
-    λ nodes. let r = match .rest in type-none _ (if1 .left) (c .fail-expecting2 .ensures _ nodes _ _) (kind .ensures) (⊎-elim (λ w. inl (w .taken)) (λ w. inr (w .1 .left)) (if2 .came)) (r .0 .0 .1) (r .0 .1) (r .0 .0 .0 .1) (r .1)
+    λ rules nodes. let r = match .rest in type-none rules _ (if1 .left) (c .fail-expecting2 .ensures _ nodes _ _) (kind .ensures) (⊎-elim (λ w. inl (w .taken)) (λ w. inr (w .1 .left)) (if2 .came)) (r .0 .0 .1) (r .0 .1) (r .0 .0 .0 .1) (r .1)
 
 pub parse-type-meets : {M : Type 1} (t : ℕ) → lts.Closed (claims t) (parse-type-at t) parse-type.Post M
 parse-type-meets t = lts.spec (claims t) (parse-type-at t) parse-type.Post

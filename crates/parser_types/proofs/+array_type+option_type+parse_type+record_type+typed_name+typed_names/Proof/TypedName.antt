@@ -24,7 +24,7 @@ returns t c =
     let expect = c .before .before .before .before .before .before .before .before .before .before .before .before .before .expect in
     let parse-type = c .before .before .before .before .before .before .before .before .before .parse-type in
     let push-named = c .before .before .push-named in
-    λ nodes. enough (read _ (expect-ident .ensures nodes _ _) (current .ensures) (then (expect .ensures nodes _ _) (seq _ (parse-type .ensures nodes) (push-named .ensures _ nodes _)))) tt
+    λ rules nodes. enough (read _ (expect-ident .ensures nodes _ _) (current .ensures) (then (expect .ensures nodes _ _) (seq _ (parse-type .ensures rules nodes) (push-named .ensures _ nodes _)))) tt
 
 pub typed-name-meets : {M : Type 1} (t : ℕ) → lts.Closed (claims t) (typed-name-at t) typed-name.Post M
 typed-name-meets t = lts.spec (claims t) (typed-name-at t) typed-name.Post

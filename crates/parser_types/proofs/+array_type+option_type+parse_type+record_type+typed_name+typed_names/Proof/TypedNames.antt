@@ -18,26 +18,26 @@ use lib.ListN.{length}
 use mathlib.Core.List.{List, []}
 use Rattle.rules.specs.Rules.{typedName}
 use Rattle.parser_state.specs.Represents.{parserOf, code}
-use Rattle.parser_state.specs.Refines.{deeper}
+use Rattle.parser_state.specs.Refines.{Rules, rulesOf, deeper}
 
 abbrev claims : ℕ → lts.Claims
 claims t = (get-used-reads.Asked, get-used-reads.Learnt, member-follows-reads.Asked, member-follows-reads.Learnt, typed-name-below t, typed-name.Post, wrapping-add-u32-reads.Asked, wrapping-add-u32-reads.Learnt, close-reads.Asked, close-reads.Learnt)
 
 abbrev Inv-loop : lts.InvT-loop
-Inv-loop script types₀ lists₀ p₀ stop levels mark members₀ types lists p members = (length types ≡ length types₀) × (length lists ≡ length lists₀) × ((nodes : List ℕ) → MembersInvariant script stop (typedName (deeper script levels)) (code nodes types₀ lists₀ (parserOf p₀)) (code nodes types lists (parserOf p)) members)
+Inv-loop tokens types₀ lists₀ p₀ stop levels mark members₀ types lists p members = (length types ≡ length types₀) × (length lists ≡ length lists₀) × ((rules : Rules) (nodes : List ℕ) → MembersInvariant tokens stop (typedName (deeper rules levels)) (code nodes types₀ lists₀ (parserOf p₀)) (code nodes types lists (parserOf p)) members)
 
 abbrev μ-loop : lts.MeasureT-loop
-μ-loop script types₀ lists₀ p₀ stop levels mark members₀ types lists p members = weight script (code [] types lists (parserOf p))
+μ-loop tokens types₀ lists₀ p₀ stop levels mark members₀ types lists p members = weight tokens (code [] types lists (parserOf p))
 
 loop-holds : (t : ℕ) → lts.Need-loop-holds (claims t) (typed-names-at t) typed-names.Post Inv-loop μ-loop
-loop-holds t c = (refl, refl, λ nodes. midway-start)
+loop-holds t c = (refl, refl, λ rules nodes. midway-start)
 
 loop-less : (t : ℕ) → lts.Need-loop-less (claims t) (typed-names-at t) typed-names.Post Inv-loop μ-loop
 loop-less t c =
     let member-follows = c .before .before .before .before .before .before .before .before .before .before .member-follows in
     let if1 = c .before .before .before .before .before .before .before .before .before .if1 in
     let typed-name = c .before .before .before .before .before .typed-name in
-    falls _ (sym (member-follows .ensures) ∙ if1 .taken) (typed-name .ensures [])
+    falls _ (sym (member-follows .ensures) ∙ if1 .taken) (typed-name .ensures (rulesOf []) [])
 
 loop-again : (t : ℕ) → lts.Need-loop-again (claims t) (typed-names-at t) typed-names.Post Inv-loop μ-loop
 loop-again t c =
@@ -46,7 +46,7 @@ loop-again t c =
     let if1 = c .before .before .before .before .before .before .before .before .before .if1 in
     let typed-name = c .before .before .before .before .before .typed-name in
     let wrapping-add-u32 = c .wrapping-add-u32 in
-    (omega arith, omega arith, λ nodes. midway-turn (loop .inv .2 nodes) (sym (member-follows .ensures) ∙ if1 .taken) (typed-name .ensures nodes) (wrapping-add-u32 .ensures))
+    (omega arith, omega arith, λ rules nodes. midway-turn (loop .inv .2 rules nodes) (sym (member-follows .ensures) ∙ if1 .taken) (typed-name .ensures rules nodes) (wrapping-add-u32 .ensures))
 
 returns : (t : ℕ) → lts.Need-returns (claims t) (typed-names-at t) typed-names.Post Inv-loop μ-loop
 returns t c =
@@ -55,7 +55,7 @@ returns t c =
     let if1 = c .before .before .before .before .before .if1 in
     let get-used = c .before .before .before .before .before .before .before .before .before .get-used in
     let close = c .before .before .close in
-    ((λ nodes. midway-end (loop .inv .2 nodes) (sym (member-follows .ensures) ∙ if1 .left) (ap (λ (u : Used). u .scratch) (get-used .ensures)) (close .ensures .0 nodes _)), close .ensures .1)
+    ((λ rules nodes. midway-end (loop .inv .2 rules nodes) (sym (member-follows .ensures) ∙ if1 .left) (ap (λ (u : Used). u .scratch) (get-used .ensures)) (close .ensures .0 nodes _)), close .ensures .1)
 
 pub typed-names-meets : {M : Type 1} (t : ℕ) → lts.Closed (claims t) (typed-names-at t) typed-names.Post M
 typed-names-meets t = lts.spec (claims t) (typed-names-at t) typed-names.Post Inv-loop μ-loop

@@ -1,0 +1,13 @@
+-- `begins_name` meets its contract.
+-- Assumes nothing.
+use mathlib.Core.Path.{_∙_}
+use borrow.Author.Needs.{needs}
+use Rattle.lex.proofs.Bits.{looked, class-bits}
+use Rattle.lex.proofs.class.begins_name.Statement.{statement}
+use Rattle.lex.proofs.class.begins_name.Tie as tie
+
+returns : tie.Need-returns
+returns c = looked 2 (c .before .args .classes .now) (c .before .args .b) (c .before .pre) (search needs) ∙ class-bits (c .before .args .b) .1
+
+pub begins-name-spec : {M : Type 1} → statement M
+begins-name-spec = tie.close (tie.spec (λ c. search needs) returns)

@@ -1,0 +1,4 @@
+-- The token and error tables of a script.
+pub mod Tables
+pub mod Table
+pub mod Filling
