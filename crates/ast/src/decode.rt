@@ -7,13 +7,13 @@ ghost use Rattle.ast.specs.Decode.{type_read};
 use crate::{Node, NodeId, NodeKind, Run, TypeExpr, TypeExprId, TypeExprKind};
 use lex::Token;
 
-#[derive(Drop)]
+#[derive(Clone, Copy)]
 pub enum NodeRead {
     Known(Node),
     Unknown,
 }
 
-#[derive(Drop)]
+#[derive(Clone, Copy)]
 pub enum TypeRead {
     Known(TypeExpr),
     Unknown,

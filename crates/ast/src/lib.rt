@@ -1,4 +1,6 @@
 // The records of a tree and what a reading answers; how records lie in lent arrays, what is lent.
+#![tactic(auto)]
+
 pub mod decode;
 pub mod lent;
 pub mod schema;
@@ -6,19 +8,19 @@ pub mod schema;
 use lex::{Diagnostic, Token};
 
 // A list: its first cell and how many members it has.
-#[derive(Drop)]
+#[derive(Clone, Copy)]
 pub struct Run {
     pub start: u32,
     pub len: u32,
 }
 
-#[derive(Drop)]
+#[derive(Clone, Copy)]
 pub struct NodeId(pub u32);
 
-#[derive(Drop)]
+#[derive(Clone, Copy)]
 pub struct TypeExprId(pub u32);
 
-#[derive(Drop)]
+#[derive(Clone, Copy)]
 pub enum Node {
     Atom {
         id: u32,
@@ -105,7 +107,7 @@ impl Node {
 }
 
 // The kinds of node are numbers, in the order of `Node`. A record's first cell is its kind.
-#[derive(Drop)]
+#[derive(Clone, Copy)]
 pub struct NodeKind(pub u32);
 
 impl NodeKind {
@@ -138,7 +140,7 @@ impl NodeKind {
     pub const ARRAY: u32 = 14;
 }
 
-#[derive(Drop)]
+#[derive(Clone, Copy)]
 pub enum TypeExpr {
     Atom(Token),
     Foreign(Token),
@@ -153,7 +155,7 @@ impl TypeExpr {
 }
 
 // The kinds of type are numbers, in the order of `TypeExpr`. A record's first cell is its kind.
-#[derive(Drop)]
+#[derive(Clone, Copy)]
 pub struct TypeExprKind(pub u32);
 
 impl TypeExprKind {
@@ -172,7 +174,7 @@ impl TypeExprKind {
 pub const DIAGNOSTIC_WIDTH: usize = 5;
 
 // How many records, list cells, roots and values a reading made.
-#[derive(Drop)]
+#[derive(Clone, Copy)]
 pub struct Counts {
     pub nodes: u32,
     pub types: u32,
@@ -183,7 +185,7 @@ pub struct Counts {
 }
 
 // What a reading answers.
-#[derive(Drop)]
+#[derive(Clone, Copy)]
 pub enum Parsed {
     Tree(Counts),
     Error(Diagnostic),

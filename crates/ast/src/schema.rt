@@ -4,7 +4,7 @@ ghost use Rattle.ast.specs.Schema.{member_width};
 ghost use Rattle.ast.specs.Schema.{members_of};
 
 // What a field of a record, or of a member of a list, is.
-#[derive(Drop)]
+#[derive(Clone, Copy)]
 pub struct Sort(pub u64);
 
 impl Sort {

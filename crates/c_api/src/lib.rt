@@ -1,5 +1,7 @@
 // The reader for programs in other languages: readings, lookups and comparison on numbers and
 // slices.
+#![tactic(auto)]
+
 mod cutting;
 mod describe;
 mod lexer;

@@ -1,4 +1,6 @@
 // Same shape of two trees in lent arrays. Two things agree if both are well formed and the same.
+#![tactic(auto)]
+
 mod kind;
 mod node;
 mod type_expr;
@@ -16,7 +18,7 @@ use ast::{Counts, NodeId};
 use lex::Refusal;
 use node::agree_node;
 
-#[derive(Drop)]
+#[derive(Clone, Copy)]
 pub enum Comparison {
     Same,
     Different,

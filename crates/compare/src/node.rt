@@ -16,7 +16,7 @@ use ast::schema::{CASE_WIDTH, NODE_WIDTH, Sort, member_width};
 use ast::{Node, NodeId, NodeKind, Run, TypeExprId};
 
 // The number of an order in which the parts of a node are compared: its kind, and two more.
-#[derive(Drop)]
+#[derive(Clone, Copy)]
 struct Order(u32);
 
 impl Order {

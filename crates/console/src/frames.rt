@@ -6,14 +6,14 @@ ghost use Rattle.console.specs.Frame.{Within, Inside};
 
 use libc::STDIN_FILENO;
 
-#[derive(Drop)]
+#[derive(Clone, Copy)]
 enum Input {
     Byte(u8),
     End,
 }
 
 // A number that was read; Malformed where something else stands there, End where nothing is left.
-#[derive(Drop)]
+#[derive(Clone, Copy)]
 pub enum Number {
     Value(usize),
     Malformed,
@@ -21,7 +21,7 @@ pub enum Number {
 }
 
 // How many bytes a frame has.
-#[derive(Drop)]
+#[derive(Clone, Copy)]
 pub enum Frame {
     Bytes(usize),
     Malformed,

@@ -1,5 +1,7 @@
 // Standard input and output of the programs: numbers and framed bytes, texts and numbers, the
 // tokens of a script.
+#![tactic(auto)]
+
 pub mod frames;
 pub mod output;
 pub mod tokens;

@@ -1,5 +1,7 @@
 // The diagnostics array of collecting mode: errors and the lexer's faults are pushed in the order
 // in which they are met.
+#![tactic(auto)]
+
 ghost use Rattle.std.specs.Prelude.{◌≡◌};
 ghost use mathlib.Core.List.{foldl};
 ghost use Rattle.tokens.specs.Table.{errors_from};
@@ -31,7 +33,7 @@ pub fn push_diagnostic(diagnostics: &mut [u32], n: u32, d: Diagnostic) -> u32
 }
 
 // How many diagnostics there are, and how many records of the error table are among them.
-#[derive(Drop)]
+#[derive(Clone, Copy)]
 pub struct Listed {
     pub diagnostics: u32,
     pub errors: usize,

@@ -6,14 +6,14 @@ ghost use Rattle.lex.specs.Bytes.{class_table, in_set, count_while, before, find
 use crate::class::{begins_number, continues_name, continues_number, is_digit, is_ident_cont};
 
 // What a search found.
-#[derive(Drop)]
+#[derive(Clone, Copy)]
 pub enum Found {
     At(usize),
     Nothing,
 }
 
 // The sets of bytes that a scan passes over.
-#[derive(Drop)]
+#[derive(Clone, Copy)]
 pub(crate) struct ByteSet(pub u8);
 
 impl ByteSet {

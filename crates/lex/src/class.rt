@@ -4,7 +4,7 @@ ghost use Rattle.lex.specs.Bytes.{is_ws, is_letter, is_digit, is_ident_start};
 ghost use Rattle.lex.specs.Bytes.{is_ident_cont, is_num_cont, class_table};
 
 // The bits of a class: what the byte can be or begin.
-#[derive(Drop)]
+#[derive(Clone, Copy)]
 pub(crate) struct Class(pub u8);
 
 impl Class {

@@ -2,7 +2,7 @@
 
 // An error: its number, where its span starts and how long it is, the wanted kind (0 but for 11)
 // and the seen kind (for 33 the byte).
-#[derive(Drop)]
+#[derive(Clone, Copy)]
 pub struct Diagnostic {
     pub number: u32,
     pub start: u32,
@@ -52,7 +52,7 @@ impl Diagnostic {
 }
 
 // Why a call is refused, by number. Nothing that is lent changes then.
-#[derive(Drop)]
+#[derive(Clone, Copy)]
 pub struct Refusal(pub u32);
 
 impl Refusal {

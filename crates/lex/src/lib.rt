@@ -1,4 +1,6 @@
 // The lexer: what stands at a position of a script, and the next token.
+#![tactic(auto)]
+
 mod byte_search;
 mod class;
 mod diagnostic;
@@ -390,7 +392,7 @@ pub fn next_token(script: &[u8], pos: usize) -> Next
 }
 
 // The script and a position in it.
-#[derive(Drop)]
+#[derive(Clone, Copy)]
 pub struct Lexer<'l> {
     pub input: &'l [u8],
     pub pos: usize,

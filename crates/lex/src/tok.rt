@@ -9,7 +9,7 @@ use crate::byte_search::Found;
 use crate::leading_space;
 
 // A token: its kind, where it starts and how long its spelling is.
-#[derive(Drop)]
+#[derive(Clone, Copy)]
 pub struct Token {
     pub kind: u32,
     pub start: usize,
@@ -18,7 +18,7 @@ pub struct Token {
 
 // A fault: its number, where its span starts and how long it is, and the byte that is seen; 0 but
 // for an unknown character.
-#[derive(Drop)]
+#[derive(Clone, Copy)]
 pub struct Fault {
     pub number: u32,
     pub start: usize,
@@ -28,7 +28,7 @@ pub struct Fault {
 
 // What stands where no blank or comment begins: a token or a fault, its length, and how many bytes
 // are taken.
-#[derive(Drop)]
+#[derive(Clone, Copy)]
 pub enum Piece {
     Token {
         kind: u32,
@@ -45,7 +45,7 @@ pub enum Piece {
 
 // What stands at a position after blanks and comments, with the next position; or where the script
 // ends.
-#[derive(Drop)]
+#[derive(Clone, Copy)]
 pub enum Step {
     Token { token: Token, next: usize },
     Fault { fault: Fault, next: usize },
@@ -53,14 +53,14 @@ pub enum Step {
 }
 
 // A token and the position after it.
-#[derive(Drop)]
+#[derive(Clone, Copy)]
 pub struct Next {
     pub token: Token,
     pub next: usize,
 }
 
 // The kinds of token are numbers, in the order of the Rust enum.
-#[derive(Drop)]
+#[derive(Clone, Copy)]
 pub struct Type(pub u32);
 
 impl Type {

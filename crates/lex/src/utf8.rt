@@ -9,7 +9,7 @@ use crate::byte_search::{ByteSet, peek, skip_set};
 
 // Where a reading of bytes stands: between characters, inside one with `more` bytes to come, the
 // next of them from `low` to `high`, or behind a byte that no character has there.
-#[derive(Drop)]
+#[derive(Clone, Copy)]
 pub enum Utf8State {
     Boundary,
     Expecting { more: u8, low: u8, high: u8 },

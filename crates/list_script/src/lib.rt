@@ -1,4 +1,6 @@
 // The listing of a reading on standard output.
+#![tactic(auto)]
+
 use ast::Parsed;
 use libc::{STDIN_FILENO, STDOUT_FILENO};
 use listing::Listing;

@@ -1,6 +1,8 @@
 // Shows the tokens and faults of one script on standard input and how many tokens stand before Eof.
 // Of a script of more than 4,096 bytes it shows those of the first 4,096, and `(cut)` in the last
 // line.
+#![tactic(auto)]
+
 ghost use Rattle.std.specs.Prelude.{◌≡◌, ◌+◌, length};
 ghost use Rattle.lex.specs.Lex.{tokens_from};
 

@@ -1,4 +1,6 @@
 // The listing of a reading, written into a lent buffer.
+#![tactic(auto)]
+
 mod emit;
 mod forms;
 mod lines;
@@ -15,7 +17,7 @@ use text::LAST;
 
 // How many bytes were written; or that the buffer is too short, or that the arrays hold no tree.
 // The buffer is unchanged then.
-#[derive(Drop)]
+#[derive(Clone, Copy)]
 pub enum Listing {
     Written(usize),
     Short,

@@ -1,4 +1,6 @@
 // Where a node starts, and the token of a type.
+#![tactic(auto)]
+
 ghost use Rattle.std.specs.Prelude.{◌≡◌, ◌≤◌};
 ghost use Rattle.ast.specs.Decode.{node_at, type_at};
 ghost use Rattle.ast.specs.Answer.{lent};
@@ -14,14 +16,14 @@ use ast::schema::CASE_WIDTH;
 use ast::{Counts, Node, NodeId, Run, TypeExpr, TypeExprId};
 use lex::{Refusal, Token, as_str_len, well_formed};
 
-#[derive(Drop)]
+#[derive(Clone, Copy)]
 pub enum Start {
     At(u32),
     Nothing,
     Refused(u32),
 }
 
-#[derive(Drop)]
+#[derive(Clone, Copy)]
 pub enum TypeToken {
     Found(Token),
     Refused(u32),
@@ -29,7 +31,7 @@ pub enum TypeToken {
 
 // A record of the start lookup: its answer, or the child to go on with, and what is answered where
 // that has none.
-#[derive(Drop)]
+#[derive(Clone, Copy)]
 enum Step {
     Done(Start),
     Descend(NodeId, Start),

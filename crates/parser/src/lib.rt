@@ -1,4 +1,6 @@
 // The entry points of parser.rs.
+#![tactic(auto)]
+
 mod recovery;
 
 ghost use Rattle.std.specs.Prelude.{◌≡◌, true, List, [], ◌++◌, ℕ, ◌*◌, ◌-◌, ◌≤◌, length, take};
@@ -208,7 +210,7 @@ fn parse_roots(
 // ---- roots and errors
 
 // How many roots and diagnostics there are, and how many of the lexer's errors are among these.
-#[derive(Drop)]
+#[derive(Clone, Copy)]
 pub struct Gathering {
     pub members: u32,
     pub diagnostics: u32,

@@ -3,6 +3,8 @@
 // `infix_step`, `post_step` `postfix_step`, `record_lit` and `array_lit` `record_literal` and
 // `array_literal`, `init` `field`, `case` `next_case`, `prefix` and `expr` `parse_prefix` and
 // `parse_expr`.
+#![tactic(auto)]
+
 ghost use Rattle.std.specs.Prelude.{◌≡◌, ◌<◌, true};
 ghost use Rattle.lex.specs.Kind.{k_curly_right, k_braket_right};
 ghost use Rattle.tokens.specs.Table.{token_at};

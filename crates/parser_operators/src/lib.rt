@@ -1,4 +1,6 @@
 // The tables and tests of items and expressions, and the nodes with none below them.
+#![tactic(auto)]
+
 ghost use Rattle.std.specs.Prelude.{◌≡◌, List, [], ◌∷◌, ◌++◌, ℕ, ◌<◌, get_or};
 ghost use Rattle.tokens.specs.Table.{token_of, token_at};
 ghost use Rattle.rules.specs.Combinators.{push_node};
@@ -274,7 +276,7 @@ pub fn cast(
 // ---- the cases of a match
 
 // The default of a match: its token and body, where `has` is not 0.
-#[derive(Drop)]
+#[derive(Clone, Copy)]
 pub struct Default {
     pub has: u32,
     pub token: Entry,
@@ -282,7 +284,7 @@ pub struct Default {
 }
 
 // The default of a match so far, and how many cases there are.
-#[derive(Drop)]
+#[derive(Clone, Copy)]
 pub struct CasesRead {
     pub default: Default,
     pub members: u32,

@@ -1,5 +1,7 @@
 // The parser's state, and the functions of parser.rs that take tokens, write records, lists and
 // docs, and fail.
+#![tactic(auto)]
+
 ghost use Rattle.std.specs.Prelude.{◌≡◌, ℕ, suc, ◌+◌, ◌-◌, ◌*◌, ◌%◌, ◌<◌, ◌≤◌, true, false, List, [], ◌∷◌, ◌++◌, reverse, length, take, drop, ◌≢◌};
 ghost use Rattle.std.proofs.Math.Seq.{paste};
 ghost use Rattle.lex.specs.Answer.{max_bytes};
@@ -18,7 +20,7 @@ use lex::{Diagnostic, MAX_BYTES, Type};
 use tokens::{Entry, token_at};
 
 // Whether the reading has failed, and its error.
-#[derive(Drop)]
+#[derive(Clone, Copy)]
 pub struct Status {
     pub failed: u32,
     pub error: Diagnostic,
@@ -26,7 +28,7 @@ pub struct Status {
 
 // How much is made: node and type records, value numbers, list cells; the pending docs; and the
 // cells of lists under construction.
-#[derive(Drop)]
+#[derive(Clone, Copy)]
 pub struct Used {
     pub nodes: u32,
     pub values: u32,
@@ -42,7 +44,7 @@ pub struct Used {
 // Its numbers lie in cells that are lent from call to call (`State`), since a struct by value would
 // be copied whole at each: the token's start, kind and length, the number of its record, the six
 // counts, whether the reading has failed, and the five numbers of the error.
-#[derive(Drop)]
+#[derive(Clone, Copy)]
 pub struct Parser {
     pub cur: Entry,
     pub at: u32,
@@ -364,7 +366,7 @@ pub fn push_type(
 }
 
 // A node whose record has more than eight cells.
-#[derive(Drop)]
+#[derive(Clone, Copy)]
 pub enum WideNode {
     Fn {
         id: u32,

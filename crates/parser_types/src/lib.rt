@@ -1,5 +1,7 @@
 // The readers of parser.rs that read no item and no expression: types, arguments, imports and
 // externs.
+#![tactic(auto)]
+
 ghost use Rattle.std.specs.Prelude.{◌≡◌, ℕ, ◌+◌, ◌<◌, ◌≤◌, List, [], ◌∷◌, ◌++◌};
 ghost use Rattle.lex.specs.Answer.{max_bytes};
 ghost use Rattle.lex.specs.Kind.{k_curly_right};

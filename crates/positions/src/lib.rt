@@ -1,4 +1,6 @@
 // Spans of tokens; the line and column of a position.
+#![tactic(auto)]
+
 ghost use Rattle.std.specs.Prelude.{◌≡◌, true, ◌++◌, ◌≤◌, length, drop};
 ghost use Rattle.lex.specs.Answer.{max_bytes};
 ghost use Rattle.lex.specs.Spelling.{well_formed};
@@ -10,13 +12,13 @@ ghost use Rattle.positions.specs.LineColumns.{Fillable, outcome, line_columns};
 
 use lex::{MAX_BYTES, Refusal, Token, Type, well_formed};
 
-#[derive(Drop)]
+#[derive(Clone, Copy)]
 pub struct Span {
     pub start: usize,
     pub len: usize,
 }
 
-#[derive(Drop)]
+#[derive(Clone, Copy)]
 pub enum SpanRead {
     Found(Span),
     Refused(u32),
@@ -67,13 +69,13 @@ fn span_of(script: &[u8], t: Token) -> Span
     }
 }
 
-#[derive(Drop)]
+#[derive(Clone, Copy)]
 pub struct Place {
     pub line: u32,
     pub column: u32,
 }
 
-#[derive(Drop)]
+#[derive(Clone, Copy)]
 pub enum Position {
     At(Place),
     Refused(u32),
@@ -172,7 +174,7 @@ pub fn line_column(script: &[u8], at: u32) -> Position
 }
 
 // How a call ends that looks up many positions.
-#[derive(Drop)]
+#[derive(Clone, Copy)]
 pub enum Filled {
     Done,
     Refused(u32),

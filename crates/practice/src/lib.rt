@@ -1,8 +1,10 @@
 // Practice sheets: the same script at every site from one seed.
+#![tactic(auto)]
+
 mod draw;
 
 ghost use Rattle.std.specs.Prelude.{◌≡◌};
-ghost use Rattle.text.specs.Answer.{result, answer_of};
+ghost use Rattle.text.specs.Answer.{result as result_of, answer_of};
 ghost use Rattle.text.specs.Emit.{Emits};
 ghost use Rattle.practice.specs.Practice.{text, leaf, expression};
 ghost use Rattle.practice.specs.Practice.{top_level, line, sheet, promised};
@@ -13,7 +15,7 @@ use lex::Refusal;
 use text::{Writing, write_byte, write_number, write_text};
 
 // Where writing has come to, and the seed for the next draw.
-#[derive(Drop)]
+#[derive(Clone, Copy)]
 struct Place {
     at: usize,
     seed: u32,
@@ -25,9 +27,8 @@ const TOP_LEVEL: u32 = 4;
 
 // A number or a name.
 fn write_leaf(pick: u32, seed: u32, out: &mut [u8], at: usize) -> Place
-    ensures* { λ r.
-        let drawn = leaf pick seed in
-        ⌜ WritesDrawn text drawn out.old at out.new r ⌝ }
+    ensures { let drawn = leaf pick seed in
+        WritesDrawn text drawn out.old at out.new result }
 {
     let s = next(seed);
     if pick == 0 {
@@ -41,9 +42,8 @@ fn write_leaf(pick: u32, seed: u32, out: &mut [u8], at: usize) -> Place
 
 // The level falls.
 fn write_expression(level: u32, seed: u32, out: &mut [u8], at: usize) -> Place
-    ensures* { λ r.
-        let drawn = expression level seed in
-        ⌜ WritesDrawn text drawn out.old at out.new r ⌝ }
+    ensures { let drawn = expression level seed in
+        WritesDrawn text drawn out.old at out.new result }
 {
     let s = next(seed);
     if level == 0 {
@@ -69,9 +69,8 @@ fn write_expression(level: u32, seed: u32, out: &mut [u8], at: usize) -> Place
 }
 
 fn write_line(i: u32, seed: u32, out: &mut [u8], at: usize) -> Place
-    ensures* { λ r.
-        let drawn = expression top_level seed in
-        ⌜ WritesDrawn (line i) drawn out.old at out.new r ⌝ }
+    ensures { let drawn = expression top_level seed in
+        WritesDrawn (line i) drawn out.old at out.new result }
 {
     let name = write_text(b"let v", out, at);
     let equal = write_number(i as usize, out, name);
@@ -85,7 +84,7 @@ fn write_line(i: u32, seed: u32, out: &mut [u8], at: usize) -> Place
 }
 
 fn write_lines(seed: u32, lines: u32, out: &mut [u8]) -> usize
-    ensures* { λ r. ⌜ Emits (sheet seed lines) out.old 0 out.new r ⌝ }
+    ensures { Emits (sheet seed lines) out.old 0 out.new result }
 {
     let mut at = 0;
     let mut s = seed;
@@ -102,9 +101,8 @@ fn write_lines(seed: u32, lines: u32, out: &mut [u8]) -> usize
 // The sheet of a seed. It is counted on an empty buffer before it is written, so that a buffer
 // that is too short stays as it is.
 pub fn write_sheet(seed: u32, lines: u32, out: &mut [u8]) -> Writing
-    ensures* { λ r.
-        let left = result (answer_of r) out.new in
-        ⌜ left ≡ promised seed lines out.old ⌝ }
+    ensures { let left = result_of (answer_of result) out.new in
+        left ≡ promised seed lines out.old }
 {
     if MAX_LINES < lines {
         return Writing::Refused(Refusal::TOO_MANY_LINES);

@@ -1,8 +1,10 @@
 // The correction sheet of a paper: each error by line and column, in words.
+#![tactic(auto)]
+
 ghost use Rattle.std.specs.Prelude.{◌≡◌, ◌-◌, ◌*◌, ◌≤◌, length};
 ghost use Rattle.lex.specs.Answer.{max_bytes};
 ghost use Rattle.ast.specs.Layout.{diagnostic_width};
-ghost use Rattle.text.specs.Answer.{result, answer_of};
+ghost use Rattle.text.specs.Answer.{result as result_of, answer_of};
 ghost use Rattle.text.specs.Emit.{Emits};
 ghost use Rattle.text.specs.Text.{number as number_of};
 ghost use Rattle.sheet.specs.Sheet.{blanks, right, heading, body};
@@ -18,14 +20,14 @@ use text::{Writing, write_byte, write_number, write_text};
 use words::{MAX_LINE, describe};
 
 // How many lines an error takes, or why it is refused.
-#[derive(Drop)]
+#[derive(Clone, Copy)]
 pub(crate) enum Counted {
     Lines(usize),
     Refused(u32),
 }
 
 // How far a sheet is written: where the next byte goes, and the place of the last error's start.
-#[derive(Drop)]
+#[derive(Clone, Copy)]
 pub(crate) struct Progress {
     pub to: usize,
     pub start: u32,
@@ -43,7 +45,7 @@ const PIECE: usize = 57;
 const MARGIN: usize = 15;
 
 fn write_blanks(n: usize, out: &mut [u8], at: usize) -> usize
-    ensures* { λ r. ⌜ Emits (blanks n) out.old at out.new r ⌝ }
+    ensures { Emits (blanks n) out.old at out.new result }
 {
     let mut to = at;
     let mut i = 0;
@@ -56,7 +58,7 @@ fn write_blanks(n: usize, out: &mut [u8], at: usize) -> usize
 
 // How many blanks stand before a number in five places.
 fn blanks_before(n: u32) -> usize
-    ensures* { λ r. ⌜ r ≡ 5 - length (number_of n) ⌝ }
+    ensures { result ≡ 5 - length (number_of n) }
 {
     if n < 10 {
         return 4;
@@ -74,7 +76,7 @@ fn blanks_before(n: u32) -> usize
 }
 
 fn write_right(n: u32, out: &mut [u8], at: usize) -> usize
-    ensures* { λ r. ⌜ Emits (right (number_of n)) out.old at out.new r ⌝ }
+    ensures { Emits (right (number_of n)) out.old at out.new result }
 {
     let a = write_blanks(blanks_before(n), out, at);
     write_number(n as usize, out, a)
@@ -82,7 +84,7 @@ fn write_right(n: u32, out: &mut [u8], at: usize) -> usize
 
 // Line, column and number of an error.
 fn write_heading(p: Place, number: u32, out: &mut [u8], at: usize) -> usize
-    ensures* { λ r. ⌜ Emits (heading p number) out.old at out.new r ⌝ }
+    ensures { Emits (heading p number) out.old at out.new result }
 {
     let a = write_right(p.line, out, at);
     let b = write_blanks(1, out, a);
@@ -94,8 +96,7 @@ fn write_heading(p: Place, number: u32, out: &mut [u8], at: usize) -> usize
 
 // The words in pieces, each but the last followed by a line feed and a margin.
 fn write_body(words: &[u8], out: &mut [u8], at: usize) -> usize
-    ensures* { λ r.
-        ⌜ Emits (body words.now) out.old at out.new r ⌝ }
+    ensures { Emits (body words.now) out.old at out.new result }
 {
     let mut to = at;
     let mut from = 0;
@@ -113,7 +114,7 @@ fn write_body(words: &[u8], out: &mut [u8], at: usize) -> usize
 
 fn error_at(errors: &[u32], i: usize) -> Diagnostic
     requires { diagnostic_width * i ≤ length errors.now }
-    ensures* { λ r. ⌜ r ≡ error_at errors.now i ⌝ }
+    ensures { result ≡ error_at errors.now i }
 {
     let at = DIAGNOSTIC_WIDTH * i;
     let number = cell(errors, at, 0);
@@ -132,7 +133,7 @@ fn error_at(errors: &[u32], i: usize) -> Diagnostic
 
 // The lines of an error at a place; none where it has no words.
 fn write_lines(p: Place, e: Diagnostic, out: &mut [u8], at: usize) -> usize
-    ensures* { λ r. ⌜ Emits (lines_at p e) out.old at out.new r ⌝ }
+    ensures { Emits (lines_at p e) out.old at out.new result }
 {
     let mut line = [0u8; MAX_LINE];
     match describe(e, &mut line) {
@@ -147,8 +148,7 @@ fn write_lines(p: Place, e: Diagnostic, out: &mut [u8], at: usize) -> usize
 // The lines of one more error; none where it is refused. Its place is found from the last one's.
 fn write_entry(script: &[u8], e: Diagnostic, w: Progress, out: &mut [u8]) -> Progress
     requires { Reached script.now w }
-    ensures* { λ r.
-        ⌜ EntryWritten script.now e w out.old r out.new ⌝ }
+    ensures { EntryWritten script.now e w out.old result out.new }
 {
     let place = w.place;
     match advance(script, w.start, place, e.start) {
@@ -167,7 +167,7 @@ fn write_entry(script: &[u8], e: Diagnostic, w: Progress, out: &mut [u8]) -> Pro
 // How many lines an error takes.
 fn count_lines(script: &[u8], e: Diagnostic) -> Counted
     requires { length script.now ≤ max_bytes }
-    ensures* { λ r. ⌜ counted_of r ≡ sized (entry script.now e) ⌝ }
+    ensures { counted_of result ≡ sized (entry script.now e) }
 {
     let mut line = [0u8; MAX_LINE];
     match describe(e, &mut line) {
@@ -191,8 +191,7 @@ fn count_lines(script: &[u8], e: Diagnostic) -> Counted
 // How many lines all errors take, or the first refusal.
 fn count_all(script: &[u8], errors: &[u32]) -> Counted
     requires { length script.now ≤ max_bytes }
-    ensures* { λ r.
-        ⌜ counted_of r ≡ sized (entries script.now errors.now) ⌝ }
+    ensures { counted_of result ≡ sized (entries script.now errors.now) }
 {
     let count = errors.len() / DIAGNOSTIC_WIDTH;
     let mut lines = 0;
@@ -209,9 +208,8 @@ fn count_all(script: &[u8], errors: &[u32]) -> Counted
 
 // The lines of all errors.
 fn write_all(script: &[u8], errors: &[u32], out: &mut [u8]) -> usize
-    ensures* { λ r.
-        let text = texts_of script.now errors.now in
-        ⌜ Emits text out.old 0 out.new r ⌝ }
+    ensures { let text = texts_of script.now errors.now in
+        Emits text out.old 0 out.new result }
 {
     let count = errors.len() / DIAGNOSTIC_WIDTH;
     let mut w = Progress {
@@ -230,9 +228,8 @@ fn write_all(script: &[u8], errors: &[u32], out: &mut [u8]) -> usize
 // The sheet of the errors, five numbers each. They are looked at before anything is written, so
 // that the buffer is as it was where the sheet is refused.
 pub fn print_sheet(script: &[u8], errors: &[u32], sheet: &mut [u8]) -> Writing
-    ensures* { λ r.
-        let left = result (answer_of r) sheet.new in
-        ⌜ left ≡ printed script.now errors.now sheet.old ⌝ }
+    ensures { let left = result_of (answer_of result) sheet.new in
+        left ≡ printed script.now errors.now sheet.old }
 {
     if MAX_BYTES < script.len() {
         return Writing::Refused(Refusal::TOO_LONG);

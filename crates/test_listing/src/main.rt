@@ -1,5 +1,7 @@
 // Lists arrays that hold trees of the fixed list, and the answers without a tree; what it writes is
 // the Rust's text.
+#![tactic(auto)]
+
 use ast::{Counts, Parsed};
 use lex::Diagnostic;
 

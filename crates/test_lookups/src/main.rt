@@ -1,6 +1,8 @@
 // Lookups and comparison on arrays made by hand, whole and damaged. The cases come from standard
 // input, as tools/cases writes them: a name, which lookup, what is asked about, what is lent. Each
 // gives a line: its name and the answer. proofs/Examples.antt has what the definitions say.
+#![tactic(auto)]
+
 ghost use Rattle.io.specs.Counts.{IsPrefixLen as Counted};
 
 use ast::{Counts, NodeId, TypeExprId};

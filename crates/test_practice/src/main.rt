@@ -1,6 +1,8 @@
 // Practice sheets in lent buffers that are exactly long enough, too short, and longer, all full of
 // dots. Each case on standard input is a seed, a number of lines and the length of the buffer.
 // Printed are the answer and the whole buffer.
+#![tactic(auto)]
+
 use console::frames::{Number, read_up_to};
 use console::output::{write, write_number};
 use text::Writing;

@@ -2,6 +2,8 @@
 // rubbish. The cases come from standard input, as tools/cases writes them: a name, the mode, the
 // lengths of the five arrays, the script. Printed are the answer and every cell of the arrays.
 // proofs/Examples.antt has what the definitions say.
+#![tactic(auto)]
+
 ghost use Rattle.std.specs.Prelude.{◌≤◌, length};
 
 use ast::Parsed;

@@ -3,6 +3,8 @@
 // the listing of collecting mode. A script is a frame of at most 960 bytes. What is framed
 // otherwise ends the program. Each reading is made again in two steps, and `(differs)` printed where
 // these leave something else.
+#![tactic(auto)]
+
 use ast::{Counts, NodeId, Parsed, TypeExprId};
 use console::frames::Frame;
 use console::output::{write, write_number};

@@ -1,5 +1,7 @@
 // The words of every error number and every kind, and sheets with their refusals, on standard
 // output. `stdout` is written from the table in docs/WORDS.md by tools/test_sheet.
+#![tactic(auto)]
+
 use console::output::{write, write_number};
 use lex::Diagnostic;
 use sheet::print_sheet;

@@ -1,5 +1,7 @@
 // Every error in words on standard output, a line each behind its number, wanted and seen, and what
 // is refused. `tools/words` holds the file `stdout` to the tables of docs/WORDS.md.
+#![tactic(auto)]
+
 use console::output::{write, write_number};
 use lex::Diagnostic;
 use text::Writing;

@@ -1,12 +1,14 @@
 // Bytes, texts and numbers into a buffer from a position on. Behind the buffer's end they are only
 // counted.
+#![tactic(auto)]
+
 ghost use Rattle.std.specs.Prelude.{[], ◌∷◌};
 ghost use Rattle.text.specs.Text.{number};
 ghost use Rattle.text.specs.Emit.{Emits};
 
 // How a call ends that writes a text into a lent buffer: the text's length in bytes, or the number
 // of the refusal.
-#[derive(Drop)]
+#[derive(Clone, Copy)]
 pub enum Writing {
     Written(usize),
     Refused(u32),

@@ -1,4 +1,6 @@
 // Cutting a script into a lent table of tokens and a lent table of the lexer's errors.
+#![tactic(auto)]
+
 ghost use Rattle.std.specs.Prelude.{◌≡◌, ◌&&◌, ◌++◌, ℕ, ◌+◌, ◌*◌, ◌-◌, ◌≤◌, length, take, drop};
 ghost use Rattle.lex.specs.Answer.{max_bytes};
 ghost use Rattle.lex.specs.Bytes.{class_table};
@@ -16,14 +18,14 @@ use lex::{
 };
 
 // How many records each table has.
-#[derive(Drop)]
+#[derive(Clone, Copy)]
 pub struct TableCounts {
     pub tokens: u32,
     pub errors: u32,
 }
 
 // What cutting answers: how many records it made, or 1 or 2.
-#[derive(Drop)]
+#[derive(Clone, Copy)]
 pub enum Cutting {
     Done(TableCounts),
     Refused(u32),
@@ -65,7 +67,7 @@ fn put_error(errors: &mut [u32], n: usize, e: Fault, after: usize)
 }
 
 // What record `n` says of a token.
-#[derive(Drop)]
+#[derive(Clone, Copy)]
 pub struct Entry {
     pub kind: u32,
     pub start: u32,
@@ -92,7 +94,7 @@ pub fn token_at(tokens: &[u32], i: usize) -> Entry
 }
 
 // What record `n` says of an error, and how many tokens were cut before it.
-#[derive(Drop)]
+#[derive(Clone, Copy)]
 pub struct ErrorEntry {
     pub error: Diagnostic,
     pub after: u32,
@@ -159,7 +161,7 @@ fn step_at(classes: &[u8; 256], script: &[u8], pos: usize) -> Step
 }
 
 // Where filling stopped: how many records it made, where it would go on, and whether the script has ended.
-#[derive(Drop)]
+#[derive(Clone, Copy)]
 struct Stop {
     tokens: usize,
     errors: usize,

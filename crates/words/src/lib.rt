@@ -1,6 +1,8 @@
 // An error of a script in words. docs/WORDS.md has the table.
+#![tactic(auto)]
+
 ghost use Rattle.std.specs.Prelude.{◌≡◌, ◌<◌};
-ghost use Rattle.text.specs.Answer.{result, answer_of};
+ghost use Rattle.text.specs.Answer.{result as result_of, answer_of};
 ghost use Rattle.text.specs.Emit.{Emits};
 ghost use Rattle.words.specs.Words.{phrase, kind_name, hex_digit, hex, details, is_kind};
 ghost use Rattle.words.specs.Words.{is_script_error, is_wanted, is_seen, has_words, described};
@@ -92,7 +94,7 @@ const KIND_BOUNDS: [usize; 45] = [
 ];
 
 fn write_phrase(number: u32, out: &mut [u8], at: usize) -> usize
-    ensures* { λ r. ⌜ Emits (phrase number) out.old at out.new r ⌝ }
+    ensures { Emits (phrase number) out.old at out.new result }
 {
     if Diagnostic::INVALID_NUMBER < number {
         return at;
@@ -104,7 +106,7 @@ fn write_phrase(number: u32, out: &mut [u8], at: usize) -> usize
 }
 
 fn write_kind(kind: u32, out: &mut [u8], at: usize) -> usize
-    ensures* { λ r. ⌜ Emits (kind_name kind) out.old at out.new r ⌝ }
+    ensures { Emits (kind_name kind) out.old at out.new result }
 {
     if Type::RECORD < kind {
         return at;
@@ -117,14 +119,14 @@ fn write_kind(kind: u32, out: &mut [u8], at: usize) -> usize
 
 fn hex_digit(d: u32) -> u8
     requires { d < 16 }
-    ensures* { λ r. ⌜ r ≡ hex_digit d ⌝ }
+    ensures { result ≡ hex_digit d }
 {
     if d < 10 { 48 + d as u8 } else { 55 + d as u8 }
 }
 
 // Two hexadecimal digits.
 fn write_hex(b: u32, out: &mut [u8], at: usize) -> usize
-    ensures* { λ r. ⌜ Emits (hex b) out.old at out.new r ⌝ }
+    ensures { Emits (hex b) out.old at out.new result }
 {
     let a = write_byte(hex_digit(b / 16 % 16), out, at);
     write_byte(hex_digit(b % 16), out, a)
@@ -132,9 +134,8 @@ fn write_hex(b: u32, out: &mut [u8], at: usize) -> usize
 
 // What stands behind the phrase.
 fn write_details(number: u32, wanted: u32, seen: u32, out: &mut [u8], at: usize) -> usize
-    ensures* { λ r.
-        let text = details number wanted seen in
-        ⌜ Emits text out.old at out.new r ⌝ }
+    ensures { let text = details number wanted seen in
+        Emits text out.old at out.new result }
 {
     if number == Diagnostic::EXPECTED_TOKEN {
         let a = write_kind(wanted, out, at);
@@ -151,20 +152,20 @@ fn write_details(number: u32, wanted: u32, seen: u32, out: &mut [u8], at: usize)
 }
 
 fn is_kind(k: u32) -> bool
-    ensures* { λ r. ⌜ r ≡ is_kind k ⌝ }
+    ensures { result ≡ is_kind k }
 {
     (Type::EOF <= k) & (k <= Type::RECORD)
 }
 
 fn is_script_error(number: u32) -> bool
-    ensures* { λ r. ⌜ r ≡ is_script_error number ⌝ }
+    ensures { result ≡ is_script_error number }
 {
     ((Diagnostic::TOO_DEEP <= number) & (number <= Diagnostic::BAD_TYPE))
         | ((Diagnostic::UNTERMINATED_STRING <= number) & (number <= Diagnostic::INVALID_NUMBER))
 }
 
 fn is_wanted(number: u32, wanted: u32) -> bool
-    ensures* { λ r. ⌜ r ≡ is_wanted number wanted ⌝ }
+    ensures { result ≡ is_wanted number wanted }
 {
     if number == Diagnostic::EXPECTED_TOKEN {
         return is_kind(wanted);
@@ -173,7 +174,7 @@ fn is_wanted(number: u32, wanted: u32) -> bool
 }
 
 fn is_seen(number: u32, seen: u32) -> bool
-    ensures* { λ r. ⌜ r ≡ is_seen number seen ⌝ }
+    ensures { result ≡ is_seen number seen }
 {
     if number <= Diagnostic::BAD_TYPE {
         return is_kind(seen);
@@ -186,15 +187,14 @@ fn is_seen(number: u32, seen: u32) -> bool
 
 // 42 is for errors that have no words.
 fn has_words(e: Diagnostic) -> bool
-    ensures* { λ r. ⌜ r ≡ has_words e ⌝ }
+    ensures { result ≡ has_words e }
 {
     is_script_error(e.number) & is_wanted(e.number, e.wanted) & is_seen(e.number, e.seen)
 }
 
 // The words of an error into the buffer `line`, with what it held behind them.
 pub fn describe(e: Diagnostic, line: &mut [u8]) -> Writing
-    ensures* { λ r.
-        ⌜ result (answer_of r) line.new ≡ described e line.old ⌝ }
+    ensures { result_of (answer_of result) line.new ≡ described e line.old }
 {
     if line.len() < MAX_LINE {
         return Writing::Refused(Refusal::LINE_TOO_SHORT);
