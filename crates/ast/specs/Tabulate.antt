@@ -20,9 +20,9 @@ rows g (suc n) = rows g n ++ (g n ∷ [])
 
 module _ {R A : Type 0} (f : (ℕ → Option A) → R → Option A) (g : ℕ → R) where
   -- what the rows before `n` give
-  unfoldable pub entries_below_lem : ℕ → ℕ → Option A
-  entries_below_lem n = lookup (tabulate f [] (rows g n))
+  unfoldable pub entries_below : ℕ → ℕ → Option A
+  entries_below n = lookup (tabulate f [] (rows g n))
 
   -- what row `i` gives, by those before it
   unfoldable pub entry_at : ℕ → Option A
-  entry_at i = f (entries_below_lem i) (g i)
+  entry_at i = f (entries_below i) (g i)

@@ -16,7 +16,7 @@ use Rattle.tokens.specs.Tables.{token_table, error_table, is_cut}
 use Rattle.tokens.proofs.Whole.{tabled_is_cut}
 use Rattle.rules.specs.Tree.{Tree}
 use Rattle.rules.specs.Parse.{Reading, read, ended}
-use Rattle.rules.specs.Promise.{Arrays, Outcome, too_short_lem, outcome, promised}
+use Rattle.rules.specs.Promise.{Arrays, Outcome, too_short, outcome, promised}
 use Rattle.ast.specs.declared.Parsed.TheVariants as P
 use Rattle.compare.proofs.Held.{or-false}
 use Rattle.parser.specs.Steps.{turned_away, any_too_short, read_promised, WholeOutcome, parse_promised}
@@ -55,9 +55,9 @@ pub record TablesLeft (script tokens errors : List ℕ) (l : Arrays) (tokens' er
   pub cut_left : length script ≤ max_bytes → any_too_short script tokens errors l ≡ false → is_cut script tokens' errors' ≡ true
 
 module _ (how : List ℕ → Reading) (script tokens errors : List ℕ) (l : Arrays) where
-  enough : any_too_short script tokens errors l ≡ false → (too_short_lem script l ≡ false) × (T.too_short script tokens errors ≡ false)
+  enough : any_too_short script tokens errors l ≡ false → (too_short script l ≡ false) × (T.too_short script tokens errors ≡ false)
   unfolding any_too_short
-  enough k = or-false (too_short_lem script l) (T.too_short script tokens errors) k
+  enough k = or-false (too_short script l) (T.too_short script tokens errors) k
 
   abbrev whole : Bool → Bool → Reading → WholeOutcome
   whole long short r =

@@ -17,7 +17,7 @@ use Rattle.rules.specs.Rules.{stage_one}
 use Rattle.rules.specs.Parse.{read, ended}
 use Rattle.ast.specs.Layout.{node_width, type_width, padded, node_cells, type_cells, diagnostic_cells}
 use Rattle.lex.specs.Answer.{Answer, answer}
-use Rattle.rules.specs.Promise.{Arrays, too_short_lem, zeroed, holding, Outcome, outcome, promised, numbers_of}
+use Rattle.rules.specs.Promise.{Arrays, too_short, zeroed, holding, Outcome, outcome, promised, numbers_of}
 use Rattle.parser.specs.Steps.{turned_away, any_too_short, read_promised, parse_promised}
 use Rattle.tokens.specs.Tables as T
 use Rattle.rules.specs.Shape.{Word}
@@ -135,7 +135,7 @@ pub record InFront (cells lent left : List ℕ) : Type 0 where
 pub record WholeTree (mode : Mode) (script : List ℕ) (l l' : Arrays) : Type 0 where
   pub tree : Tree
   pub errors : List Diagnostic
-  pub is_read_lem : reading mode script ≡ read tree errors
+  pub is_read : reading mode script ≡ read tree errors
   pub nodes : InFront (flatten (map node_cells tree.arena.nodes)) l.nodes l'.nodes
   pub types : InFront (flatten (map type_cells tree.arena.types)) l.types l'.types
   pub lists : InFront tree.arena.cells l.lists l'.lists
@@ -163,9 +163,9 @@ record Enough (script : List ℕ) (l : Arrays) : Type 0 where
   pub diagnostics : 5 * length script ≤ length l.diagnostics
 
 enough : (script tokens errors : List ℕ) (l : Arrays) → any_too_short script tokens errors l ≡ false → Enough script l
-unfolding any_too_short too_short_lem
+unfolding any_too_short too_short
 enough script tokens errors l k =
-    let p = or-false _ _ (or-false (too_short_lem script l) (T.too_short script tokens errors) k).0 in
+    let p = or-false _ _ (or-false (too_short script l) (T.too_short script tokens errors) k).0 in
     let q = or-false _ _ p.1 in
     let r = or-false _ _ q.1 in
     let u = or-false _ _ r.1 in
@@ -181,7 +181,7 @@ module _ (steps : Steps) (mode : Mode) (script tokens errors : List ℕ) (l : Ar
       record {
         tree = t;
         errors = es;
-        is_read_lem = p;
+        is_read = p;
         nodes = record { whole = omega (arith, laid-length node_width node_cells node-length t.arena.nodes, b.nodes, h.nodes); is = refl };
         types = record { whole = omega (arith, laid-length type_width type_cells type-length t.arena.types, b.made, h.types); is = refl };
         lists = record { whole = omega (arith, m.cells, h.lists); is = refl };

@@ -13,7 +13,7 @@ use Rattle.rules.specs.Rules.{stage_one}
 use Rattle.rules.specs.Parse.{Reading, read, ended, parse, parse_collect}
 use Rattle.ast.specs.Layout.{diagnostic_cells}
 use Rattle.lex.specs.Answer.{max_bytes}
-use Rattle.rules.specs.Promise.{Arrays, Outcome, outcome, too_short_lem, promised, numbers_of}
+use Rattle.rules.specs.Promise.{Arrays, Outcome, outcome, too_short, promised, numbers_of}
 use Rattle.ast.specs.declared.Parsed.{Parsed}
 use Rattle.ast.specs.declared.Parsed.TheVariants as P
 use Rattle.text.specs.Emit.{plain}
@@ -47,9 +47,9 @@ module _ (how : List ℕ → Reading) (script : List ℕ) (l : Arrays) where
       by_arrays false = outcome-small (how script)
 
       by_length : (b : Bool)
-          → Small (elim b as (λ b'. Outcome) [ true ↦ record { answer = P.Refused 1; arrays = l } | false ↦ elim (too_short_lem script l) as (λ b'. Outcome) [ true ↦ record { answer = P.Refused 2; arrays = l } | false ↦ outcome (how script) l ] ])
+          → Small (elim b as (λ b'. Outcome) [ true ↦ record { answer = P.Refused 1; arrays = l } | false ↦ elim (too_short script l) as (λ b'. Outcome) [ true ↦ record { answer = P.Refused 2; arrays = l } | false ↦ outcome (how script) l ] ])
       by_length true = refused-small 1 (omega arith) (omega arith)
-      by_length false = by_arrays (too_short_lem script l)
+      by_length false = by_arrays (too_short script l)
 
 number_large : (e : Diagnostic) → has_words e ≡ true → 10 ≤ e.number
 unfolding has_words

@@ -19,11 +19,11 @@ use Rattle.lex.specs.Kind.{k_eof}
 use Rattle.rules.specs.Combinators.{choose}
 use Rattle.ast.specs.Layout.{node_width, type_width, zeros, padded, node_cells, type_cells}
 use Rattle.lex.specs.Answer.{max_bytes, Answer, answer}
-use Rattle.rules.specs.Promise.{Arrays, too_short_lem, holding, Outcome, outcome, promised}
+use Rattle.rules.specs.Promise.{Arrays, too_short, holding, Outcome, outcome, promised}
 use Rattle.rules.specs.Shape as R
 use Rattle.rules.specs.Shape.{Shapes, shape_of}
 use Rattle.ast.specs.Lists.{and_then}
-use Rattle.ast.specs.Tabulate.{tabulate, lookup, rows, entries_below_lem}
+use Rattle.ast.specs.Tabulate.{tabulate, lookup, rows, entries_below}
 use Rattle.ast.specs.declared.Counts.{Counts}
 use Rattle.ast.specs.declared.Parsed.TheVariants as P
 use Rattle.rules.proofs.Unique.Whole.{shaped}
@@ -100,11 +100,11 @@ pub record Holds (l : Lent) (t : Tree) : Type 0 where
 
 module _ (l : Lent) (t : Tree) (h : Holds l t) where
   types_hold_lem : types_in (view_of l) ≡ R.type_shape_at l.script t.arena
-  unfolding types_below entries_below_lem R.type_shape_at R.type_in
+  unfolding types_below entries_below R.type_shape_at R.type_in
   types_hold_lem = rw (h.types, h.cells) (ap lookup (tabulate-some (R.type_in l.script t.arena) [] t.arena.types))
 
   nodes_hold_lem : nodes_below (view_of l) l.counts.nodes ≡ R.node_shape_at l.script t.arena
-  unfolding nodes_below entries_below_lem R.node_shape_at R.node_in
+  unfolding nodes_below entries_below R.node_shape_at R.node_in
   nodes_hold_lem = rw (types_hold_lem, h.nodes, h.cells) (ap lookup (tabulate-some (R.node_in l.script t.arena) [] t.arena.nodes))
 
   pub shape-held : shape_in l ≡ shape_of l.script t
@@ -142,8 +142,8 @@ or-false false b e = (refl, e)
 enough : (n k : ℕ) (xs : List ℕ) → ltb n k ≡ false → ltb (length (padded n xs)) k ≡ false
 enough n k xs h = le-ltb (length (padded n xs)) k (let a = ltb-false n k h in let b = padded-length n xs in omega arith)
 
-not_refused : (script : List ℕ) (t : Tree) (es : List Diagnostic) (l : Arrays) → ltb max_bytes (length script) ≡ false → too_short_lem script l ≡ false → refusal (held_in script t es l) ≡ 0
-unfolding refusal too_short_lem held_in holding
+not_refused : (script : List ℕ) (t : Tree) (es : List Diagnostic) (l : Arrays) → ltb max_bytes (length script) ≡ false → too_short script l ≡ false → refusal (held_in script t es l) ≡ 0
+unfolding refusal too_short held_in holding
 not_refused script t es l h k =
     let n = length script in
     let p = or-false _ _ k in
@@ -194,16 +194,16 @@ module _ (mode : Mode) (script : List ℕ) (l : Arrays) where
   unfolding promised
   long_is h = rw (h, promised)
 
-  short_is : ltb max_bytes (length script) ≡ false → too_short_lem script l ≡ true → (promised (reading mode) script l).answer ≡ P.Refused 2
+  short_is : ltb max_bytes (length script) ≡ false → too_short script l ≡ true → (promised (reading mode) script l).answer ≡ P.Refused 2
   unfolding promised
   short_is h k = rw (h, k, promised)
 
-  read_is : (r : Reading) → ltb max_bytes (length script) ≡ false → too_short_lem script l ≡ false → reading mode script ≡ r → promised (reading mode) script l ≡ outcome r l
+  read_is : (r : Reading) → ltb max_bytes (length script) ≡ false → too_short script l ≡ false → reading mode script ≡ r → promised (reading mode) script l ≡ outcome r l
   unfolding promised
   read_is r h k p = rw (h, k, promised) (ap (λ (x : Reading). outcome x l) p)
 
   module _ (c : Counts) (e : Returns mode script l c) where
-    tree_is : (t : Tree) (es : List Diagnostic) → ltb max_bytes (length script) ≡ false → too_short_lem script l ≡ false → reading mode script ≡ read t es → Returned mode script l c
+    tree_is : (t : Tree) (es : List Diagnostic) → ltb max_bytes (length script) ≡ false → too_short script l ≡ false → reading mode script ≡ read t es → Returned mode script l c
     unfolding outcome counts_of held_in
     tree_is t es h k p =
         let o : promised (reading mode) script l ≡ outcome (read t es) l = read_is (read t es) h k p in
@@ -220,9 +220,9 @@ module _ (mode : Mode) (script : List ℕ) (l : Arrays) where
 
     returned-tree : Returned mode script l c
     unfolding outcome
-    returned-tree = go (ltb max_bytes (length script)) (too_short_lem script l) (reading mode script) refl refl refl
+    returned-tree = go (ltb max_bytes (length script)) (too_short script l) (reading mode script) refl refl refl
       where
-        go : (b d : Bool) (r : Reading) → ltb max_bytes (length script) ≡ b → too_short_lem script l ≡ d → reading mode script ≡ r → Returned mode script l c
+        go : (b d : Bool) (r : Reading) → ltb max_bytes (length script) ≡ b → too_short script l ≡ d → reading mode script ≡ r → Returned mode script l c
         go true d r h k p = absurd (let a : P.Refused 1 ≡ P.Tree c = sym (long_is h) ∙ e in let z : ◌≡◌ {A = ℕ} 0 1 = cc in omega arith)
         go false true r h k p = absurd (let a : P.Refused 2 ≡ P.Tree c = sym (short_is h k) ∙ e in let z : ◌≡◌ {A = ℕ} 0 1 = cc in omega arith)
         go false false (ended x) h k p = absurd (let a : P.Error x ≡ P.Tree c = sym (ap (λ (y : Outcome). y.answer) (read_is (ended x) h k p)) ∙ e in let z : ◌≡◌ {A = ℕ} 0 1 = cc in omega arith)

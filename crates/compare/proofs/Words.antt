@@ -8,7 +8,7 @@ use native.Mathlib.Omega.{arith}
 use lib.Dec.{ltb, eqb}
 use lib.ListN.{length, take, drop}
 use borrow.Author.Tests.{eq-eqb, eqb-true}
-use Rattle.lex.specs.Kind.{same_bytes_lem, fixed_spelling}
+use Rattle.lex.specs.Kind.{same_bytes, fixed_spelling}
 use Rattle.lex.specs.Spelling.{has_spelling, spelling, well_formed}
 use Rattle.lex.specs.declared.byte_search.Found.TheVariants.{At, Nothing}
 use Rattle.lex.specs.declared.tok.Token.{Token}
@@ -91,13 +91,13 @@ module _ (s s' : List ℕ) (t t' : Token) where
 
 -- ---- the comparison of bytes
 
-pub same_bytes_lem : (xs ys : List ℕ) → Decides (same_bytes_lem xs ys) (xs ≡ ys)
-unfolding same_bytes_lem
+pub same_bytes_lem : (xs ys : List ℕ) → Decides (same_bytes xs ys) (xs ≡ ys)
+unfolding same_bytes
 same_bytes_lem [] [] = decides_yes refl
 same_bytes_lem [] (y ∷ ys) = decides_no (λ e. let z : ◌≡◌ {A = ℕ} 0 1 = cc in omega arith)
 same_bytes_lem (x ∷ xs) [] = decides_no (λ e. let z : ◌≡◌ {A = ℕ} 0 1 = cc in omega arith)
 same_bytes_lem (x ∷ xs) (y ∷ ys) = go (eqb x y) refl (same_bytes_lem xs ys)
   where
-    go : (b : Bool) → eqb x y ≡ b → Decides (same_bytes_lem xs ys) (xs ≡ ys) → Decides (elim b [ true ↦ same_bytes_lem xs ys | false ↦ false ]) (◌≡◌ {A = List ℕ} (x ∷ xs) (y ∷ ys))
+    go : (b : Bool) → eqb x y ≡ b → Decides (same_bytes xs ys) (xs ≡ ys) → Decides (elim b [ true ↦ same_bytes xs ys | false ↦ false ]) (◌≡◌ {A = List ℕ} (x ∷ xs) (y ∷ ys))
     go true e d = decides_by (λ (p : xs ≡ ys). ap₂ ◌∷◌ (eqb-true x y e) p) (λ (q : ◌≡◌ {A = List ℕ} (x ∷ xs) (y ∷ ys)). let z : xs ≡ ys = cc in z) d
     go false e d = decides_no (λ (q : ◌≡◌ {A = List ℕ} (x ∷ xs) (y ∷ ys)). let p : x ≡ y = cc in let z : false ≡ true = sym e ∙ eq-eqb x y p in let o : ◌≡◌ {A = ℕ} 0 1 = cc in omega arith)

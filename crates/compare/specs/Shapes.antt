@@ -8,7 +8,7 @@ use Rattle.ast.specs.declared.Node.{Node}
 use Rattle.ast.specs.declared.TypeExpr.{TypeExpr}
 use Rattle.lex.specs.Bytes.{if}
 use Rattle.ast.specs.Decode.{fits, node_at, type_at}
-use Rattle.ast.specs.Tabulate.{entries_below_lem}
+use Rattle.ast.specs.Tabulate.{entries_below}
 use Rattle.ast.specs.Answer.{Lent, cells_of}
 
 -- an unknown record has no shape
@@ -29,7 +29,7 @@ word_env script cells = record { script = script; cells = cells; type = λ i. no
 
 -- the shapes of the types before `n`
 unfoldable pub types_below : (script cells types : List ℕ) → ℕ → ℕ → Option TypeShape
-types_below script cells types n = entries_below_lem (type_row script cells) (type_at types) n
+types_below script cells types n = entries_below (type_row script cells) (type_at types) n
 
 abbrev pub type_env : (script cells types : List ℕ) → ℕ → Env
 type_env script cells types n =
@@ -65,7 +65,7 @@ types_in v = types_below v.script v.cells v.types v.type_count
 
 -- its nodes before `n`
 unfoldable pub nodes_below : View → ℕ → ℕ → Option Shape
-nodes_below v n = entries_below_lem (node_row v.script v.cells (types_in v)) (node_at v.nodes) n
+nodes_below v n = entries_below (node_row v.script v.cells (types_in v)) (node_at v.nodes) n
 
 abbrev pub env_below : View → ℕ → Env
 env_below v n =

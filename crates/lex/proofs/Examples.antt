@@ -5,7 +5,7 @@ use mathlib.Core.List.{[], ◌∷◌}
 use Prim.Native.Nat.{ℕ}
 use Rattle.lex.specs.declared.byte_search.Found.TheVariants.{At, Nothing}
 use Rattle.lex.specs.Bytes.{or, between, is_ws, is_digit, is_ident_start, is_ident_cont, is_num_cont, count_while, differs_from, before, find_byte}
-use Rattle.lex.specs.Kind.{k_brace_left, k_not_equal, k_dot, k_s, k_d, k_ident, k_doc, k_import, same_bytes_lem, keywords, name_kind, punctuators, punctuator_kinds, punctuator_kind}
+use Rattle.lex.specs.Kind.{k_brace_left, k_not_equal, k_dot, k_s, k_d, k_ident, k_doc, k_import, same_bytes, keywords, name_kind, punctuators, punctuator_kinds, punctuator_kind}
 use Rattle.lex.specs.Utf8.{least_second, greatest_second, after_lead, after_continuation, next_state, state_after, utf8}
 use Rattle.lex.specs.Lex.{begins_comment, skipped, punctuator, punctuation, leading_space, doc_in, doc, string, double_in, number_in, number, name, symbol, piece, stands_at, step_at, Cut, eof, cut_token, cut_fault, cut_from, cut_at, cut}
 use Rattle.lex.specs.Spelling.{spelling_offset, spelling_start, spelling}
@@ -38,7 +38,7 @@ pub examples :
     -- `a != b # c`
     × (cut (97 ∷ 32 ∷ 33 ∷ 61 ∷ 32 ∷ 98 ∷ 32 ∷ 35 ∷ 32 ∷ 99 ∷ []) ≡ tok k_ident 0 1 1 (tok k_not_equal 2 2 4 (tok k_ident 5 1 6 (eof 10))))
 unfolding
-    cut cut_at cut_from step_at stands_at skipped begins_comment is_ws or piece is_ident_start between is_digit name is_ident_cont count_while name_kind keywords same_bytes_lem
+    cut cut_at cut_from step_at stands_at skipped begins_comment is_ws or piece is_ident_start between is_digit name is_ident_cont count_while name_kind keywords same_bytes
     number number_in double_in is_num_cont find_byte before differs_from string utf8 state_after next_state after_lead least_second greatest_second after_continuation
     symbol doc doc_in leading_space punctuation punctuator punctuator_kind punctuators punctuator_kinds
 examples = (refl, refl, refl, refl, refl, refl, refl, refl, refl)

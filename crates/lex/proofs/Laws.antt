@@ -15,7 +15,7 @@ use Rattle.lex.specs.declared.byte_search.Found.{Found}
 use Rattle.lex.specs.declared.byte_search.Found.TheVariants.{At, Nothing}
 use Rattle.lex.specs.declared.utf8.Utf8State.{Utf8State}
 use Rattle.lex.specs.Bytes.{count_while, differs_from, is_plain, before, find_byte}
-use Rattle.lex.specs.Kind.{Keyword, k_ident, same_bytes_lem, name_kind}
+use Rattle.lex.specs.Kind.{Keyword, k_ident, same_bytes, name_kind}
 use Rattle.lex.specs.Utf8.{next_state, state_after}
 use Rattle.lex.specs.Lex.{leading_space}
 
@@ -213,32 +213,32 @@ module _ (p : Utf8State) (s : List ℕ) (i : ℕ) (q : Utf8State) (reached : sta
 
 -- ---- two spellings, compared one byte at a time
 
-module _ (a b : List ℕ) (i : ℕ) (t : Bool) (compared : same_bytes_lem (drop i a) (drop i b) ≡ t) (ha : i < length a) (hb : i < length b) where
-  pub same_more : get_or a i 0 ≡ get_or b i 0 → same_bytes_lem (drop (i + 1) a) (drop (i + 1) b) ≡ t
-  unfolding same_bytes_lem
-  same_more e = rw add-one (rw (drop-cons a i 0 ha, drop-cons b i 0 hb, eq-eqb (get_or a i 0) (get_or b i 0) e, same_bytes_lem) at compared)
+module _ (a b : List ℕ) (i : ℕ) (t : Bool) (compared : same_bytes (drop i a) (drop i b) ≡ t) (ha : i < length a) (hb : i < length b) where
+  pub same_more : get_or a i 0 ≡ get_or b i 0 → same_bytes (drop (i + 1) a) (drop (i + 1) b) ≡ t
+  unfolding same_bytes
+  same_more e = rw add-one (rw (drop-cons a i 0 ha, drop-cons b i 0 hb, eq-eqb (get_or a i 0) (get_or b i 0) e, same_bytes) at compared)
 
   pub same_less : (get_or a i 0 ≡ get_or b i 0 → ⊥) → false ≡ t
-  unfolding same_bytes_lem
-  same_less e = rw (drop-cons a i 0 ha, drop-cons b i 0 hb, ne_eqb (get_or a i 0) (get_or b i 0) e, same_bytes_lem) at compared
+  unfolding same_bytes
+  same_less e = rw (drop-cons a i 0 ha, drop-cons b i 0 hb, ne_eqb (get_or a i 0) (get_or b i 0) e, same_bytes) at compared
 
-pub same_end : (a b : List ℕ) (i : ℕ) (t : Bool) → same_bytes_lem (drop i a) (drop i b) ≡ t → length a ≤ i → length b ≤ i → true ≡ t
-unfolding same_bytes_lem
+pub same_end : (a b : List ℕ) (i : ℕ) (t : Bool) → same_bytes (drop i a) (drop i b) ≡ t → length a ≤ i → length b ≤ i → true ≡ t
+unfolding same_bytes
 same_end a b i t compared ha hb = rw (drop_of_length-le a ha, drop_of_length-le b hb) at compared
 
-pub same_length : (a b : List ℕ) → (length a ≡ length b → ⊥) → same_bytes_lem a b ≡ false
-unfolding same_bytes_lem
+pub same_length : (a b : List ℕ) → (length a ≡ length b → ⊥) → same_bytes a b ≡ false
+unfolding same_bytes
 same_length [] [] h = absurd (h refl)
 same_length [] (y ∷ ys) h = refl
 same_length (x ∷ xs) [] h = refl
 same_length (x ∷ xs) (y ∷ ys) h = cases (λ (t : Bool). t ≡ false) (eqb x y) (λ e. same_length xs ys (λ q. h (ap suc q))) (λ e. refl)
 
-first_differs : (a b : List ℕ) → (get_or a 0 0 ≡ get_or b 0 0 → ⊥) → same_bytes_lem a b ≡ false
-unfolding same_bytes_lem
+first_differs : (a b : List ℕ) → (get_or a 0 0 ≡ get_or b 0 0 → ⊥) → same_bytes a b ≡ false
+unfolding same_bytes
 first_differs [] [] h = absurd (h refl)
 first_differs [] (y ∷ ys) h = refl
 first_differs (x ∷ xs) [] h = refl
-first_differs (x ∷ xs) (y ∷ ys) h = rw (ne_eqb x y h, same_bytes_lem)
+first_differs (x ∷ xs) (y ∷ ys) h = rw (ne_eqb x y h, same_bytes)
 
 -- ---- what the last arm of a `match` on a number knows
 
@@ -269,16 +269,16 @@ every_cons : (p : Keyword → Bool) (w : Keyword) (ws : List Keyword) → every 
 every_cons p w ws = cases (λ (t : Bool). t ≡ true → (p w ≡ true) × (every p ws ≡ true)) (p w) (λ q e. (q, e)) (λ q e. let z : ◌≡◌ {A = ℕ} 0 1 = cc in absurd (omega arith))
 
 module _ (w : Keyword) (ws : List Keyword) (name : List ℕ) where
-  pub name_hit : same_bytes_lem w.spelling name ≡ true → w.kind ≡ name_kind (w ∷ ws) name
+  pub name_hit : same_bytes w.spelling name ≡ true → w.kind ≡ name_kind (w ∷ ws) name
   unfolding name_kind
   name_hit e = rw (e, name_kind)
 
-  pub name_more : same_bytes_lem w.spelling name ≡ false → name_kind ws name ≡ name_kind (w ∷ ws) name
+  pub name_more : same_bytes w.spelling name ≡ false → name_kind ws name ≡ name_kind (w ∷ ws) name
   unfolding name_kind
   name_more e = rw (e, name_kind)
 
 -- no keyword has the name's spelling
-no_keyword : (p : Keyword → Bool) (name : List ℕ) → ((w : Keyword) → p w ≡ true → same_bytes_lem w.spelling name ≡ false)
+no_keyword : (p : Keyword → Bool) (name : List ℕ) → ((w : Keyword) → p w ≡ true → same_bytes w.spelling name ≡ false)
     → (ws : List Keyword) → every p ws ≡ true → name_kind ws name ≡ k_ident
 unfolding name_kind
 no_keyword p name differs [] e = refl
@@ -312,7 +312,7 @@ unfolding name_kind
 by_first [] name e = refl
 by_first (w ∷ ws) name {b} e =
     cases (λ (us : List Keyword). name_kind us name ≡ name_kind (w ∷ ws) name) (eqb (get_or w.spelling 0 0) b)
-    (λ q. ap (λ (n : ℕ). elim (same_bytes_lem w.spelling name) as (λ (_ : Bool). ℕ) [ true ↦ w.kind | false ↦ n ]) (by_first ws name e))
+    (λ q. ap (λ (n : ℕ). elim (same_bytes w.spelling name) as (λ (_ : Bool). ℕ) [ true ↦ w.kind | false ↦ n ]) (by_first ws name e))
     (λ q. by_first ws name e ∙ name_more w ws name (first_differs w.spelling name (λ z. eqb-false (get_or w.spelling 0 0) b q (z ∙ e))))
 
 -- ---- a leading space is of its line

@@ -13,7 +13,7 @@ use lib.Seq.{get_or-take, length-take-le}
 use borrow.Author.Tests.{ltb-true, eqb-true, ne_eqb}
 use Rattle.lex.specs.declared.tok.Piece.{Piece}
 use Rattle.lex.specs.Bytes.{or, between, is_digit, is_ident_start, is_ident_cont, is_num_cont, count_while, differs_from, before, find_byte}
-use Rattle.lex.specs.Kind.{Keyword, keywords, name_kind, same_bytes_lem, punctuators, punctuator_kinds, punctuator_kind}
+use Rattle.lex.specs.Kind.{Keyword, keywords, name_kind, same_bytes, punctuators, punctuator_kinds, punctuator_kind}
 use Rattle.lex.specs.Utf8.{utf8}
 use Rattle.lex.specs.Lex.{punctuator, punctuation, leading_space, doc_in, doc, string, double_in, number_in, number, name, symbol, piece}
 use Rattle.lex.proofs.Laws.{cases, found-cases, agree, run_pos, run_le, before_le, found, found_part, nonzero_inside}
@@ -35,7 +35,7 @@ Above (w ∷ ws) = (1 < w.kind) × Above ws
 name_above : (ws : List Keyword) (name : List ℕ) → Above ws → 1 < name_kind ws name
 unfolding name_kind
 name_above [] name h = omega arith
-name_above (w ∷ ws) name h = cases (λ (k : ℕ). 1 < k) (same_bytes_lem w.spelling name) (λ e. h.0) (λ e. name_above ws name h.1)
+name_above (w ∷ ws) name h = cases (λ (k : ℕ). 1 < k) (same_bytes w.spelling name) (λ e. h.0) (λ e. name_above ws name h.1)
 
 name-kind : (name : List ℕ) → 1 < name_kind keywords name
 unfolding keywords

@@ -15,7 +15,7 @@ use Rattle.lex.specs.declared.tok.Token.{Token}
 use Rattle.lex.specs.declared.tok.Piece.{Piece}
 use Rattle.lex.specs.declared.tok.Step.{Step}
 use Rattle.lex.specs.Bytes.{is_digit, is_ident_start, is_num_cont, count_while, differs_from, before, find_byte}
-use Rattle.lex.specs.Kind.{Keyword, k_eof, k_s, k_doc, keywords, name_kind, same_bytes_lem, punctuators, punctuator_kinds, punctuator_kind}
+use Rattle.lex.specs.Kind.{Keyword, k_eof, k_s, k_doc, keywords, name_kind, same_bytes, punctuators, punctuator_kinds, punctuator_kind}
 use Rattle.lex.specs.Utf8.{utf8}
 use Rattle.lex.specs.Lex.{skipped, punctuator, punctuation, leading_space, doc_in, doc, string, double_in, number_in, number, name, symbol, piece, placed, stands_at, step_at}
 use Rattle.lex.specs.Lex.{Cut, extend_cut, cut_at, cut, eof_token, tokens_of, next_of, tokens_from, next_at}
@@ -82,7 +82,7 @@ name-plain : (ws : List Keyword) (name bs : List ℕ) (n : ℕ) → AllAbove ws 
 unfolding name_kind
 name-plain [] name bs n h = plain _ bs n (omega arith) (λ e. omega arith) (λ e. omega arith)
 name-plain (w ∷ ws) name bs n h =
-    cases (λ (k : ℕ). Inside bs (Piece.Token k n n)) (same_bytes_lem w.spelling name)
+    cases (λ (k : ℕ). Inside bs (Piece.Token k n n)) (same_bytes w.spelling name)
     (λ e. plain w.kind bs n h.1 (λ q. omega arith) (λ q. omega arith))
     (λ e. name-plain ws name bs n h.2)
 

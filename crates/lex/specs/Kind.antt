@@ -134,11 +134,11 @@ abbrev pub k_record : ℕ
 k_record = 43
 
 -- two spellings are the same bytes
-unfoldable pub same_bytes_lem : List ℕ → List ℕ → Bool
-same_bytes_lem [] [] = true
-same_bytes_lem [] (y ∷ ys) = false
-same_bytes_lem (x ∷ xs) [] = false
-same_bytes_lem (x ∷ xs) (y ∷ ys) = elim (eqb x y) [ true ↦ same_bytes_lem xs ys | false ↦ false ]
+unfoldable pub same_bytes : List ℕ → List ℕ → Bool
+same_bytes [] [] = true
+same_bytes [] (y ∷ ys) = false
+same_bytes (x ∷ xs) [] = false
+same_bytes (x ∷ xs) (y ∷ ys) = elim (eqb x y) [ true ↦ same_bytes xs ys | false ↦ false ]
 
 -- a keyword and its kind
 pub record Keyword : Type 0 where
@@ -171,7 +171,7 @@ keywords =
 unfoldable pub name_kind : List Keyword → List ℕ → ℕ
 name_kind [] name = k_ident
 name_kind (w ∷ ws) name =
-    elim (same_bytes_lem w.spelling name) [ true ↦ w.kind | false ↦ name_kind ws name ]
+    elim (same_bytes w.spelling name) [ true ↦ w.kind | false ↦ name_kind ws name ]
 
 -- the signs of one byte, and the kind of each
 unfoldable pub punctuators : List ℕ

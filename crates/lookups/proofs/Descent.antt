@@ -19,7 +19,7 @@ use Rattle.ast.specs.declared.TypeExpr.{TypeExpr}
 use Rattle.ast.specs.declared.TypeExpr.TheVariants as T
 use Rattle.lex.specs.Bytes.{if}
 use Rattle.ast.specs.Decode.{low32, token_at, node_at, type_at, node_read, type_read}
-use Rattle.ast.specs.Tabulate.{entries_below_lem, entry_at}
+use Rattle.ast.specs.Tabulate.{entries_below, entry_at}
 use Rattle.ast.proofs.Tabulate.{entries_below_lem, entries_past}
 use Rattle.lookups.specs.Lookup.{inside, token_start, or_else, match_start, start_of, start_row, start_at, type_token_of, type_token_row, type_token_at}
 use Rattle.lookups.specs.Descent.{as_start, start_or, array_step, step_of, decode_start, inner_of, Innermost}
@@ -75,7 +75,7 @@ settled_match s cells cs t = settled_if (inside 6 cells cs) _ _ (settled_if (eqb
 
 module _ (script cells nodes : List ℕ) where
   before : ℕ → ℕ → Option (Option ℕ)
-  before = entries_below_lem (start_row script cells) (node_at nodes)
+  before = entries_below (start_row script cells) (node_at nodes)
 
   -- what comes of a step of record `i`
   unfoldable pub finish : ℕ → Step → Start
@@ -91,7 +91,7 @@ module _ (script cells nodes : List ℕ) where
   finish_past i j o h = rw (le-ltb j.0 i h)
 
   finish_descend : (i : ℕ) (j : NodeId) (o : Start) → finish i (St.Descend j o) ≡ start_or o (as_start (before i j.0))
-  unfolding start_or as_start before entries_below_lem
+  unfolding start_or as_start before entries_below
   finish_descend i j o = go (ltb j.0 i) refl
     where
       go : (b : Bool) → ltb j.0 i ≡ b → finish i (St.Descend j o) ≡ start_or o (as_start (before i j.0))
@@ -156,7 +156,7 @@ code-number n h = code-refused (4294967296 + 1 + n) (omega arith) ∙ ap S.Refus
 
 module _ (script types : List ℕ) where
   unfoldable pub inner : ℕ → ℕ → Option Token
-  inner = entries_below_lem (type_token_row script) (type_at types)
+  inner = entries_below (type_token_row script) (type_at types)
 
   pub token-none : (i : ℕ) → type_at types i ≡ none → type_token_at script types i ≡ none
   unfolding entry_at and_then

@@ -108,12 +108,12 @@ module _ {script errors array array₁ : List ℕ} {n n₁ listed : ℕ} (listed
 -- ---- a turn
 
 -- one more error
-abbrev one_more_lem : List ℕ → Gathered → Diagnostic → State → Gathered
-one_more_lem script g e m = record { roots = g.roots; errors = g.errors ++ (record { after = length (begin script).left - length m.left; diagnostic = e } ∷ []) }
+abbrev one_more : List ℕ → Gathered → Diagnostic → State → Gathered
+one_more script g e m = record { roots = g.roots; errors = g.errors ++ (record { after = length (begin script).left - length m.left; diagnostic = e } ∷ []) }
 
 module _ (script : List ℕ) (g : Gathered) (e : Diagnostic) (m : State) where
   by_number : Bool → Result ℕ → Result (ControlFlow Gathered)
-  by_number b r = elim b [ true ↦ err e m | false ↦ elim r [ ok n m₁ ↦ ok (continue (one_more_lem script g e m)) m₁ | err x m₁ ↦ err x m₁ ] ]
+  by_number b r = elim b [ true ↦ err e m | false ↦ elim r [ ok n m₁ ↦ ok (continue (one_more script g e m)) m₁ | err x m₁ ↦ err x m₁ ] ]
 
   recover_by : recover stage_one script g e m ≡ by_number (eqb e.number 10) (synchronize_root m)
   unfolding recover by_number ◌>>◌ pure
@@ -123,7 +123,7 @@ module _ (script : List ℕ) (g : Gathered) (e : Diagnostic) (m : State) where
   unfolding by_number
   recover-ends z = recover_by ∙ ap (λ (b : Bool). by_number b (synchronize_root m)) z
 
-  pub recover_goes_on : {n : ℕ} {m₁ : State} → eqb e.number 10 ≡ false → synchronize_root m ≡ ok n m₁ → recover stage_one script g e m ≡ ok (continue (one_more_lem script g e m)) m₁
+  pub recover_goes_on : {n : ℕ} {m₁ : State} → eqb e.number 10 ≡ false → synchronize_root m ≡ ok n m₁ → recover stage_one script g e m ≡ ok (continue (one_more script g e m)) m₁
   unfolding by_number
   recover_goes_on z w = recover_by ∙ ap (λ (b : Bool). by_number b (synchronize_root m)) z ∙ ap (by_number false) w
 

@@ -21,7 +21,7 @@ use Rattle.rules.specs.Tree.{State, Result, ok, err}
 use Rattle.rules.specs.Rules.{stage_one}
 use Rattle.rules.specs.Parse.{Reading, read, ended, Gathered, begin, parse, parse_roots, parse_collect, parse_roots_collect}
 use Rattle.ast.specs.Layout.{node_width, type_width, diagnostic_width, node_cells, type_cells, diagnostic_cells}
-use Rattle.rules.specs.Promise.{Arrays, arrays_of, Outcome, too_short_lem, zeroed, holding, outcome}
+use Rattle.rules.specs.Promise.{Arrays, arrays_of, Outcome, too_short, zeroed, holding, outcome}
 use Rattle.ast.specs.declared.Parsed.{Parsed}
 use Rattle.ast.specs.declared.Parsed.TheVariants as P
 use Rattle.parser_state.specs.Represents.{is_going}
@@ -31,7 +31,7 @@ use Rattle.parser_state.proofs.Steps.{true≢false}
 use Rattle.parser_state.proofs.Cells.{nodes-length, types-length}
 use Rattle.diagnostics.proofs.Records.{cells-length}
 use Rattle.parser.specs.Whole.{RootsRead, refusal, not_read, behind, Begun, Holds, RootsEnd}
-use Rattle.parser.specs.Collect.{RootsCollected, in_order_lem, CollectEnds}
+use Rattle.parser.specs.Collect.{RootsCollected, in_order, CollectEnds}
 use Rattle.parser.specs.Steps.{turned_away, any_too_short, read_promised, WholeOutcome, parse_promised}
 
 -- ---- trees and errors
@@ -102,7 +102,7 @@ module _ (script ns ts ls rs ds ns₁ ts₁ ls₁ rs₁ : List ℕ) (r : RootsRe
 -- ---- collecting
 
 collect_ending : List ℕ → Result Gathered → Reading
-collect_ending script res = elim res [ ok g s ↦ read (record { arena = s.arena; roots = g.roots }) (in_order_lem script g) | err e s ↦ ended e ]
+collect_ending script res = elim res [ ok g s ↦ read (record { arena = s.arena; roots = g.roots }) (in_order script g) | err e s ↦ ended e ]
 
 collect_ending_lem : (script : List ℕ) → parse_collect stage_one script ≡ collect_ending script (parse_roots_collect stage_one script (begin script))
 unfolding parse_collect collect_ending
@@ -121,9 +121,9 @@ module _ (script ns ts ls rs ds ns₁ ts₁ ls₁ rs₁ ds₁ : List ℕ) (r : R
       go (parse_roots_collect stage_one script (begin script)) (collect_ending_lem script) ends
     where
       go : (res : Result Gathered) → parse_collect stage_one script ≡ collect_ending script res → CollectEnds script ns₁ ts₁ ls₁ rs₁ ds₁ r res → outcome (parse_collect stage_one script) (arrays_of ns ts ls rs ds) ≡ record { answer = tree_of u r.members r.diagnostics; arrays = arrays_of ns₂ ts₂ ls₂ rs₂ ds₂ }
-      go (ok w m) e h = tree-outcome (parse_collect stage_one script) ns ts ls rs ds ns₁ ts₁ ls₁ rs₁ ns₂ ts₂ ls₂ rs₂ ds₂ roots (in_order_lem script w) r.diagnostics e h.0 n t c o
+      go (ok w m) e h = tree-outcome (parse_collect stage_one script) ns ts ls rs ds ns₁ ts₁ ls₁ rs₁ ns₂ ts₂ ls₂ rs₂ ds₂ roots (in_order script w) r.diagnostics e h.0 n t c o
           (a ∙ ap (λ (w : Used). behind (node_width * w.nodes) ns₁) same₂) (b ∙ ap (λ (w : Used). behind (type_width * w.types) ts₁) same₂) (x ∙ ap (λ (w : Used). behind w.cells ls₁) same₂) d h.2
-          (held_as ds ds₁ ds₂ (flatten (map diagnostic_cells (in_order_lem script w))) (diagnostic_width * r.diagnostics) k h.1 (omega (arith, h.2, cells-length (in_order_lem script w))) z)
+          (held_as ds ds₁ ds₂ (flatten (map diagnostic_cells (in_order script w))) (diagnostic_width * r.diagnostics) k h.1 (omega (arith, h.2, cells-length (in_order script w))) z)
           ∙ ap (λ (w : Used). record { answer = tree_of w r.members r.diagnostics; arrays = arrays_of ns₂ ts₂ ls₂ rs₂ ds₂ }) (sym same)
       go (err y m) e h = absurd (true≢false g (ap is_going h))
 
@@ -158,7 +158,7 @@ or_not false b e = (refl, e)
 
 module _ (how : List ℕ → Reading) (script tokens errors : List ℕ) (l : Arrays) where
   refusal_by : refusal_of script tokens errors l ≡ choosing_number (ltb max_bytes (length script)) (any_too_short script tokens errors l)
-  unfolding refusal any_too_short too_short_lem T.too_short choosing_number
+  unfolding refusal any_too_short too_short T.too_short choosing_number
   refusal_by = refl
 
   abbrev reads : Bool → Bool → Bool → Outcome
@@ -225,7 +225,7 @@ module _ (how : List ℕ → Reading) (script tokens errors : List ℕ) (l : Arr
   -- and one that is read
   pub record Accepted : Type 0 where
     pub small : length script ≤ max_bytes
-    pub enough : too_short_lem script l ≡ false
+    pub enough : too_short script l ≡ false
     pub tables : T.too_short script tokens errors ≡ false
     pub not_long : ltb max_bytes (length script) ≡ false
     pub not_short : any_too_short script tokens errors l ≡ false
@@ -237,7 +237,7 @@ module _ (how : List ℕ → Reading) (script tokens errors : List ℕ) (l : Arr
       go : (long short : Bool) → ltb max_bytes (length script) ≡ long → any_too_short script tokens errors l ≡ short → 0 ≡ choosing_number long short → Accepted
       go true short a b q = absurd (omega arith)
       go false true a b q = absurd (omega arith)
-      go false false a b q = let both = or_not (too_short_lem script l) (T.too_short script tokens errors) b in record { small = ltb-false max_bytes (length script) a; enough = both.0; tables = both.1; not_long = a; not_short = b }
+      go false false a b q = let both = or_not (too_short script l) (T.too_short script tokens errors) b in record { small = ltb-false max_bytes (length script) a; enough = both.0; tables = both.1; not_long = a; not_short = b }
 
   module _ (a : Accepted) where
     pub is_read_lem : is_cut script tokens errors ≡ true → read_promised how script tokens errors l ≡ outcome (how script) l
@@ -267,7 +267,7 @@ module _ (how : List ℕ → Reading) (script tokens errors : List ℕ) (l : Arr
       pub diagnostics : diagnostic_width * length script ≤ length l.diagnostics
 
     pub enough_of : Enough
-    unfolding too_short_lem
+    unfolding too_short
     enough_of =
         let w₁ = or_not (ltb (length l.nodes) (node_width * length script)) _ a.enough in
         let w₂ = or_not (ltb (length l.types) (type_width * length script)) _ w₁.1 in

@@ -62,10 +62,10 @@ resuming {tokens} {nodes} {types} {lists} {p} {R = R} {L} {m = m} f g k h =
 -- ---- to the next token that may begin a root
 
 -- the rule by the tests that the code makes: whether the kind is a boundary, and whether it is `}`
-abbrev by_tests_lem : ℕ → Bool → Bool → Rule (ControlFlow ℕ)
-by_tests_lem n false curly = advance >> pure (continue n)
-by_tests_lem n true false = pure (break n)
-by_tests_lem n true true = advance >> pure (break n)
+abbrev by_tests : ℕ → Bool → Bool → Rule (ControlFlow ℕ)
+by_tests n false curly = advance >> pure (continue n)
+by_tests n true false = pure (break n)
+by_tests n true true = advance >> pure (break n)
 
 boundary_none : (k : ℕ) → (k ≡ k_let → ⊥) → (k ≡ k_fn → ⊥) → (k ≡ k_import → ⊥) → (k ≡ k_extern → ⊥) → (k ≡ k_match → ⊥) → (k ≡ k_eof → ⊥) → (k ≡ k_curly_right → ⊥) → root_boundary k ≡ false
 unfolding root_boundary or
@@ -90,11 +90,11 @@ unfolding root_boundary or
 boundary_end k h = ⊎_elim (λ e. sym (ap root_boundary e)) (λ e. sym (ap root_boundary e)) h
 
 module _ (n k : ℕ) where
-  by_none : (k ≡ k_let → ⊥) → (k ≡ k_fn → ⊥) → (k ≡ k_import → ⊥) → (k ≡ k_extern → ⊥) → (k ≡ k_match → ⊥) → (k ≡ k_eof → ⊥) → (k ≡ k_curly_right → ⊥) → synchronize_by_kind n k ≡ by_tests_lem n (root_boundary k) (eqb k k_curly_right)
+  by_none : (k ≡ k_let → ⊥) → (k ≡ k_fn → ⊥) → (k ≡ k_import → ⊥) → (k ≡ k_extern → ⊥) → (k ≡ k_match → ⊥) → (k ≡ k_eof → ⊥) → (k ≡ k_curly_right → ⊥) → synchronize_by_kind n k ≡ by_tests n (root_boundary k) (eqb k k_curly_right)
   by_none a b c d e f g = past _ _ _ a ∙ past _ _ _ b ∙ past _ _ _ c ∙ past _ _ _ d ∙ past _ _ _ e ∙ past _ _ _ f ∙ past _ _ _ g ∙ past_all k _
-      ∙ ap (λ (z : Bool). by_tests_lem n z (eqb k k_curly_right)) (sym (boundary_none k a b c d e f g))
+      ∙ ap (λ (z : Bool). by_tests n z (eqb k k_curly_right)) (sym (boundary_none k a b c d e f g))
 
-  by_tests_lem : synchronize_by_kind n k ≡ by_tests_lem n (root_boundary k) (eqb k k_curly_right)
+  by_tests_lem : synchronize_by_kind n k ≡ by_tests n (root_boundary k) (eqb k k_curly_right)
   unfolding choose root_boundary or
   by_tests_lem =
       either (eqb k k_let) (λ e. at k_let e refl) (λ e₁.
@@ -106,8 +106,8 @@ module _ (n k : ℕ) where
       either (eqb k k_curly_right) (λ e. at k_curly_right e refl) (λ e₇.
       by_none (eqb-false k k_let e₁) (eqb-false k k_fn e₂) (eqb-false k k_import e₃) (eqb-false k k_extern e₄) (eqb-false k k_match e₅) (eqb-false k k_eof e₆) (eqb-false k k_curly_right e₇))))))))
     where
-      at : (j : ℕ) → eqb k j ≡ true → synchronize_by_kind n j ≡ by_tests_lem n (root_boundary j) (eqb j k_curly_right) → synchronize_by_kind n k ≡ by_tests_lem n (root_boundary k) (eqb k k_curly_right)
-      at j e h = subst (λ (i : ℕ). synchronize_by_kind n i ≡ by_tests_lem n (root_boundary i) (eqb i k_curly_right)) (sym (eqb-true k j e)) h
+      at : (j : ℕ) → eqb k j ≡ true → synchronize_by_kind n j ≡ by_tests n (root_boundary j) (eqb j k_curly_right) → synchronize_by_kind n k ≡ by_tests n (root_boundary k) (eqb k k_curly_right)
+      at j e h = subst (λ (i : ℕ). synchronize_by_kind n i ≡ by_tests n (root_boundary i) (eqb i k_curly_right)) (sym (eqb-true k j e)) h
 
 module _ (p : Parser) where
   pub skips-both : skips p ≡ true → (is_going p.status ≡ true) × (root_boundary p.cur.kind ≡ false)

@@ -68,11 +68,11 @@ TurnEnds script tokens errors nodes types lists roots diagnostics c (ok (break g
 TurnEnds script tokens errors nodes types lists roots diagnostics c (err e m) = c.parser.status ≡ Failed e
 
 -- errors and faults in the order in which they are met
-abbrev pub in_order_lem : List ℕ → Gathered → List Diagnostic
-in_order_lem script g = let fs = faults_of 0 (cut script) in merged (length fs + length g.errors) fs g.errors
+abbrev pub in_order : List ℕ → Gathered → List Diagnostic
+in_order script g = let fs = faults_of 0 (cut script) in merged (length fs + length g.errors) fs g.errors
 
 -- by how the rule ends
 abbrev pub CollectEnds : (script nodes types lists roots diagnostics : List ℕ) → RootsCollected → Result Gathered → Type 0
 CollectEnds script nodes types lists roots diagnostics c (ok g m) =
-    Holds nodes types lists roots (record { parser = c.parser; members = c.members }) g.roots m × (take (diagnostic_width * c.diagnostics) diagnostics ≡ flatten (map diagnostic_cells (in_order_lem script g))) × (c.diagnostics ≡ length (in_order_lem script g))
+    Holds nodes types lists roots (record { parser = c.parser; members = c.members }) g.roots m × (take (diagnostic_width * c.diagnostics) diagnostics ≡ flatten (map diagnostic_cells (in_order script g))) × (c.diagnostics ≡ length (in_order script g))
 CollectEnds script nodes types lists roots diagnostics c (err e m) = c.parser.status ≡ Failed e

@@ -7,7 +7,7 @@ use Rattle.lex.specs.Refusals.{r_too_long, r_too_short, r_not_cut}
 use Rattle.tokens.specs.Tables as T
 use Rattle.tokens.specs.Tables.{token_table, error_table, is_cut}
 use Rattle.rules.specs.Parse.{Reading}
-use Rattle.rules.specs.Promise.{Arrays, Outcome, too_short_lem, outcome}
+use Rattle.rules.specs.Promise.{Arrays, Outcome, too_short, outcome}
 use Rattle.ast.specs.declared.Parsed.{Parsed}
 use Rattle.ast.specs.declared.Parsed.TheVariants as P
 
@@ -17,7 +17,7 @@ turned_away n l = record { answer = P.Refused n; arrays = l }
 
 -- one of the seven has fewer cells than the script's bytes ask for
 unfoldable pub any_too_short : List ℕ → List ℕ → List ℕ → Arrays → Bool
-any_too_short script tokens errors l = or (too_short_lem script l) (T.too_short script tokens errors)
+any_too_short script tokens errors l = or (too_short script l) (T.too_short script tokens errors)
 
 -- reading from the tables: 1, 2, 43, and then what the rules say
 unfoldable pub read_promised : (List ℕ → Reading) → List ℕ → List ℕ → List ℕ → Arrays → Outcome

@@ -173,8 +173,8 @@ unfolding flatten
 nodes-length [] = refl
 nodes-length (n ∷ ns) = omega (arith, length-append (node_cells n) (flatten (map node_cells ns)), node-length n, nodes-length ns)
 
-abbrev pub node_made_lem : Used → ℕ → Used
-node_made_lem u more = record { nodes = u.nodes + 1; values = u.values + (1 + more); types = u.types; docs = u.docs; cells = u.cells; scratch = u.scratch }
+abbrev pub node_made : Used → ℕ → Used
+node_made u more = record { nodes = u.nodes + 1; values = u.values + (1 + more); types = u.types; docs = u.docs; cells = u.cells; scratch = u.scratch }
 
 -- how many cells lie behind the nodes
 pub nodes-room : {nodes : List ℕ} {c v : ℕ} {arena : List Node} {given : ℕ} (h : NodesLaid nodes c v arena given) → length nodes ≡ 16 * c + length h.between
@@ -182,7 +182,7 @@ nodes-room {nodes} {c} {v} {arena} {given} h =
     omega (arith, h.counted, nodes-length arena, ap length h.laid ∙ length-append (flatten (map node_cells arena)) _, length-append h.between [])
 
 node_made_lem : (tokens nodes nodes' types lists cells : List ℕ) (p : Parser) (f : ℕ → Node) (more rooms : ℕ) → 1 + more ≤ 40000 * rooms → is_going p.status ≡ true → cells ≡ node_cells (f p.used.values) → nodes' ≡ paste nodes (node_width * p.used.nodes) cells (length cells)
-    → Refines tokens rooms 0 (push_node_and more f) (λ i. i ≡ record { 0 = p.used.nodes }) stack_unchanged 0 0 0 (code nodes types lists p) (code nodes' types lists (with_used p (node_made_lem p.used more)))
+    → Refines tokens rooms 0 (push_node_and more f) (λ i. i ≡ record { 0 = p.used.nodes }) stack_unchanged 0 0 0 (code nodes types lists p) (code nodes' types lists (with_used p (node_made p.used more)))
 unfolding push_node_and with_arena
 node_made_lem tokens nodes nodes' types lists cells p f more rooms few g w e = record {
   sticky = λ f. absurd (true≢false g f);
@@ -226,9 +226,9 @@ node_made_lem tokens nodes nodes' types lists cells p f more rooms few g w e = r
 }
 
 pub node_making : (tokens nodes nodes' types lists cells : List ℕ) {p q : Parser} {u : Used} (f : ℕ → Node) (more rooms : ℕ) → 1 + more ≤ 40000 * rooms → is_going p.status ≡ true → cells ≡ node_cells (f p.used.values) → u ≡ p.used
-    → q ≡ with_used p (node_made_lem u more) → nodes' ≡ paste nodes (node_width * u.nodes) cells (length cells)
+    → q ≡ with_used p (node_made u more) → nodes' ≡ paste nodes (node_width * u.nodes) cells (length cells)
     → Refines tokens rooms 0 (push_node_and more f) (λ i. i ≡ record { 0 = u.nodes }) stack_unchanged 0 0 0 (code nodes types lists p) (code nodes' types lists q)
-node_making tokens nodes nodes' types lists cells {p} f more rooms few g w e h = through_used p (λ (u : Used). node_made_lem u more)
+node_making tokens nodes nodes' types lists cells {p} f more rooms few g w e h = through_used p (λ (u : Used). node_made u more)
     (λ (u : Used) (q : Parser). nodes' ≡ paste nodes (node_width * u.nodes) cells (length cells) → Refines tokens rooms 0 (push_node_and more f) (λ i. i ≡ record { 0 = u.nodes }) stack_unchanged 0 0 0 (code nodes types lists p) (code nodes' types lists q))
     e h (node_made_lem tokens nodes nodes' types lists cells p f more rooms few g w)
 

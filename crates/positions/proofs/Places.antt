@@ -12,7 +12,7 @@ use lib.Seq.{drop-cons, take-add}
 use borrow.Author.Tests.{lt-ltb, le-ltb, ltb-true, ltb-false, lt-leb, le-leb, leb-true, eq-eqb, ne_eqb}
 use Rattle.lex.specs.Answer.{max_bytes, refused, answer}
 use Rattle.lex.specs.Bytes.{if, between}
-use Rattle.positions.specs.Position.{feeds, columns_of, since, place_of, place_at, onward, max_place, goes_on_lem, advanced}
+use Rattle.positions.specs.Position.{feeds, columns_of, since, place_of, place_at, onward, max_place, goes_on, advanced}
 use Rattle.positions.specs.declared.Place.{Place}
 
 module _ (script : List ℕ) (at : ℕ) where
@@ -208,22 +208,22 @@ onward-start before = refl
 
 -- when the walk goes on
 module _ (from : ℕ) (known : Place) (to : ℕ) where
-  pub goes_back : to < from → false ≡ goes_on_lem from known to
-  unfolding goes_on_lem
+  pub goes_back : to < from → false ≡ goes_on from known to
+  unfolding goes_on
   goes_back h = rw (lt-ltb to from h)
 
   module _ (ahead : from ≤ to) where
-    pub goes_nowhere : known.column < 1 → false ≡ goes_on_lem from known to
-    unfolding goes_on_lem
+    pub goes_nowhere : known.column < 1 → false ≡ goes_on from known to
+    unfolding goes_on
     goes_nowhere h = rw (le-ltb to from ahead, lt-ltb known.column 1 h)
 
     module _ (one : 1 ≤ known.column) where
-      pub goes_far : max_place < known.column → false ≡ goes_on_lem from known to
-      unfolding goes_on_lem
+      pub goes_far : max_place < known.column → false ≡ goes_on from known to
+      unfolding goes_on
       goes_far h = rw (le-ltb to from ahead, le-ltb known.column 1 one, lt-ltb max_place known.column h)
 
-      pub goes_by_line : known.column ≤ max_place → leb known.line max_place ≡ goes_on_lem from known to
-      unfolding goes_on_lem
+      pub goes_by_line : known.column ≤ max_place → leb known.line max_place ≡ goes_on from known to
+      unfolding goes_on
       goes_by_line h = rw (le-ltb to from ahead, le-ltb known.column 1 one, le-ltb max_place known.column h)
 
 pub record Ahead (from : ℕ) (known : Place) (to : ℕ) : Type 0 where
@@ -232,7 +232,7 @@ pub record Ahead (from : ℕ) (known : Place) (to : ℕ) : Type 0 where
   pub column : known.column ≤ max_place
   pub line : known.line ≤ max_place
 
-pub ahead : (from : ℕ) (known : Place) (to : ℕ) → goes_on_lem from known to ≡ true → Ahead from known to
+pub ahead : (from : ℕ) (known : Place) (to : ℕ) → goes_on from known to ≡ true → Ahead from known to
 ahead from known to h = go (ltb to from) (ltb known.column 1) (ltb max_place known.column) refl refl refl
   where
     never : false ≡ true → ⊥
@@ -259,19 +259,19 @@ module _ (script : List ℕ) (from : ℕ) (known : Place) (to : ℕ) where
     advanced_outside l = rw (le-ltb max_bytes (length script) small, lt-ltb (length script) to l)
 
     module _ (inside : to ≤ length script) where
-      pub advanced_on : goes_on_lem from known to ≡ true → answer (onward known (take (to - from) (drop from script))) ≡ advanced script from known to
+      pub advanced_on : goes_on from known to ≡ true → answer (onward known (take (to - from) (drop from script))) ≡ advanced script from known to
       unfolding advanced
       advanced_on g = rw (le-ltb max_bytes (length script) small, le-ltb (length script) to inside, g)
 
-      pub advanced_anew : goes_on_lem from known to ≡ false → answer (place_of (take to script)) ≡ advanced script from known to
+      pub advanced_anew : goes_on from known to ≡ false → answer (place_of (take to script)) ≡ advanced script from known to
       unfolding advanced
       advanced_anew g = rw (le-ltb max_bytes (length script) small, le-ltb (length script) to inside, g)
 
 -- from the place of an earlier position
 pub advanced-known : (script : List ℕ) (from : ℕ) (known : Place) (to : ℕ) → known ≡ place_of (take from script) → advanced script from known to ≡ place_at script to
-advanced-known script from known to is = go (ltb max_bytes (length script)) (ltb (length script) to) (goes_on_lem from known to) refl refl refl
+advanced-known script from known to is = go (ltb max_bytes (length script)) (ltb (length script) to) (goes_on from known to) refl refl refl
   where
-    go : (t u v : Bool) → ltb max_bytes (length script) ≡ t → ltb (length script) to ≡ u → goes_on_lem from known to ≡ v → advanced script from known to ≡ place_at script to
+    go : (t u v : Bool) → ltb max_bytes (length script) ≡ t → ltb (length script) to ≡ u → goes_on from known to ≡ v → advanced script from known to ≡ place_at script to
     go true u v a b d = let h = ltb-true max_bytes (length script) a in sym (advanced_long script from known to h) ∙ place_long script to h
     go false true v a b d =
         let h = ltb-false max_bytes (length script) a in

@@ -47,8 +47,8 @@ max_place = 65537
 
 -- the walk to `to` goes on from `known`, the place of `from`: `to` is not before it, and `known` is
 -- a place that a script can have
-unfoldable pub goes_on_lem : ℕ → Place → ℕ → Bool
-goes_on_lem from known to =
+unfoldable pub goes_on : ℕ → Place → ℕ → Bool
+goes_on from known to =
     if (ltb to from) false
     (if (ltb known.column 1) false
     (if (ltb max_place known.column) false
@@ -61,5 +61,5 @@ advanced script from known to =
     if (ltb max_bytes (length script)) (refused r_too_long)
     (if (ltb (length script) to) (refused r_outside)
     (answer
-    (if (goes_on_lem from known to) (onward known (take (to - from) (drop from script)))
+    (if (goes_on from known to) (onward known (take (to - from) (drop from script)))
     (place_of (take to script)))))

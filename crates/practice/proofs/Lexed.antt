@@ -3,7 +3,7 @@
 use Rattle.std.proofs.Common.{◌≡◌, ℕ, zero, suc, ◌+◌, ◌/◌, ◌%◌, ◌<◌, ◌≤◌, Bool, true, false, eqb, ltb, List, [], ◌∷◌, ◌++◌, length, get_or, drop, sym, refl, ap, ◌∙◌, subst, append_assoc, add-zero, arith, length-append, length-drop, get_or-drop, drop-drop, get_or-append-add, lt-ltb, le-leb}
 use lib.Seq.{take-append_seam, drop-append_seam}
 use Rattle.lex.specs.Bytes.{or, between, is_ws, is_digit, is_ident_start, is_ident_cont, count_while, differs_from, before, find_byte}
-use Rattle.lex.specs.Kind.{k_brace_left, k_brace_right, k_plus, k_minus, k_equal, k_i, k_ident, k_let, same_bytes_lem, keywords, name_kind, punctuators, punctuator_kinds, punctuator_kind}
+use Rattle.lex.specs.Kind.{k_brace_left, k_brace_right, k_plus, k_minus, k_equal, k_i, k_ident, k_let, same_bytes, keywords, name_kind, punctuators, punctuator_kinds, punctuator_kind}
 use Rattle.lex.specs.Lex.{skipped, punctuator, punctuation, name, symbol, piece, placed, stands_at, step_at, extend_cut, cut_at, tokens_of, tokens_from, is_prefix_sign}
 use Rattle.lex.specs.declared.tok.Piece.{Piece}
 use Rattle.lex.specs.declared.tok.Step.{Step}
@@ -79,22 +79,22 @@ digits-some (suc fuel) n = omega (arith, length-append (front fuel n) ((48 + n %
 
 -- what stands behind ends a name and a number
 pub record Boundary (after : List ℕ) : Type 0 where
-  pub no_digit_lem : is_digit (get_or after 0 0) ≡ false
-  pub no_name_lem : is_ident_cont (get_or after 0 0) ≡ false
+  pub no_digit : is_digit (get_or after 0 0) ≡ false
+  pub no_name : is_ident_cont (get_or after 0 0) ≡ false
   pub no_dot : get_or after 0 0 ≡ 46 → ⊥
 
 module _ (l : List ℕ) where
   before-blank : Boundary (32 ∷ l)
   unfolding is_digit is_ident_cont is_ident_start or between
-  before-blank = record { no_digit_lem = refl; no_name_lem = refl; no_dot = λ e. omega arith }
+  before-blank = record { no_digit = refl; no_name = refl; no_dot = λ e. omega arith }
 
   before-close : Boundary (41 ∷ l)
   unfolding is_digit is_ident_cont is_ident_start or between
-  before-close = record { no_digit_lem = refl; no_name_lem = refl; no_dot = λ e. omega arith }
+  before-close = record { no_digit = refl; no_name = refl; no_dot = λ e. omega arith }
 
   before_feed : Boundary (10 ∷ l)
   unfolding is_digit is_ident_cont is_ident_start or between
-  before_feed = record { no_digit_lem = refl; no_name_lem = refl; no_dot = λ e. omega arith }
+  before_feed = record { no_digit = refl; no_name = refl; no_dot = λ e. omega arith }
 
 v_cont : is_ident_cont 118 ≡ true
 unfolding is_ident_cont is_ident_start is_digit between or
@@ -102,7 +102,7 @@ v_cont = refl
 
 -- no keyword begins with `v`
 v_ident : (xs : List ℕ) → name_kind keywords (118 ∷ xs) ≡ k_ident
-unfolding name_kind keywords same_bytes_lem
+unfolding name_kind keywords same_bytes
 v_ident xs = refl
 
 module _ (after : List ℕ) (b : Boundary after) where
@@ -125,7 +125,7 @@ module _ (after : List ℕ) (b : Boundary after) where
 
 module _ (l : List ℕ) where
   let_piece : piece (108 ∷ 101 ∷ 116 ∷ 32 ∷ l) ≡ Piece.Token k_let 3 3
-  unfolding piece name is_ident_start is_ident_cont is_digit between or count_while name_kind keywords same_bytes_lem
+  unfolding piece name is_ident_start is_ident_cont is_digit between or count_while name_kind keywords same_bytes
   let_piece = refl
 
   equal_piece : piece (61 ∷ 32 ∷ l) ≡ Piece.Token k_equal 1 1

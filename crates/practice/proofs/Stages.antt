@@ -4,7 +4,7 @@ use lib.Seq.{take-append_seam}
 use Rattle.text.specs.Answer.{refused, written, Result, result, refuse, in_front}
 use Rattle.rules.specs.Combinators.{choose}
 use Rattle.rules.specs.Rules.{stage_one}
-use Rattle.rules.specs.Promise.{Arrays, too_short_lem}
+use Rattle.rules.specs.Promise.{Arrays, too_short}
 use Rattle.practice.specs.Practice.{sheet, max_lines, promised}
 use Rattle.practice.specs.Accepted.{Signs, Accepted, Answered, Delivered}
 use Rattle.practice.proofs.Sheets.{lines_short, sheets_accepted, sheets_answered}
@@ -19,7 +19,7 @@ strict_accepts = sheets_accepted stage_one stage_one_lem
 
 -- what `parse` promises of its answer on the sheet, whatever arrays are lent that are long enough
 pub strict-answers : (seed lines : ℕ) → lines ≤ max_lines → (arrays : Arrays)
-    → too_short_lem (sheet seed lines) arrays ≡ false → Answered stage_one seed lines arrays
+    → too_short (sheet seed lines) arrays ≡ false → Answered stage_one seed lines arrays
 strict-answers = sheets_answered stage_one stage_one_lem
 
 not_refused : {n m : ℕ} → written n ≡ refused m → ⊥

@@ -5,7 +5,7 @@ use Rattle.lex.specs.Kind.{k_eof, k_brace_right, k_plus, k_let}
 use Rattle.rules.specs.Tree.{Tree}
 use Rattle.rules.specs.Parse.{read, parse}
 use Rattle.lex.specs.Answer.{max_bytes}
-use Rattle.rules.specs.Promise.{Arrays, too_short_lem, promised}
+use Rattle.rules.specs.Promise.{Arrays, too_short, promised}
 use Rattle.ast.specs.declared.Counts.{Counts}
 use Rattle.ast.specs.declared.Parsed.TheVariants as P
 use Rattle.practice.specs.Practice.{max_lines, sheet}
@@ -37,7 +37,7 @@ pub record Answered (power : ℕ → Option ℕ) (seed lines : ℕ) (arrays : Ar
 
 abbrev pub SheetsAnswered : Type 0
 SheetsAnswered = (power : ℕ → Option ℕ) → Signs power → (seed lines : ℕ) → lines ≤ max_lines
-    → (arrays : Arrays) → too_short_lem (sheet seed lines) arrays ≡ false
+    → (arrays : Arrays) → too_short (sheet seed lines) arrays ≡ false
     → Answered power seed lines arrays
 
 -- what stands in front of a buffer in which `n` bytes were written is the sheet

@@ -16,9 +16,9 @@ merged_reading n (read t es) (read u fs) = read (merged_tree n t u) []
 merged_reading n (read t es) (ended f) = ended f
 merged_reading n (ended e) r = ended e
 
-unfoldable pub is_read_lem : Reading → Bool
-is_read_lem (read t es) = true
-is_read_lem (ended e) = false
+unfoldable pub is_read : Reading → Bool
+is_read (read t es) = true
+is_read (ended e) = false
 
 -- the tree of both scripts joined, and the merged tree
 abbrev pub whole : String → String → Reading
@@ -29,7 +29,7 @@ unfolding bytes merged_reading
 together x y = merged_reading (length (bytes x)) (computed x).strict (computed y).strict
 
 abbrev pub Joins : String → String → Type 0
-Joins x y = (is_read_lem (together x y) ≡ true) × (whole x y ≡ together x y)
+Joins x y = (is_read (together x y) ≡ true) × (whole x y ≡ together x y)
 
 pub joins :
     Joins "" ""
@@ -48,7 +48,7 @@ pub joins :
     -- lexer errors but an open string do no harm
     × Joins "$ 1.2.3" "let x = 1"
     × Joins "let x = 1" "let y = 1 \"a"
-unfolding computed merged_reading together is_read_lem
+unfolding computed merged_reading together is_read
 joins = (
   (refl, refl),
   (refl, refl),
@@ -73,7 +73,7 @@ sizes (ended e) = (0, 0)
 
 -- both are accepted; the sizes of both joined, and of the merged tree
 abbrev pub Sizes : String → String → ℕ × ℕ → ℕ × ℕ → Type 0
-Sizes x y m n = (is_read_lem (together x y) ≡ true) × (sizes (whole x y) ≡ m) × (sizes (together x y) ≡ n)
+Sizes x y m n = (is_read (together x y) ≡ true) × (sizes (whole x y) ≡ m) × (sizes (together x y) ≡ n)
 
 pub apart :
     -- a string that is open at the first's end goes on
@@ -83,5 +83,5 @@ pub apart :
     -- what begins the second goes on the first's last expression
     × Sizes "f" "(b)" (1, 1) (2, 0)
     × Sizes "a" "- b" (1, 0) (2, 0)
-unfolding computed merged_reading together is_read_lem sizes
+unfolding computed merged_reading together is_read sizes
 apart = ((refl, refl, refl), (refl, refl, refl), (refl, refl, refl), (refl, refl, refl))

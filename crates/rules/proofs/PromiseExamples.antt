@@ -6,7 +6,7 @@ use Prim.Native.String.{String}
 use lib.ListN.{replicate}
 use Rattle.lex.specs.Bytes.{or}
 use Rattle.ast.specs.Layout.{token_cells, run_cells, node_cells, type_cells, diagnostic_cells}
-use Rattle.rules.specs.Promise.{Arrays, Outcome, too_short_lem, zeroed, holding, outcome, promised}
+use Rattle.rules.specs.Promise.{Arrays, Outcome, too_short, zeroed, holding, outcome, promised}
 use Rattle.ast.specs.declared.Parsed.{Parsed}
 use Rattle.ast.specs.declared.Parsed.TheVariants as P
 use Rattle.rules.proofs.Compute.{bytes, computed}
@@ -50,5 +50,5 @@ pub examples :
     × (strict "let" one_short ≡ result (P.Refused 2) one_short)
     -- one byte too long: 1, before the arrays are looked at
     × (promised (λ script. (computed "let").strict) (replicate 65537 97) (filled 7 0 0) ≡ result (P.Refused 1) (filled 7 0 0))
-unfolding computed bytes or flatten token_cells run_cells node_cells type_cells diagnostic_cells too_short_lem zeroed holding outcome promised
+unfolding computed bytes or flatten token_cells run_cells node_cells type_cells diagnostic_cells too_short zeroed holding outcome promised
 examples = (refl, refl, refl, refl)

@@ -6,7 +6,7 @@ use mathlib.Core.List.{List, [], ◌∷◌, ◌++◌}
 use Prim.Native.Nat.{ℕ}
 use Prim.Native.String.{String}
 use lib.Dec.{eqb}
-use Rattle.lex.specs.Kind.{same_bytes_lem, k_eof, k_brace_left, k_brace_right, k_plus, k_minus, k_asteriks, k_less_than, k_greater_than, k_curly_left, k_curly_right, k_colon, k_equal, k_s, k_d, k_i, k_ident, k_doc, k_import, k_let, k_fn, k_match, k_as, k_void, k_option}
+use Rattle.lex.specs.Kind.{same_bytes, k_eof, k_brace_left, k_brace_right, k_plus, k_minus, k_asteriks, k_less_than, k_greater_than, k_curly_left, k_curly_right, k_colon, k_equal, k_s, k_d, k_i, k_ident, k_doc, k_import, k_let, k_fn, k_match, k_as, k_void, k_option}
 use Rattle.rules.specs.Shape as S
 use Rattle.rules.specs.Shape.{Word, Shapes}
 use Rattle.rules.proofs.Compute.{bytes, computed}
@@ -35,8 +35,8 @@ accepted none = false
 accepted (some ss) = true
 
 unfoldable pub same_word : Word → Word → Bool
-unfolding same_bytes_lem
-same_word a b = elim (eqb a.kind b.kind) [ true ↦ same_bytes_lem a.spelling b.spelling | false ↦ false ]
+unfolding same_bytes
+same_word a b = elim (eqb a.kind b.kind) [ true ↦ same_bytes a.spelling b.spelling | false ↦ false ]
 
 unfoldable pub same_words : List Word → List Word → Bool
 same_words [] [] = true
@@ -165,5 +165,5 @@ pub apart :
     × (docs_plain "import \"x\"" ≡ true)
     -- right before Eof a doc is refused (13), so that condition costs no script
     × (accepted (form "import \"x\"\n#! d") ≡ false)
-unfolding computed accepted same_word same_words same_bytes_lem
+unfolding computed accepted same_word same_words same_bytes
 apart = ((refl, refl, refl), refl, refl, (refl, refl, refl), refl, refl, refl, (refl, refl, refl), refl, refl, (refl, refl, refl), refl, refl, refl)

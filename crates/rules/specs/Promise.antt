@@ -22,8 +22,8 @@ pub record Arrays : Type 0 where
   pub diagnostics : List ℕ
 
 -- one of them has fewer cells than the script's bytes ask for
-unfoldable pub too_short_lem : List ℕ → Arrays → Bool
-too_short_lem script l =
+unfoldable pub too_short : List ℕ → Arrays → Bool
+too_short script l =
     let n = length script in
     or (ltb (length l.nodes) (node_width * n))
     (or (ltb (length l.types) (type_width * n))
@@ -70,7 +70,7 @@ promised how script l =
     elim (ltb max_bytes (length script)) [
       | true ↦ record { answer = P.Refused r_too_long; arrays = l }
       | false ↦
-          elim (too_short_lem script l) [
+          elim (too_short script l) [
             | true ↦ record { answer = P.Refused r_too_short; arrays = l }
             | false ↦ outcome (how script) l
           ]

@@ -15,7 +15,7 @@ use Rattle.ast.specs.Layout.{padded}
 use Rattle.rules.specs.Shape as R
 use Rattle.ast.specs.Lists as Lists
 use Rattle.ast.specs.Lists.{and_then, map₁, map₂, map₃, map₄, map₅}
-use Rattle.ast.specs.Tabulate.{lookup, tabulate, rows, entries_below_lem, entry_at}
+use Rattle.ast.specs.Tabulate.{lookup, tabulate, rows, entries_below, entry_at}
 use Rattle.ast.specs.declared.Counts.{Counts}
 use Rattle.ast.specs.Decode.{node_of, nodes_by_kind, node_at, type_of, types_by_kind, type_at}
 use Rattle.ast.specs.Answer.{unless, lent, refusal}
@@ -35,7 +35,7 @@ unfolding well_formed between fixed_spelling fixed_spellings keywords spelling_s
 tokens = tt
 
 unfoldable records : Unit {0}
-unfolding tokens refusal record_asked unless unless_malformed entry_at entries_below_lem lookup tabulate rows and_then node_at node_of nodes_by_kind type_at type_of types_by_kind
+unfolding tokens refusal record_asked unless unless_malformed entry_at entries_below lookup tabulate rows and_then node_at node_of nodes_by_kind type_at type_of types_by_kind
 records = tt
 
 unfoldable start : Unit {0}

@@ -9,7 +9,7 @@ use Rattle.tokens.specs.Tables as T
 use Rattle.ast.specs.Layout.{token_cells, run_cells, padded, node_cells, type_cells, diagnostic_cells}
 use Rattle.rules.specs.Rules.{stage_one}
 use Rattle.rules.specs.Parse.{Reading, parse, parse_collect}
-use Rattle.rules.specs.Promise.{Arrays, Outcome, too_short_lem, zeroed, holding, outcome}
+use Rattle.rules.specs.Promise.{Arrays, Outcome, too_short, zeroed, holding, outcome}
 use Rattle.parser.specs.Steps.{any_too_short, parse_promised}
 use Rattle.ast.specs.declared.Parsed.{Parsed}
 use Rattle.ast.specs.declared.Parsed.TheVariants as P
@@ -39,7 +39,7 @@ promised how script l =
 
 -- `unfolding reading` opens all that the definitions are made of
 unfoldable reading : Unit {0}
-unfolding computed_from or flatten token_cells run_cells node_cells type_cells diagnostic_cells too_short_lem T.too_short any_too_short zeroed holding outcome parse_promised
+unfolding computed_from or flatten token_cells run_cells node_cells type_cells diagnostic_cells too_short T.too_short any_too_short zeroed holding outcome parse_promised
 reading = tt
 
 -- empty script, strict, exactly enough

@@ -5,11 +5,11 @@ use mathlib.Core.Bool.{true, false}
 use mathlib.Core.List.{List, [], ◌∷◌, flatten}
 use Prim.Native.Nat.{ℕ}
 use Rattle.lex.specs.Bytes.{or, between, is_ws, is_digit, is_ident_start, is_ident_cont, count_while, differs_from, before, find_byte}
-use Rattle.lex.specs.Kind.{same_bytes_lem, keywords, name_kind, punctuators, punctuator_kinds, punctuator_kind}
+use Rattle.lex.specs.Kind.{same_bytes, keywords, name_kind, punctuators, punctuator_kinds, punctuator_kind}
 use Rattle.lex.specs.Lex.{begins_comment, skipped, punctuator, punctuation, name, symbol, piece, stands_at, step_at, diagnostic_of, cut, cut_at, cut_from, tokens_of, faults_of, leading_space}
 use Rattle.lex.specs.Spelling.{spelling_start, spelling_offset}
 use Rattle.tokens.specs.declared.Cutting.TheVariants as C
-use Rattle.tokens.specs.Tables.{token_record, error_record, token_records, error_records, token_table, error_table, counts_of, tabled, too_short_lem, promised, is_cut}
+use Rattle.tokens.specs.Tables.{token_record, error_record, token_records, error_records, token_table, error_table, counts_of, tabled, too_short, promised, is_cut}
 
 -- `a $`
 abbrev script : List ℕ
@@ -28,7 +28,7 @@ pub tables :
     × (is_cut [] (1 ∷ 0 ∷ 3 ∷ 0 ∷ 1 ∷ []) [] ≡ false)
     × (is_cut [] (1 ∷ 0 ∷ 3 ∷ []) [] ≡ false)
 unfolding
-    token_table error_table token_records error_records token_record error_record counts_of tabled too_short_lem promised is_cut flatten spelling_start spelling_offset leading_space
-    cut cut_at cut_from tokens_of faults_of diagnostic_of step_at stands_at skipped begins_comment is_ws or piece is_ident_start between is_digit name is_ident_cont count_while name_kind keywords same_bytes_lem
+    token_table error_table token_records error_records token_record error_record counts_of tabled too_short promised is_cut flatten spelling_start spelling_offset leading_space
+    cut cut_at cut_from tokens_of faults_of diagnostic_of step_at stands_at skipped begins_comment is_ws or piece is_ident_start between is_digit name is_ident_cont count_while name_kind keywords same_bytes
     symbol punctuation punctuator punctuator_kind punctuators punctuator_kinds find_byte before differs_from
 tables = (refl, refl, refl, refl, refl, refl, refl)

@@ -16,7 +16,7 @@ use Rattle.tokens.specs.declared.TableCounts.{TableCounts}
 use Rattle.tokens.specs.Filling.{tokens_left, errors_left, Stops}
 use Rattle.tokens.specs.declared.Cutting.TheVariants as C
 use Rattle.lex.specs.Cells.{zeros}
-use Rattle.tokens.specs.Tables.{Outcome, token_records, error_records, token_table, error_table, counts_of, tabled, too_short_lem, promised}
+use Rattle.tokens.specs.Tables.{Outcome, token_records, error_records, token_table, error_table, counts_of, tabled, too_short, promised}
 use Rattle.tokens.proofs.Progress.{token-records-length, error-records-length, some-token, made-left, met-left}
 
 module _ (script ts es : List ℕ) where
@@ -24,23 +24,23 @@ module _ (script ts es : List ℕ) where
   unfolding promised
   too_long h = rw (lt-ltb 65536 (length script) h, promised)
 
-  pub short-tokens : length ts < 4 * length script + 4 → too_short_lem script ts es ≡ true
-  unfolding too_short_lem or
+  pub short-tokens : length ts < 4 * length script + 4 → too_short script ts es ≡ true
+  unfolding too_short or
   short-tokens h = rw (lt-ltb (length ts) (4 * length script + 4) h, or)
 
-  pub short-errors : 4 * length script + 4 ≤ length ts → length es < 6 * length script → too_short_lem script ts es ≡ true
-  unfolding too_short_lem or
+  pub short-errors : 4 * length script + 4 ≤ length ts → length es < 6 * length script → too_short script ts es ≡ true
+  unfolding too_short or
   short-errors k h = rw (le-ltb (length ts) (4 * length script + 4) k, or) (lt-ltb (length es) (6 * length script) h)
 
-  pub long_enough : 4 * length script + 4 ≤ length ts → 6 * length script ≤ length es → too_short_lem script ts es ≡ false
-  unfolding too_short_lem or
+  pub long_enough : 4 * length script + 4 ≤ length ts → 6 * length script ≤ length es → too_short script ts es ≡ false
+  unfolding too_short or
   long_enough k h = rw (le-ltb (length ts) (4 * length script + 4) k, or) (le-ltb (length es) (6 * length script) h)
 
-  pub too_short_lem : length script ≤ 65536 → too_short_lem script ts es ≡ true → promised script ts es ≡ record { answer = C.Refused 2; tokens = ts; errors = es }
+  pub too_short_lem : length script ≤ 65536 → too_short script ts es ≡ true → promised script ts es ≡ record { answer = C.Refused 2; tokens = ts; errors = es }
   unfolding promised
   too_short_lem h e = rw (le-ltb 65536 (length script) h, promised) (rw (e, promised))
 
-  pub taken : length script ≤ 65536 → too_short_lem script ts es ≡ false → promised script ts es ≡ tabled script ts es
+  pub taken : length script ≤ 65536 → too_short script ts es ≡ false → promised script ts es ≡ tabled script ts es
   unfolding promised
   taken h e = rw (le-ltb 65536 (length script) h, promised) (rw (e, promised))
 

@@ -10,37 +10,37 @@ use lib.Dec.{ltb, eqb}
 use lib.ListN.{length, get_or, take, drop, length-take, length-drop, take-append-drop, drop_of_length-le}
 use lib.Seq.{drop-cons, drop-drop}
 use borrow.Author.Tests.{le-ltb, lt-ltb}
-use Rattle.lex.specs.Kind.{same_bytes_lem}
+use Rattle.lex.specs.Kind.{same_bytes}
 use Rattle.lex.specs.Lex.{cut_at, cut, tokens_of, Occurrence, faults_of}
 use Rattle.lex.specs.declared.tok.Token.{Token}
 use Rattle.lex.proofs.Steps.{cut_le}
 use Rattle.tokens.specs.declared.Stop.{Stop}
 use Rattle.tokens.specs.Filling.{tokens_left, errors_left, Stops}
 use Rattle.lex.specs.Cells.{zeros, padded}
-use Rattle.tokens.specs.Tables.{token_records, error_records, token_table, error_table, too_short_lem, is_cut}
+use Rattle.tokens.specs.Tables.{token_records, error_records, token_table, error_table, too_short, is_cut}
 use Rattle.tokens.proofs.Progress.{token-records-length, error-records-length, some-token, made-left, met-left}
 
 -- ---- lists that are compared in parts
 
-pub same-append : (a b xs ys : List ℕ) → length a ≡ length b → same_bytes_lem (a ++ xs) (b ++ ys) ≡ same_bytes_lem a b && same_bytes_lem xs ys
-unfolding same_bytes_lem
+pub same-append : (a b xs ys : List ℕ) → length a ≡ length b → same_bytes (a ++ xs) (b ++ ys) ≡ same_bytes a b && same_bytes xs ys
+unfolding same_bytes
 same-append [] [] xs ys h = refl
 same-append [] (y ∷ b) xs ys h = absurd (omega arith)
 same-append (x ∷ a) [] xs ys h = absurd (omega arith)
 same-append (x ∷ a) (y ∷ b) xs ys h = go (eqb x y) (same-append a b xs ys (omega arith))
   where
-    go : (t : Bool) → same_bytes_lem (a ++ xs) (b ++ ys) ≡ same_bytes_lem a b && same_bytes_lem xs ys
-        → elim t as (λ (_ : Bool). Bool) [ true ↦ same_bytes_lem (a ++ xs) (b ++ ys) | false ↦ false ] ≡ elim t as (λ (_ : Bool). Bool) [ true ↦ same_bytes_lem a b | false ↦ false ] && same_bytes_lem xs ys
+    go : (t : Bool) → same_bytes (a ++ xs) (b ++ ys) ≡ same_bytes a b && same_bytes xs ys
+        → elim t as (λ (_ : Bool). Bool) [ true ↦ same_bytes (a ++ xs) (b ++ ys) | false ↦ false ] ≡ elim t as (λ (_ : Bool). Bool) [ true ↦ same_bytes a b | false ↦ false ] && same_bytes xs ys
     go true e = e
     go false e = refl
 
 -- a record in front, and what is behind it
 record_split : (w : ℕ) (xs cells rest : List ℕ) (at to : ℕ) → at + w ≡ to → to ≤ length xs → length cells ≡ w
-    → same_bytes_lem (drop at xs) (cells ++ rest) ≡ same_bytes_lem (take w (drop at xs)) cells && same_bytes_lem (drop to xs) rest
+    → same_bytes (drop at xs) (cells ++ rest) ≡ same_bytes (take w (drop at xs)) cells && same_bytes (drop to xs) rest
 record_split w xs cells rest at to e h k =
-    ap (λ (l : List ℕ). same_bytes_lem l (cells ++ rest)) (sym (take-append-drop w (drop at xs)))
+    ap (λ (l : List ℕ). same_bytes l (cells ++ rest)) (sym (take-append-drop w (drop at xs)))
     ∙ same-append (take w (drop at xs)) cells (drop w (drop at xs)) rest (omega (arith, length-take w (drop at xs), length-drop at xs))
-    ∙ ap (λ (l : List ℕ). same_bytes_lem (take w (drop at xs)) cells && same_bytes_lem l rest) (drop-drop w at xs ∙ ap (λ (i : ℕ). drop i xs) e)
+    ∙ ap (λ (l : List ℕ). same_bytes (take w (drop at xs)) cells && same_bytes l rest) (drop-drop w at xs ∙ ap (λ (i : ℕ). drop i xs) e)
 
 -- ---- zeros behind
 
@@ -57,19 +57,19 @@ zero-cons false t r = refl
 zero-cons true false r = refl
 zero-cons true true r = refl
 
-pub zero_turn : (a : List ℕ) (i : ℕ) (all : Bool) {t : Bool} → i < length a → all && same_bytes_lem (drop i a) (zeros (length a - i)) ≡ t
-    → all && eqb (get_or a i 0) 0 && same_bytes_lem (drop (i + 1) a) (zeros (length a - (i + 1))) ≡ t
-unfolding same_bytes_lem
+pub zero_turn : (a : List ℕ) (i : ℕ) (all : Bool) {t : Bool} → i < length a → all && same_bytes (drop i a) (zeros (length a - i)) ≡ t
+    → all && eqb (get_or a i 0) 0 && same_bytes (drop (i + 1) a) (zeros (length a - (i + 1))) ≡ t
+unfolding same_bytes
 zero_turn a i all h e =
     let next : i + 1 ≡ suc i = omega arith in
     let left : length a - i ≡ suc (length a - suc i) = omega arith in
-    rw next (zero-cons all (eqb (get_or a i 0) 0) (same_bytes_lem (drop (suc i) a) (zeros (length a - suc i))) ∙ (rw (drop-cons a i 0 h, left, same_bytes_lem) at e))
+    rw next (zero-cons all (eqb (get_or a i 0) 0) (same_bytes (drop (suc i) a) (zeros (length a - suc i))) ∙ (rw (drop-cons a i 0 h, left, same_bytes) at e))
 
-pub zero_end : (a : List ℕ) (i : ℕ) (all : Bool) {t : Bool} → length a ≤ i → all && same_bytes_lem (drop i a) (zeros (length a - i)) ≡ t → all ≡ t
-unfolding same_bytes_lem
+pub zero_end : (a : List ℕ) (i : ℕ) (all : Bool) {t : Bool} → length a ≤ i → all && same_bytes (drop i a) (zeros (length a - i)) ≡ t → all ≡ t
+unfolding same_bytes
 zero_end a i all h e =
     let none : length a - i ≡ 0 = omega arith in
-    sym (and_true all) ∙ (rw (drop_of_length-le a {i = i} h, none, same_bytes_lem) at e)
+    sym (and_true all) ∙ (rw (drop_of_length-le a {i = i} h, none, same_bytes) at e)
 
 no : (t : Bool) → not t ≡ true → t ≡ false
 no true e = sym e
@@ -91,9 +91,9 @@ take_more : (k : ℕ) (xs : List ℕ) (i : ℕ) → i < length xs → take (suc 
 take_more k xs i h = ap (take (suc k)) (drop-cons xs i 0 h)
 
 pub cells_turn : (a b : List ℕ) (n at i : ℕ) (all : Bool) {t : Bool} → i < n → n ≤ length a → at + n ≤ length b
-    → all && same_bytes_lem (take (n - i) (drop (at + i) b)) (take (n - i) (drop i a)) ≡ t
-    → all && eqb (get_or b (at + i) 0) (get_or a i 0) && same_bytes_lem (take (n - (i + 1)) (drop (at + (i + 1)) b)) (take (n - (i + 1)) (drop (i + 1) a)) ≡ t
-unfolding same_bytes_lem
+    → all && same_bytes (take (n - i) (drop (at + i) b)) (take (n - i) (drop i a)) ≡ t
+    → all && eqb (get_or b (at + i) 0) (get_or a i 0) && same_bytes (take (n - (i + 1)) (drop (at + (i + 1)) b)) (take (n - (i + 1)) (drop (i + 1) a)) ≡ t
+unfolding same_bytes
 cells_turn a b n at i all h k l e =
     let left : n - i ≡ suc (n - (i + 1)) = omega arith in
     let one : i + 1 ≡ suc i = omega arith in
@@ -103,19 +103,19 @@ cells_turn a b n at i all h k l e =
     ap (λ (j : ℕ). take j (drop (at + i) b)) left ∙ take_more m b (at + i) (omega arith) ∙ ap (λ (j : ℕ). get_or b (at + i) 0 ∷ take m (drop j b)) (sym there) in
     let back : take (n - i) (drop i a) ≡ get_or a i 0 ∷ take m (drop (i + 1) a) =
     ap (λ (j : ℕ). take j (drop i a)) left ∙ take_more m a i (omega arith) ∙ ap (λ (j : ℕ). get_or a i 0 ∷ take m (drop j a)) (sym one) in
-    cell_cons all (eqb (get_or b (at + i) 0) (get_or a i 0)) (same_bytes_lem (take m (drop (at + (i + 1)) b)) (take m (drop (i + 1) a)))
-    ∙ ap (λ (x : Bool). all && x) (λ j. same_bytes_lem (sym front j) (sym back j)) ∙ e
+    cell_cons all (eqb (get_or b (at + i) 0) (get_or a i 0)) (same_bytes (take m (drop (at + (i + 1)) b)) (take m (drop (i + 1) a)))
+    ∙ ap (λ (x : Bool). all && x) (λ j. same_bytes (sym front j) (sym back j)) ∙ e
 
-pub cells_end : (a b : List ℕ) (n at i : ℕ) (all : Bool) {t : Bool} → n ≤ i → all && same_bytes_lem (take (n - i) (drop (at + i) b)) (take (n - i) (drop i a)) ≡ t → all ≡ t
-unfolding same_bytes_lem
+pub cells_end : (a b : List ℕ) (n at i : ℕ) (all : Bool) {t : Bool} → n ≤ i → all && same_bytes (take (n - i) (drop (at + i) b)) (take (n - i) (drop i a)) ≡ t → all ≡ t
+unfolding same_bytes
 cells_end a b n at i all h e =
     let none : n - i ≡ 0 = omega arith in
-    sym (and_true all) ∙ ap (λ (j : ℕ). all && same_bytes_lem (take j (drop (at + i) b)) (take j (drop i a))) (sym none) ∙ e
+    sym (and_true all) ∙ ap (λ (j : ℕ). all && same_bytes (take j (drop (at + i) b)) (take j (drop i a))) (sym none) ∙ e
 
-pub cells-start : (a b : List ℕ) (n at : ℕ) → true && same_bytes_lem (take (n - 0) (drop (at + 0) b)) (take (n - 0) (drop 0 a)) ≡ same_bytes_lem (take n (drop at b)) (take n a)
+pub cells-start : (a b : List ℕ) (n at : ℕ) → true && same_bytes (take (n - 0) (drop (at + 0) b)) (take (n - 0) (drop 0 a)) ≡ same_bytes (take n (drop at b)) (take n a)
 cells-start a b n at =
     let all : n - 0 ≡ n = omega arith in
-    λ j. same_bytes_lem (take (all j) (drop (add-zero at j) b)) (take (all j) a)
+    λ j. same_bytes (take (all j) (drop (add-zero at j) b)) (take (all j) a)
 
 table_length : (script : List ℕ) → length (token_table script) ≡ 4 * length (tokens_of (cut script))
 unfolding token_table
@@ -129,15 +129,15 @@ errors-length script = error-records-length (faults_of 0 (cut script))
 
 -- whether both arrays are the tables with zeros behind them
 abbrev pub wholly : List ℕ → List ℕ → List ℕ → Bool
-wholly script ts es = same_bytes_lem ts (padded (length ts) (token_table script)) && same_bytes_lem es (padded (length es) (error_table script))
+wholly script ts es = same_bytes ts (padded (length ts) (token_table script)) && same_bytes es (padded (length es) (error_table script))
 
 -- so many records of both agree, and what is left to compare comes to the same
 pub record Agreeing (script ts es : List ℕ) (n m pos : ℕ) : Type 0 where
   pub tokens : n + length (tokens_of (cut_at script pos)) ≡ length (tokens_of (cut script))
   pub errors : m + length (faults_of n (cut_at script pos)) ≡ length (faults_of 0 (cut script))
   pub inside : pos ≤ length script
-  pub same : same_bytes_lem (drop (4 * n) ts) (token_records script (tokens_of (cut_at script pos)) ++ zeros (length ts - length (token_table script)))
-      && same_bytes_lem (drop (6 * m) es) (error_records (faults_of n (cut_at script pos)) ++ zeros (length es - length (error_table script))) ≡ wholly script ts es
+  pub same : same_bytes (drop (4 * n) ts) (token_records script (tokens_of (cut_at script pos)) ++ zeros (length ts - length (token_table script)))
+      && same_bytes (drop (6 * m) es) (error_records (faults_of n (cut_at script pos)) ++ zeros (length es - length (error_table script))) ≡ wholly script ts es
 
 pub agreeing_start : (script ts es : List ℕ) → Agreeing script ts es 0 0 0
 unfolding cut token_table error_table
@@ -167,8 +167,8 @@ module _ {script ts es : List ℕ} {n m pos : ℕ} (g : Agreeing script ts es n 
   part_room = (omega (arith, part_fits.0, cut_le script), omega (arith, part_fits.1, cut_le script, some-token (cut script)))
 
   part_same : 4 * (n + s.tokens) ≤ length ts → 6 * (m + s.errors) ≤ length es
-      → same_bytes_lem (take (4 * s.tokens) (drop (4 * n) ts)) (take (4 * s.tokens) t) && same_bytes_lem (drop (4 * (n + s.tokens)) ts) (token_records script tl ++ tz)
-      && (same_bytes_lem (take (6 * s.errors) (drop (6 * m) es)) (take (6 * s.errors) e) && same_bytes_lem (drop (6 * (m + s.errors)) es) (error_records el ++ ez)) ≡ wholly script ts es
+      → same_bytes (take (4 * s.tokens) (drop (4 * n) ts)) (take (4 * s.tokens) t) && same_bytes (drop (4 * (n + s.tokens)) ts) (token_records script tl ++ tz)
+      && (same_bytes (take (6 * s.errors) (drop (6 * m) es)) (take (6 * s.errors) e) && same_bytes (drop (6 * (m + s.errors)) es) (error_records el ++ ez)) ≡ wholly script ts es
   part_same h k =
       let tw : length (take (4 * s.tokens) t) ≡ 4 * s.tokens = omega (arith, length-take (4 * s.tokens) t, p.tokens_fit) in
       let ew : length (take (6 * s.errors) e) ≡ 6 * s.errors = omega (arith, length-take (6 * s.errors) e, p.errors_fit) in
@@ -178,22 +178,22 @@ module _ {script ts es : List ℕ} {n m pos : ℕ} (g : Agreeing script ts es n 
       sym (append_assoc (take (4 * s.tokens) t) (token_records script tl) tz) ∙ ap (λ (l : List ℕ). l ++ tz) p.made in
       let v : take (6 * s.errors) e ++ (error_records el ++ ez) ≡ error_records (faults_of n (cut_at script pos)) ++ ez =
       sym (append_assoc (take (6 * s.errors) e) (error_records el) ez) ∙ ap (λ (l : List ℕ). l ++ ez) p.met in
-      (λ i. sym x i && sym y i) ∙ (λ i. same_bytes_lem (drop (4 * n) ts) (u i) && same_bytes_lem (drop (6 * m) es) (v i)) ∙ g.same
+      (λ i. sym x i && sym y i) ∙ (λ i. same_bytes (drop (4 * n) ts) (u i) && same_bytes (drop (6 * m) es) (v i)) ∙ g.same
 
   pub differs_tokens : {q : Bool} → 4 * (n + s.tokens) ≤ length ts → 6 * (m + s.errors) ≤ length es
-      → q ≡ same_bytes_lem (take (4 * s.tokens) (drop (4 * n) ts)) (take (4 * s.tokens) t) → not q ≡ true → false ≡ wholly script ts es
+      → q ≡ same_bytes (take (4 * s.tokens) (drop (4 * n) ts)) (take (4 * s.tokens) t) → not q ≡ true → false ≡ wholly script ts es
   differs_tokens {q} h k a b = rw (sym a ∙ no q b) at (part_same h k)
 
   pub differs_errors : {q : Bool} → 4 * (n + s.tokens) ≤ length ts → 6 * (m + s.errors) ≤ length es
-      → q ≡ same_bytes_lem (take (6 * s.errors) (drop (6 * m) es)) (take (6 * s.errors) e) → not q ≡ true → false ≡ wholly script ts es
+      → q ≡ same_bytes (take (6 * s.errors) (drop (6 * m) es)) (take (6 * s.errors) e) → not q ≡ true → false ≡ wholly script ts es
   differs_errors {q} h k a b =
-      sym (and_false (same_bytes_lem (take (4 * s.tokens) (drop (4 * n) ts)) (take (4 * s.tokens) t) && same_bytes_lem (drop (4 * (n + s.tokens)) ts) (token_records script tl ++ tz)))
+      sym (and_false (same_bytes (take (4 * s.tokens) (drop (4 * n) ts)) (take (4 * s.tokens) t) && same_bytes (drop (4 * (n + s.tokens)) ts) (token_records script tl ++ tz)))
       ∙ (rw (sym a ∙ no q b) at (part_same h k))
 
   module _ {q r : Bool} (h : 4 * (n + s.tokens) ≤ length ts) (k : 6 * (m + s.errors) ≤ length es)
-      (a : q ≡ same_bytes_lem (take (4 * s.tokens) (drop (4 * n) ts)) (take (4 * s.tokens) t)) (b : not q ≡ false)
-      (c : r ≡ same_bytes_lem (take (6 * s.errors) (drop (6 * m) es)) (take (6 * s.errors) e)) (d : not r ≡ false) where
-    rest-same : same_bytes_lem (drop (4 * (n + s.tokens)) ts) (token_records script tl ++ tz) && same_bytes_lem (drop (6 * (m + s.errors)) es) (error_records el ++ ez) ≡ wholly script ts es
+      (a : q ≡ same_bytes (take (4 * s.tokens) (drop (4 * n) ts)) (take (4 * s.tokens) t)) (b : not q ≡ false)
+      (c : r ≡ same_bytes (take (6 * s.errors) (drop (6 * m) es)) (take (6 * s.errors) e)) (d : not r ≡ false) where
+    rest-same : same_bytes (drop (4 * (n + s.tokens)) ts) (token_records script tl ++ tz) && same_bytes (drop (6 * (m + s.errors)) es) (error_records el ++ ez) ≡ wholly script ts es
     rest-same = sym (pair_up _ _ _ _ (sym a ∙ yes q b) (sym c ∙ yes r d)) ∙ part_same h k
 
     pub agreeing_part : s.ended ≡ false → Agreeing script ts es (n + s.tokens) (m + s.errors) s.pos
@@ -204,7 +204,7 @@ module _ {script ts es : List ℕ} {n m pos : ℕ} (g : Agreeing script ts es n 
       same = rw f at rest-same;
     }
 
-    end_same : s.ended ≡ true → same_bytes_lem (drop (4 * (n + s.tokens)) ts) (zeros (length ts - 4 * (n + s.tokens))) && same_bytes_lem (drop (6 * (m + s.errors)) es) (zeros (length es - 6 * (m + s.errors))) ≡ wholly script ts es
+    end_same : s.ended ≡ true → same_bytes (drop (4 * (n + s.tokens)) ts) (zeros (length ts - 4 * (n + s.tokens))) && same_bytes (drop (6 * (m + s.errors)) es) (zeros (length es - 6 * (m + s.errors))) ≡ wholly script ts es
     unfolding token_records error_records flatten
     end_same f =
         let i : n + s.tokens + 0 ≡ length (tokens_of (cut script)) = rw f at part_fits.0 in
@@ -213,11 +213,11 @@ module _ {script ts es : List ℕ} {n m pos : ℕ} (g : Agreeing script ts es n 
         let v : length es - 6 * (m + s.errors) ≡ length es - length (error_table script) = omega (arith, errors-length script) in
         rw (u, v) (rw f at rest-same)
 
-    pub differs_behind : {o : Bool} → s.ended ≡ true → o ≡ same_bytes_lem (drop (4 * (n + s.tokens)) ts) (zeros (length ts - 4 * (n + s.tokens))) → not o ≡ true → false ≡ wholly script ts es
+    pub differs_behind : {o : Bool} → s.ended ≡ true → o ≡ same_bytes (drop (4 * (n + s.tokens)) ts) (zeros (length ts - 4 * (n + s.tokens))) → not o ≡ true → false ≡ wholly script ts es
     differs_behind {o} f x y = rw (sym x ∙ no o y) at (end_same f)
 
-    pub agrees_end : {o w : Bool} → s.ended ≡ true → o ≡ same_bytes_lem (drop (4 * (n + s.tokens)) ts) (zeros (length ts - 4 * (n + s.tokens))) → not o ≡ false
-        → w ≡ same_bytes_lem (drop (6 * (m + s.errors)) es) (zeros (length es - 6 * (m + s.errors))) → w ≡ wholly script ts es
+    pub agrees_end : {o w : Bool} → s.ended ≡ true → o ≡ same_bytes (drop (4 * (n + s.tokens)) ts) (zeros (length ts - 4 * (n + s.tokens))) → not o ≡ false
+        → w ≡ same_bytes (drop (6 * (m + s.errors)) es) (zeros (length es - 6 * (m + s.errors))) → w ≡ wholly script ts es
     agrees_end {o} f x y z = z ∙ (rw (sym x ∙ yes o y) at (end_same f))
 
 -- ---- the answer
@@ -227,10 +227,10 @@ module _ (script ts es : List ℕ) where
   unfolding is_cut
   not_cut_long h = rw (lt-ltb 65536 (length script) h, is_cut)
 
-  pub not_cut_short : length script ≤ 65536 → too_short_lem script ts es ≡ true → false ≡ is_cut script ts es
+  pub not_cut_short : length script ≤ 65536 → too_short script ts es ≡ true → false ≡ is_cut script ts es
   unfolding is_cut
   not_cut_short h e = rw (le-ltb 65536 (length script) h, is_cut) (rw (e, is_cut))
 
-  pub cut_wholly : {r : Bool} → length script ≤ 65536 → too_short_lem script ts es ≡ false → r ≡ wholly script ts es → r ≡ is_cut script ts es
+  pub cut_wholly : {r : Bool} → length script ≤ 65536 → too_short script ts es ≡ false → r ≡ wholly script ts es → r ≡ is_cut script ts es
   unfolding is_cut
   cut_wholly h e f = f ∙ rw (le-ltb 65536 (length script) h, is_cut) (rw (e, is_cut))

@@ -9,7 +9,7 @@ use lib.Dec.{ltb, eqb}
 use lib.ListN.{length, length-append}
 use borrow.Author.Tests.{eq-eqb, eqb-true, ltb-false}
 use Rattle.lex.specs.Bytes.{or}
-use Rattle.lex.specs.Kind.{same_bytes_lem}
+use Rattle.lex.specs.Kind.{same_bytes}
 use Rattle.lex.specs.Lex.{cut}
 use Rattle.lex.proofs.Laws.{false-true}
 use Rattle.tokens.specs.declared.TableCounts.{TableCounts}
@@ -17,25 +17,25 @@ use Rattle.tokens.specs.declared.Cutting.{Cutting}
 use Rattle.tokens.specs.declared.Cutting.TheVariants as C
 use Rattle.lex.specs.Answer.{max_bytes}
 use Rattle.lex.specs.Cells.{zeros, padded}
-use Rattle.tokens.specs.Tables.{Outcome, token_table, error_table, counts_of, tabled, too_short_lem, promised, is_cut}
+use Rattle.tokens.specs.Tables.{Outcome, token_table, error_table, counts_of, tabled, too_short, promised, is_cut}
 use Rattle.tokens.proofs.Arrays.{zeros-length}
 use Rattle.tokens.proofs.Promised.{counts_fit, taken}
 
-same_eq : (xs ys : List ℕ) → same_bytes_lem xs ys ≡ true → xs ≡ ys
-unfolding same_bytes_lem
+same_eq : (xs ys : List ℕ) → same_bytes xs ys ≡ true → xs ≡ ys
+unfolding same_bytes
 same_eq [] [] e = refl
 same_eq [] (y ∷ ys) e = false-true e
 same_eq (x ∷ xs) [] e = false-true e
 same_eq (x ∷ xs) (y ∷ ys) e = go (eqb x y) refl e (λ f. same_eq xs ys f)
   where
-    go : (t : Bool) → eqb x y ≡ t → elim t as (λ (_ : Bool). Bool) [ true ↦ same_bytes_lem xs ys | false ↦ false ] ≡ true → (same_bytes_lem xs ys ≡ true → xs ≡ ys) → x ∷ xs ≡ y ∷ ys
+    go : (t : Bool) → eqb x y ≡ t → elim t as (λ (_ : Bool). Bool) [ true ↦ same_bytes xs ys | false ↦ false ] ≡ true → (same_bytes xs ys ≡ true → xs ≡ ys) → x ∷ xs ≡ y ∷ ys
     go true q f more = let h = eqb-true x y q in let l = more f in λ i. h i ∷ l i
     go false q f more = false-true f
 
-same_refl : (xs : List ℕ) → same_bytes_lem xs xs ≡ true
-unfolding same_bytes_lem
+same_refl : (xs : List ℕ) → same_bytes xs xs ≡ true
+unfolding same_bytes
 same_refl [] = refl
-same_refl (x ∷ xs) = rw (eq-eqb x x refl, same_bytes_lem) (same_refl xs)
+same_refl (x ∷ xs) = rw (eq-eqb x x refl, same_bytes) (same_refl xs)
 
 both : (a b : Bool) → a && b ≡ true → (a ≡ true) × (b ≡ true)
 both true b e = (refl, e)
@@ -49,14 +49,14 @@ facts false false w e = (refl, refl, e)
 -- what is known of arrays that are cut
 pub record IsCut (script ts es : List ℕ) : Type 0 where
   pub short : length script ≤ max_bytes
-  pub fits : too_short_lem script ts es ≡ false
+  pub fits : too_short script ts es ≡ false
   pub tokens : ts ≡ padded (length ts) (token_table script)
   pub errors : es ≡ padded (length es) (error_table script)
 
 pub is_cut_tables : (script ts es : List ℕ) → is_cut script ts es ≡ true → IsCut script ts es
 unfolding is_cut
 is_cut_tables script ts es e =
-    let f = facts (ltb max_bytes (length script)) (too_short_lem script ts es) _ e in
+    let f = facts (ltb max_bytes (length script)) (too_short script ts es) _ e in
     let b = both _ _ f.2 in
     record {
       short = ltb-false max_bytes (length script) f.0;
@@ -77,22 +77,22 @@ is_cut-left script ts es e =
 padded-length : (n : ℕ) (table : List ℕ) → length table ≤ n → length (padded n table) ≡ n
 padded-length n table h = omega (arith, length-append table (zeros (n - length table)), zeros-length (n - length table))
 
-padded-same : (n : ℕ) (table : List ℕ) → length table ≤ n → same_bytes_lem (padded n table) (padded (length (padded n table)) table) ≡ true
-padded-same n table h = ap (λ (k : ℕ). same_bytes_lem (padded n table) (padded k table)) (padded-length n table h) ∙ same_refl (padded n table)
+padded-same : (n : ℕ) (table : List ℕ) → length table ≤ n → same_bytes (padded n table) (padded (length (padded n table)) table) ≡ true
+padded-same n table h = ap (λ (k : ℕ). same_bytes (padded n table) (padded k table)) (padded-length n table h) ∙ same_refl (padded n table)
 
-wide : (script ts es : List ℕ) → too_short_lem script ts es ≡ false → (4 * length script + 4 ≤ length ts) × (6 * length script ≤ length es)
-unfolding too_short_lem or
+wide : (script ts es : List ℕ) → too_short script ts es ≡ false → (4 * length script + 4 ≤ length ts) × (6 * length script ≤ length es)
+unfolding too_short or
 wide script ts es = go (ltb (length ts) (4 * length script + 4)) refl
   where
     go : (t : Bool) → ltb (length ts) (4 * length script + 4) ≡ t → or t (ltb (length es) (6 * length script)) ≡ false → (4 * length script + 4 ≤ length ts) × (6 * length script ≤ length es)
     go true q e = false-true (sym e)
     go false q e = (ltb-false (length ts) (4 * length script + 4) q, ltb-false (length es) (6 * length script) e)
 
-same-short : (script ts es ts' es' : List ℕ) → length ts' ≡ length ts → length es' ≡ length es → too_short_lem script ts' es' ≡ too_short_lem script ts es
-unfolding too_short_lem
+same-short : (script ts es ts' es' : List ℕ) → length ts' ≡ length ts → length es' ≡ length es → too_short script ts' es' ≡ too_short script ts es
+unfolding too_short
 same-short script ts es ts' es' e f = λ i. or (ltb (e i) (4 * length script + 4)) (ltb (f i) (6 * length script))
 
-pub tabled_is_cut : (script ts es : List ℕ) → ltb max_bytes (length script) ≡ false → too_short_lem script ts es ≡ false
+pub tabled_is_cut : (script ts es : List ℕ) → ltb max_bytes (length script) ≡ false → too_short script ts es ≡ false
     → is_cut script (padded (length ts) (token_table script)) (padded (length es) (error_table script)) ≡ true
 unfolding is_cut
 tabled_is_cut script ts es l s =
@@ -102,7 +102,7 @@ tabled_is_cut script ts es l s =
     let he : length (error_table script) ≤ length es = omega (arith, w, f) in
     let ts' : List ℕ = padded (length ts) (token_table script) in
     let es' : List ℕ = padded (length es) (error_table script) in
-    let s' : too_short_lem script ts' es' ≡ false = same-short script ts es ts' es' (padded-length (length ts) (token_table script) ht) (padded-length (length es) (error_table script) he) ∙ s in
+    let s' : too_short script ts' es' ≡ false = same-short script ts es ts' es' (padded-length (length ts) (token_table script) ht) (padded-length (length es) (error_table script) he) ∙ s in
     let x = padded-same (length ts) (token_table script) ht in
     let y = padded-same (length es) (error_table script) he in
     rw (l, is_cut) (rw (s', is_cut) (λ i. x i && y i))

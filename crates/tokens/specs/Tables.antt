@@ -4,7 +4,7 @@ use mathlib.Core.List.{List, [], ◌∷◌, map, flatten}
 use Rattle.lex.specs.Answer.{max_bytes}
 use Rattle.lex.specs.Bytes.{or}
 use Rattle.lex.specs.Cells.{padded}
-use Rattle.lex.specs.Kind.{same_bytes_lem}
+use Rattle.lex.specs.Kind.{same_bytes}
 use Rattle.lex.specs.Lex.{cut, tokens_of, Occurrence, faults_of}
 use Rattle.lex.specs.Refusals.{r_too_long, r_too_short}
 use Rattle.lex.specs.Spelling.{spelling_start}
@@ -67,15 +67,15 @@ tabled script tokens errors = record {
 }
 
 -- one of them has fewer cells than the script's bytes ask for
-unfoldable pub too_short_lem : List ℕ → List ℕ → List ℕ → Bool
-too_short_lem script tokens errors = or (ltb (length tokens) (token_width * length script + token_width)) (ltb (length errors) (error_width * length script))
+unfoldable pub too_short : List ℕ → List ℕ → List ℕ → Bool
+too_short script tokens errors = or (ltb (length tokens) (token_width * length script + token_width)) (ltb (length errors) (error_width * length script))
 
 -- 1 is tested first, then 2; neither changes an array
 unfoldable pub promised : List ℕ → List ℕ → List ℕ → Outcome
 promised script tokens errors =
     elim (ltb max_bytes (length script)) [
       | true ↦ record { answer = C.Refused r_too_long; tokens = tokens; errors = errors }
-      | false ↦ elim (too_short_lem script tokens errors) [
+      | false ↦ elim (too_short script tokens errors) [
         | true ↦ record { answer = C.Refused r_too_short; tokens = tokens; errors = errors }
         | false ↦ tabled script tokens errors
       ]
@@ -88,8 +88,8 @@ unfoldable pub is_cut : List ℕ → List ℕ → List ℕ → Bool
 is_cut script tokens errors =
     elim (ltb max_bytes (length script)) [
       | true ↦ false
-      | false ↦ elim (too_short_lem script tokens errors) [
+      | false ↦ elim (too_short script tokens errors) [
         | true ↦ false
-        | false ↦ same_bytes_lem tokens (padded (length tokens) (token_table script)) && same_bytes_lem errors (padded (length errors) (error_table script))
+        | false ↦ same_bytes tokens (padded (length tokens) (token_table script)) && same_bytes errors (padded (length errors) (error_table script))
       ]
     ]

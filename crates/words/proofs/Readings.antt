@@ -21,7 +21,7 @@ use Rattle.rules.specs.Rules.{readers, max_levels}
 use Rattle.rules.specs.Parse.{Reading, read, ended, begin, synchronize_root, Gathered, merged, parse, parse_roots, recover, parse_collect, parse_roots_collect}
 use Rattle.ast.specs.Layout.{diagnostic_cells, zeros}
 use Rattle.lex.specs.Answer.{max_bytes}
-use Rattle.rules.specs.Promise.{Arrays, Outcome, outcome, holding, too_short_lem, promised}
+use Rattle.rules.specs.Promise.{Arrays, Outcome, outcome, holding, too_short, promised}
 use Rattle.ast.specs.declared.Counts.{Counts}
 use Rattle.ast.specs.declared.NodeId.{NodeId}
 use Rattle.ast.specs.declared.Parsed.TheVariants as P
@@ -238,9 +238,9 @@ module _ (how : List ℕ → Reading) (script : List ℕ) (l : Arrays)
       by_arrays false = outcome-described (how script) refl
 
       by_length : (b : Bool)
-          → Described (elim b as (λ b'. Outcome) [ true ↦ record { answer = P.Refused 1; arrays = l } | false ↦ elim (too_short_lem script l) as (λ b'. Outcome) [ true ↦ record { answer = P.Refused 2; arrays = l } | false ↦ outcome (how script) l ] ])
+          → Described (elim b as (λ b'. Outcome) [ true ↦ record { answer = P.Refused 1; arrays = l } | false ↦ elim (too_short script l) as (λ b'. Outcome) [ true ↦ record { answer = P.Refused 2; arrays = l } | false ↦ outcome (how script) l ] ])
       by_length true = refused-described 1
-      by_length false = by_arrays (too_short_lem script l)
+      by_length false = by_arrays (too_short script l)
 
 module _ (power : ℕ → Option ℕ) (script : List ℕ) (l : Arrays) where
   pub strict-described : Described (promised (parse power) script l)

@@ -5,7 +5,7 @@ use native.Mathlib.Omega.{arith}
 use lib.ListN.{length-take, length-drop}
 use lib.Seq.{length-take-le}
 use Rattle.lex.specs.Answer.{answer}
-use Rattle.positions.specs.Position.{position_answer, goes_on_lem}
+use Rattle.positions.specs.Position.{position_answer, goes_on}
 use Rattle.positions.proofs.Places.{ahead, onward-start, advanced_long, advanced_outside, advanced_on, advanced_anew}
 use borrow.Author.Rules.{rules}
 use Rattle.positions.proofs.advance.Statement.{statement}

@@ -1,4 +1,4 @@
--- `positions::goes_on_lem` meets its contract.
+-- `positions::goes_on` meets its contract.
 use Rattle.positions.proofs.Places.{goes_back, goes_nowhere, goes_far, goes_by_line}
 use Rattle.positions.proofs.goes_on.Statement.{statement}
 use Rattle.positions.proofs.goes_on.Tie as tie

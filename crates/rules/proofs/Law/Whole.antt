@@ -16,7 +16,7 @@ use Rattle.rules.specs.Combinators.{with_docs, ControlFlow, continue}
 use Rattle.rules.specs.Rules.{readers, max_levels, stage_one}
 use Rattle.rules.specs.Parse.{Reading, read, ended, begin, synchronize_root, Gathered, merged, recover, parse, parse_roots, parse_collect, parse_roots_collect}
 use Rattle.lex.specs.Answer.{max_bytes}
-use Rattle.rules.specs.Promise.{Arrays, too_short_lem, holding, Outcome, outcome, promised, numbers_of}
+use Rattle.rules.specs.Promise.{Arrays, too_short, holding, Outcome, outcome, promised, numbers_of}
 use Rattle.ast.specs.declared.Parsed.TheVariants as P
 use Rattle.ast.specs.Lists.{map₁, map₂, and_then}
 use Rattle.rules.specs.Law.{Child, a_node, a_type, children_of, inner_of, times, all_of, occurrences, nth, children_at, inner_at, all_arguments, resynchronisings, Rising, Below, Law, TreeLaw}
@@ -322,9 +322,9 @@ module _ (how : List ℕ → Reading) (script begun : List ℕ) (lawful : (tree 
       by_room true e = absurd (omega (arith, e))
       by_room false e = by_reading (how script) refl e
 
-      by_length : (b : Bool) → of (elim b as (λ b'. Outcome) [ true ↦ record { answer = P.Refused 1; arrays = l } | false ↦ elim (too_short_lem script l) as (λ b'. Outcome) [ true ↦ record { answer = P.Refused 2; arrays = l } | false ↦ outcome (how script) l ] ])
+      by_length : (b : Bool) → of (elim b as (λ b'. Outcome) [ true ↦ record { answer = P.Refused 1; arrays = l } | false ↦ elim (too_short script l) as (λ b'. Outcome) [ true ↦ record { answer = P.Refused 2; arrays = l } | false ↦ outcome (how script) l ] ])
       by_length true e = absurd (omega (arith, e))
-      by_length false e = by_room (too_short_lem script l) e
+      by_length false e = by_room (too_short script l) e
 
 -- both modes, whatever is lent
 module _ {power : ℕ → Option ℕ} (laws : TreeLaw power) (script : List ℕ) (l : Arrays) where

@@ -6,14 +6,14 @@ use Prim.Native.Nat.{◌-◌, ◌≤◌}
 use native.Mathlib.Omega.{arith}
 use lib.ListN.{length, drop}
 use borrow.Author.Rules.{rules}
-use Rattle.lex.specs.Kind.{same_bytes_lem}
+use Rattle.lex.specs.Kind.{same_bytes}
 use Rattle.lex.specs.Cells.{zeros}
 use Rattle.tokens.proofs.Same.{zero_turn, zero_end}
 use Rattle.tokens.proofs.is_zero_from.Statement.{statement}
 use Rattle.tokens.proofs.is_zero_from.Tie as tie
 
 abbrev invariant-loop : tie.invariant-loop
-invariant-loop a from all₀ i₀ all i = (i ≤ length a) × (all && same_bytes_lem (drop i a) (zeros (length a - i)) ≡ same_bytes_lem (drop from a) (zeros (length a - from)))
+invariant-loop a from all₀ i₀ all i = (i ≤ length a) × (all && same_bytes (drop i a) (zeros (length a - i)) ≡ same_bytes (drop from a) (zeros (length a - from)))
 
 abbrev decreases-loop : tie.decreases-loop
 decreases-loop a from all₀ i₀ all i = length a - i

@@ -6,13 +6,13 @@ use Prim.Native.Nat.{◌+◌, ◌-◌, ◌≤◌}
 use native.Mathlib.Omega.{arith}
 use lib.ListN.{length, take, drop}
 use borrow.Author.Rules.{rules}
-use Rattle.lex.specs.Kind.{same_bytes_lem}
+use Rattle.lex.specs.Kind.{same_bytes}
 use Rattle.tokens.proofs.Same.{cells-start, cells_turn, cells_end}
 use Rattle.tokens.proofs.same_cells.Statement.{statement}
 use Rattle.tokens.proofs.same_cells.Tie as tie
 
 abbrev invariant-loop : tie.invariant-loop
-invariant-loop a n b at all₀ i₀ all i = (i ≤ n) × (all && same_bytes_lem (take (n - i) (drop (at + i) b)) (take (n - i) (drop i a)) ≡ same_bytes_lem (take n (drop at b)) (take n a))
+invariant-loop a n b at all₀ i₀ all i = (i ≤ n) × (all && same_bytes (take (n - i) (drop (at + i) b)) (take (n - i) (drop i a)) ≡ same_bytes (take n (drop at b)) (take n a))
 
 abbrev decreases-loop : tie.decreases-loop
 decreases-loop a n b at all₀ i₀ all i = n - i
