@@ -573,7 +573,7 @@ Inner (x ∷ xs) = (begins_item x.0 ≡ false) × Inner xs
 pub not_found : {A : Type 0} (xs : List (ℕ × A)) (other : A) (k : ℕ) → begins_item k ≡ true → Inner xs → choose xs other k ≡ other
 unfolding choose
 not_found [] other k h i = refl
-not_found (x ∷ xs) other k h i = ap (λ (b : Bool). elim b as (λ b'. _) [ true ↦ x.1 | false ↦ choose xs other k ]) (apart k x.0 h i.0) ∙ not_found xs other k h i.1
+not_found {A = A} (x ∷ xs) other k h i = ap (λ (b : Bool). elim b as (λ b'. A) [ true ↦ x.1 | false ↦ choose xs other k ]) (apart k x.0 h i.0) ∙ not_found xs other k h i.1
 
 signs_inner : (begins_item k_plus ≡ false) × (begins_item k_minus ≡ false) × (begins_item k_asteriks ≡ false) × (begins_item k_slash ≡ false) × (begins_item k_percent ≡ false) × (begins_item k_double_equal ≡ false) × (begins_item k_less_than ≡ false) × (begins_item k_greater_than ≡ false)
 unfolding begins_item choose
