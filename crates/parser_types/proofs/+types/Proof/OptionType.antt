@@ -1,0 +1,34 @@
+-- `option-type` meets its contract.
+use Rattle.std.proofs.Common.{ℕ, refl, arith, rules}
+use Rattle.parser_types.proofs.option_type.Reads as option-type
+use Rattle.parser_types.proofs.open_angle.Reads as open-angle-reads
+use Rattle.parser_types.proofs.parse_type.Reads as parse-type
+use Rattle.parser_state.proofs.expect.Reads as expect-reads
+use Rattle.parser_state.proofs.push_type.Reads as push-type-reads
+use Rattle.parser_types.proofs.+types.Lts-option_type as lts
+use Rattle.parser_types.proofs.+types.Proof.Measures.{option_type-at, parse-type-below}
+use Rattle.parser_state.proofs.Steps.{seq, then, enough}
+use Rattle.ast.specs.Layout.{type_cells, token_cells, run_cells}
+use Rattle.rules.specs.Rules.{option_type}
+
+abbrev claims : ℕ → lts.Claims
+claims t = (open-angle-reads.Asked, open-angle-reads.Learnt, parse-type-below t, parse-type.Post, expect-reads.Asked, expect-reads.Learnt, push-type-reads.Asked, push-type-reads.Learnt)
+
+returns : (t : ℕ) → lts.Need-returns (claims t) (option_type-at t) option-type.Post
+unfolding option_type type_cells token_cells run_cells
+returns t c =
+    let open-angle = c.before.before.before.before.before.before.before.before.before.before.before.before.before.before.before.open-angle in
+    let parse-type = c.before.before.before.before.before.before.before.before.before.before.before.parse-type in
+    let expect = c.before.before.before.before.before.expect in
+    let push_type_lem = c.before.before.push_type_lem in
+    λ rules nodes. enough (then (open-angle.ensures nodes _ _) (seq _ (parse-type.ensures rules nodes) (then (expect.ensures nodes _ _) (push_type_lem.ensures _ nodes _ _ refl)))) tt
+
+pub option_type_meets : {M : Type 1} (t : ℕ) → lts.Closed (claims t) (option_type-at t) option-type.Post M
+option_type_meets t = lts.spec (claims t) (option_type-at t) option-type.Post
+    (λ c κs. search rules)  -- open-angle-requires
+    (λ c κs. (omega arith, search rules))  -- parse-type-requires
+    (λ c κs. search rules)  -- expect-requires
+    (λ c κs. search rules)  -- push-type-requires
+    (λ c. omega (arith, c.before.before.push_type_lem.auto, c.before.before.before.before.before.before.before.before.before.before.before.parse-type.auto))  -- same-length
+    (λ c. omega (arith, c.before.before.push_type_lem.auto, c.before.before.before.before.before.before.before.before.before.before.before.parse-type.auto))  -- same-length-2
+    (returns t)
