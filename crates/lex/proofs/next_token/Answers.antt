@@ -1,7 +1,6 @@
 -- `next_token` meets its contract: a fault has no part in what `next_at` gives.
 -- Assumes nothing.
 use mathlib.Core.Path.{◌∙◌, sym}
-use Prim.Native.Nat.{◌-◌}
 use native.Mathlib.Omega.{arith}
 use Rattle.lex.specs.Lex.{next_at, next_of}
 use Rattle.lex.proofs.Steps.{step_forward, next_step}

@@ -1,7 +1,6 @@
 -- `skip_num_cont` meets its contract: the run is scanned one byte at a time.
 -- Assumes nothing.
 use mathlib.Core.Path.{◌∙◌, sym}
-use Prim.Native.Nat.{◌-◌}
 use borrow.Author.Rules.{rules}
 use Rattle.lex.specs.Bytes.{is_num_cont}
 use Rattle.lex.proofs.Laws.{run_more, run_stop, run_end}

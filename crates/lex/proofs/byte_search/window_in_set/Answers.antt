@@ -1,7 +1,6 @@
 -- `window_in_set` meets its contract: `all` says whether the run is as long as the bytes tested
 -- so far.
 -- Assumes nothing.
-use Prim.Native.Nat.{◌-◌}
 use native.Mathlib.Omega.{arith}
 use borrow.Author.Rules.{rules}
 use Rattle.lex.proofs.Laws.{window_none, window_next, window_end}

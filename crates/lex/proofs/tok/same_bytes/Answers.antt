@@ -1,7 +1,6 @@
 -- `same_bytes` meets its contract: the two are compared one byte at a time.
 -- Assumes nothing.
 use mathlib.Core.Path.{sym}
-use Prim.Native.Nat.{◌-◌}
 use borrow.Author.Rules.{rules}
 use Rattle.lex.proofs.Laws.{same_more, same_less, same_end, same_length}
 use Rattle.lex.proofs.tok.same_bytes.Goals as goal

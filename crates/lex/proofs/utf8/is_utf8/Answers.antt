@@ -1,7 +1,6 @@
 -- `is_utf8` meets its contract: the ASCII bytes in front, then a character a turn.
 -- Assumes nothing.
 use mathlib.Core.Path.{◌∙◌, sym}
-use Prim.Native.Nat.{◌-◌}
 use native.Mathlib.Omega.{arith}
 use borrow.Author.Rules.{rules}
 use Rattle.lex.specs.Bytes.{in_set}
