@@ -1,7 +1,0 @@
--- `parser_types::push_extern_fn` meets its contract.
-use Rattle.ast.specs.Layout.{token_cells, run_cells}
-use Rattle.parser_types.proofs.push_extern_fn.Goals as goal
-
-pub returns : goal.returns
-unfolding token_cells run_cells
-returns c = λ tokens nodes types. c.push_cells.ensures tokens nodes types
