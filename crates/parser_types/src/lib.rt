@@ -397,6 +397,7 @@ pub fn parse_import(tokens: &[u32], nodes: &mut [u32], lists: &mut [u32], p: &mu
 // ---- externs
 
 // The cells of a fn of an extern.
+#[tactic(auto, unfolding(ast::specs::Layout::token_cells, ast::specs::Layout::run_cells))]
 fn push_extern_fn(
     lists: &mut [u32],
     p: &mut State,
