@@ -1,4 +1,4 @@
--- The proof of the cycle of calls {innermost} of `lookups`: the measure is the number that is passed on.
+-- `lookups::innermost` meets its contract.
 use Rattle.lookups.proofs.Descent.{innermost_step, innermost_here}
 use Rattle.lookups.proofs.+innermost.Goals as goal
 

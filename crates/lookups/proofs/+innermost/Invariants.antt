@@ -1,4 +1,4 @@
--- The proof of the cycle of calls {innermost} of `lookups`: the measure is the number that is passed on.
+-- The measure is the number that is passed on.
 use Rattle.lookups.proofs.+innermost.Given as goal
 
 abbrev pub decreases-innermost : goal.decreases-innermost

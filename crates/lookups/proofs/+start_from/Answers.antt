@@ -1,4 +1,4 @@
--- The proof of the cycle of calls {start_from} of `lookups`: the measure is the number that is passed on.
+-- `lookups::start_from` meets its contract.
 use mathlib.Core.Path.{◌∙◌, sym, ap}
 use native.Mathlib.Omega.{arith}
 use Rattle.lookups.proofs.Descent.{finish, finish_below, finish_past, steps, code-number}

@@ -1,4 +1,4 @@
--- The proof of the cycle of calls {start_from} of `lookups`: the measure is the number that is passed on.
+-- The measure is the number that is passed on.
 use Rattle.lookups.proofs.+start_from.Given as goal
 
 abbrev pub decreases-start_from : goal.decreases-start_from
