@@ -1,8 +1,7 @@
-// The readers of items and expressions of parser.rs. They call each other, so that the names of all
-// of them stand in the name of one module, which is full (docs/PROVING.md): `climb` is the rule
-// `infix_step`, `post_step` `postfix_step`, `record_lit` and `array_lit` `record_literal` and
-// `array_literal`, `init` `field`, `case` `next_case`, `prefix` and `expr` `parse_prefix` and
-// `parse_expr`.
+// The readers of items and expressions of parser.rs, which call each other. Some names are shorter
+// than their rules': `climb` is the rule `infix_step`, `post_step` `postfix_step`, `record_lit` and
+// `array_lit` `record_literal` and `array_literal`, `init` `field`, `case` `next_case`, `prefix` and
+// `expr` `parse_prefix` and `parse_expr`.
 #![tactic(auto)]
 
 ghost use Rattle.std.specs.Prelude.{◌≡◌, ◌<◌, true};
