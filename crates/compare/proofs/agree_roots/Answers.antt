@@ -15,7 +15,7 @@ pub returns-then-roots2-left : goal.returns-then-roots2-left
 returns-then-roots2-left c = as_roots _ _ _ _ _ _ _ _ (outside_right node_lists c.if-count-count2.false (omega (arith, c.if-roots2-left.true)))
 
 pub loop-left-init : goal.loop-left-init
-loop-left-init c = begin node_lists (omega (arith, c.if-roots-left.false)) (omega (arith, c.if-roots2-left.false)) (omega (arith, c.ranges.count)) (omega (arith, c.ranges.count))
+loop-left-init c = begin node_lists (omega arith) (omega arith) (omega arith) (omega arith)
 
 pub returns-then-not-agree_node : goal.returns-then-not-agree_node
 returns-then-not-agree_node c =
