@@ -1,6 +1,6 @@
 -- Reading the records that `Layout` lays out: `node_trip` and `type_trip` have that what is read is
 -- what was laid out.
-use Rattle.std.specs.Prelude.{Bool, true, false, List, [], ◌∷◌, ℕ, ◌+◌, ◌*◌, ◌%◌, leb, length, get_or, take, drop}
+use Rattle.std.specs.Prelude.{Bool, List, [], ◌∷◌, ℕ, ◌+◌, ◌*◌, ◌%◌, leb, length, get_or, take, drop}
 use Rattle.std.proofs.Math.Option.{Option, none, some}
 use Rattle.lex.specs.Bytes.{if}
 use Rattle.ast.specs.Layout.{node_width, type_width}

@@ -18,7 +18,7 @@ use Rattle.rules.specs.Parse.{Reading, read, ended, begin, parse, parse_roots}
 use Rattle.lex.specs.Kind.{k_eof}
 use Rattle.rules.specs.Combinators.{choose}
 use Rattle.ast.specs.Layout.{node_width, type_width, zeros, padded, node_cells, type_cells}
-use Rattle.lex.specs.Answer.{max_bytes, Answer, answer}
+use Rattle.lex.specs.Answer.{max_bytes, answer}
 use Rattle.rules.specs.Promise.{Arrays, too_short, holding, Outcome, outcome, promised}
 use Rattle.rules.specs.Shape as R
 use Rattle.rules.specs.Shape.{Shapes, shape_of}

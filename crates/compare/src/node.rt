@@ -114,7 +114,7 @@ const BEFORE_LAST: u64 = 0x10000000000;
 // Node `i`, below `n`, and node `j`, below `m`. The last child, or the last member of the last
 // list, is the last thing done, and is passed nothing that lies in this function's frame: so a long
 // chain takes no stack.
-#[cycle(agree_cases_agree_last_agree_node_agree_nodes_agree_part_agree_parts)]
+#[cycle(agreement)]
 pub(crate) fn agree_node(
     s: &&[u8],
     nodes: &&[u32],
@@ -188,7 +188,7 @@ fn agree_name(
 // The last part of two nodes in one order: nothing, a node, or a list of fields or of nodes. Only
 // `agree_node` calls this, and as the last thing done: so it is put into its frame, and the last
 // node or member is a turn of its loop.
-#[cycle(agree_cases_agree_last_agree_node_agree_nodes_agree_part_agree_parts)]
+#[cycle(agreement)]
 fn agree_last(
     s: &&[u8],
     nodes: &&[u32],
@@ -309,7 +309,7 @@ fn agree_last(
 }
 
 // The parts of two nodes in one order, but for the last.
-#[cycle(agree_cases_agree_last_agree_node_agree_nodes_agree_part_agree_parts)]
+#[cycle(agreement)]
 fn agree_parts(
     s: &&[u8],
     nodes: &&[u32],
@@ -371,7 +371,7 @@ fn agree_parts(
 }
 
 // Two parts of one sort. A list of fields stands last in its record, and is not among these.
-#[cycle(agree_cases_agree_last_agree_node_agree_nodes_agree_part_agree_parts)]
+#[cycle(agreement)]
 fn agree_part(
     s: &&[u8],
     nodes: &&[u32],
@@ -514,7 +514,7 @@ fn agree_part(
 }
 
 // Two lists of nodes, those below `i` and `j`.
-#[cycle(agree_cases_agree_last_agree_node_agree_nodes_agree_part_agree_parts)]
+#[cycle(agreement)]
 fn agree_nodes(
     s: &&[u8],
     nodes: &&[u32],
@@ -580,7 +580,7 @@ fn agree_nodes(
 }
 
 // Two lists of cases: condition and body. Of a case's own token only that it is well formed counts.
-#[cycle(agree_cases_agree_last_agree_node_agree_nodes_agree_part_agree_parts)]
+#[cycle(agreement)]
 fn agree_cases(
     s: &&[u8],
     nodes: &&[u32],

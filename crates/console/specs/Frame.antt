@@ -1,11 +1,15 @@
 -- A number lies within its limit, and a frame within its buffer. No contract can say which bytes
 -- are read.
-use Rattle.std.specs.Prelude.{List, ◌≡◌, ℕ, ◌≤◌, length, drop}
-use Rattle.io.specs.Counts.{IsPrefixLen}
+use Rattle.std.specs.Prelude.{List, ◌≡◌, ℕ, ◌≤◌, length, take, drop}
 use Rattle.console.specs.declared.frames.Number.{Number}
 use Rattle.console.specs.declared.frames.Number.TheVariants as N
 use Rattle.console.specs.declared.frames.Frame.{Frame}
 use Rattle.console.specs.declared.frames.Frame.TheVariants as F
+
+-- `&xs[..n]` is in bounds and has n bytes. The second part follows from the first, and spares a
+-- caller's `&buf[..n]` a proof.
+abbrev pub IsPrefixLen : ℕ → List ℕ → Type 0
+IsPrefixLen n xs = (n ≤ length xs) × (n ≡ length (take n xs))
 
 abbrev pub Within : ℕ → Number → Type 0
 Within limit (N.Value n) = n ≤ limit

@@ -1,10 +1,10 @@
 // Numbers and framed bytes on standard input. A number is in decimal and ends at a blank or a line
 // feed; a frame is its length as a number, its bytes, and a line feed.
-ghost use Rattle.std.specs.Prelude.{◌≤◌};
-ghost use Rattle.io.specs.Counts.{IsPrefixLen};
-ghost use Rattle.console.specs.Frame.{Within, Inside};
+ghost use Rattle.std.specs.Prelude.{◌≡◌, ◌≤◌, length, IfOk, MatchResult};
+ghost use Rattle.console.specs.Frame.{IsPrefixLen, Within, Inside};
 
-use libc::STDIN_FILENO;
+use std::io;
+use std::io::{ErrorKind, Read};
 
 #[derive(Clone, Copy)]
 enum Input {
@@ -28,101 +28,124 @@ pub enum Frame {
     End,
 }
 
-fn read_byte() -> Input {
+// Reads until `buf` is full or nothing is left, and answers how many bytes it put at the start of
+// `buf`. A read that a signal interrupts is made again.
+pub fn read_full(input: &mut impl Read, buf: &mut [u8]) -> io::Result<usize>
+    ensures { IfOk result (λ n. IsPrefixLen n buf.new) }
+{
+    let mut done = 0;
+    for _ in 0..u64::MAX {
+        if done == buf.len() {
+            break;
+        }
+        match input.read(&mut buf[done..]) {
+            Ok(0) => break,
+            Ok(n) => done += n,
+            Err(e) => {
+                if e.kind() != ErrorKind::Interrupted {
+                    return Err(e);
+                }
+            }
+        }
+    }
+    Ok(done)
+}
+
+fn read_byte(input: &mut impl Read) -> io::Result<Input> {
     let mut b = [0u8; 1];
-    if io::read_full(STDIN_FILENO, &mut b) == 1 {
-        Input::Byte(b[0])
+    if read_full(input, &mut b)? == 1 {
+        Ok(Input::Byte(b[0]))
     } else {
-        Input::End
+        Ok(Input::End)
     }
 }
 
 // The next number, at most `limit`; a larger one is malformed. Twenty digits are enough for any
 // limit.
-pub fn read_number(limit: usize) -> Number
-    ensures { Within limit result }
+pub fn read_number(input: &mut impl Read, limit: usize) -> io::Result<Number>
+    ensures { IfOk result (Within limit) }
 {
     let mut value: usize = 0;
     let mut digits: usize = 0;
     while digits <= 20 {
-        let Input::Byte(b) = read_byte() else {
+        let Input::Byte(b) = read_byte(input)? else {
             if digits == 0 {
-                return Number::End;
+                return Ok(Number::End);
             }
-            return Number::Malformed;
+            return Ok(Number::Malformed);
         };
         if b == b' ' || b == b'\n' {
             if digits == 0 {
-                return Number::Malformed;
+                return Ok(Number::Malformed);
             }
-            return Number::Value(value);
+            return Ok(Number::Value(value));
         }
         if b < b'0' {
-            return Number::Malformed;
+            return Ok(Number::Malformed);
         }
         if b'9' < b {
-            return Number::Malformed;
+            return Ok(Number::Malformed);
         }
         if limit / 10 < value {
-            return Number::Malformed;
+            return Ok(Number::Malformed);
         }
         value *= 10;
         let digit = (b - b'0') as usize;
         if limit - value < digit {
-            return Number::Malformed;
+            return Ok(Number::Malformed);
         }
         value += digit;
         digits += 1;
     }
-    Number::Malformed
+    Ok(Number::Malformed)
 }
 
 // Whether the next byte is a line feed.
-fn line_ends() -> bool {
-    match read_byte() {
-        Input::Byte(b) => b == b'\n',
-        Input::End => false,
+fn line_ends(input: &mut impl Read) -> io::Result<bool> {
+    match read_byte(input)? {
+        Input::Byte(b) => Ok(b == b'\n'),
+        Input::End => Ok(false),
     }
 }
 
 // The next frame, its bytes at the start of `buf`; the cells behind them keep what they held. One
 // that is longer than `buf` is malformed. Where nothing is left `buf` stays as it was.
-pub fn read_frame(buf: &mut [u8]) -> Frame
-    ensures { Inside buf.old buf.new result }
+pub fn read_frame(input: &mut impl Read, buf: &mut [u8]) -> io::Result<Frame>
+    ensures { MatchResult result (Inside buf.old buf.new) (λ _. length buf.new ≡ length buf.old) }
 {
-    match read_number(buf.len()) {
+    match read_number(input, buf.len())? {
         Number::Value(n) => {
-            if io::read_full(STDIN_FILENO, &mut buf[..n]) != n {
-                return Frame::Malformed;
+            if read_full(input, &mut buf[..n])? != n {
+                return Ok(Frame::Malformed);
             }
-            if line_ends() {
-                Frame::Bytes(n)
+            if line_ends(input)? {
+                Ok(Frame::Bytes(n))
             } else {
-                Frame::Malformed
+                Ok(Frame::Malformed)
             }
         }
-        Number::Malformed => Frame::Malformed,
-        Number::End => Frame::End,
+        Number::Malformed => Ok(Frame::Malformed),
+        Number::End => Ok(Frame::End),
     }
 }
 
 // ---- for cases that a tool writes: what is missing or malformed is taken for 0
 
-pub fn read_up_to(limit: usize) -> usize
-    ensures { result ≤ limit }
+pub fn read_up_to(input: &mut impl Read, limit: usize) -> io::Result<usize>
+    ensures { IfOk result (λ n. n ≤ limit) }
 {
-    let Number::Value(n) = read_number(limit) else {
-        return 0;
+    let Number::Value(n) = read_number(input, limit)? else {
+        return Ok(0);
     };
-    n
+    Ok(n)
 }
 
 // A script: how many bytes it has, and the first of them as a frame. The others are those of the
 // buffer.
-pub fn read_script(script: &mut [u8]) -> usize
-    ensures { IsPrefixLen result script.new }
+pub fn read_script(input: &mut impl Read, script: &mut [u8]) -> io::Result<usize>
+    ensures { IfOk result (λ n. IsPrefixLen n script.new) }
 {
-    let n = read_up_to(script.len());
-    read_frame(script);
-    n
+    let n = read_up_to(input, script.len())?;
+    read_frame(input, script)?;
+    Ok(n)
 }

@@ -1,11 +1,11 @@
 // Texts and numbers on standard output.
-use libc::STDOUT_FILENO;
+use std::io;
 
-pub fn write(text: &[u8]) {
-    io::write_all(STDOUT_FILENO, text);
+pub fn write(rt: &impl Print, text: &[u8]) -> io::Result<()> {
+    rt.write_all(text)
 }
 
 // In decimal.
-pub fn write_number(n: u64) {
-    io::print_decimal(STDOUT_FILENO, n);
+pub fn write_number(rt: &impl Print, n: u64) -> io::Result<()> {
+    rt.print(n)
 }

@@ -7,7 +7,6 @@ use native.Mathlib.Omega.{arith}
 use lib.ListN.{length}
 use borrow.Author.Tests.{le-leb, lt-leb}
 use Rattle.lex.specs.Lex.{Occurrence}
-use Rattle.lex.specs.declared.diagnostic.Diagnostic.{Diagnostic}
 use Rattle.tokens.specs.Table.{error_at, errors_from}
 use Rattle.tokens.specs.Tables.{error_width}
 use Rattle.tokens.proofs.Records.{error_past, errors-none, errors_more}

@@ -84,7 +84,7 @@ pub holding-pushed : {a : Diagnostics} {ds : List Diagnostic} (xs : List Diagnos
 holding-pushed {a} {ds} [] h k few = rw (append-nil ds) h
 holding-pushed {a} {ds} (x ∷ xs) h k few =
     let n : length (ds ++ (x ∷ [])) ≡ length ds + 1 = length-append ds (x ∷ []) in
-    rw (← append_assoc ds (x ∷ []) xs) (holding-pushed xs (holding_one x h (omega arith) (omega arith)) (omega (arith, pushed-length x h (omega arith) (omega arith))) (omega arith))
+    rw (← append_assoc ds (x ∷ []) xs) (holding-pushed {a = pushed a x} {ds = ds ++ (x ∷ [])} xs (holding_one x h (omega arith) (omega arith)) (omega (arith, pushed-length x h (omega arith) (omega arith))) (omega arith))
 
 -- an array holds nothing at first
 pub holding-none : {cells : List ℕ} → Holding (diagnostics cells 0) []

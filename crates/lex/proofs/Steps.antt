@@ -12,7 +12,6 @@ use lib.Dec.{ltb, eqb}
 use lib.ListN.{length, get_or, drop, length-drop, drop_of_length-le}
 use borrow.Author.Tests.{ltb-true, ltb-false, le-ltb}
 use Rattle.lex.specs.declared.tok.Token.{Token}
-use Rattle.lex.specs.declared.tok.Fault.{Fault}
 use Rattle.lex.specs.declared.tok.Piece.{Piece}
 use Rattle.lex.specs.declared.tok.Step.{Step}
 use Rattle.lex.specs.declared.tok.Next.{Next}

@@ -2,6 +2,8 @@
 // `(long)` for a longer one.
 #![tactic(auto)]
 
-fn main() {
-    list_script::print_input(true);
+use std::io;
+
+fn main(rt: HostRuntime) -> io::Result<()> {
+    list_script::print_input(&rt, &mut rt.stdin(), true)
 }

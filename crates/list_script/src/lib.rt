@@ -2,8 +2,10 @@
 #![tactic(auto)]
 
 use ast::Parsed;
-use libc::{STDIN_FILENO, STDOUT_FILENO};
+use console::frames::read_full;
 use listing::Listing;
+use std::io;
+use std::io::Read;
 
 // Room for the listing of a script of 960 bytes: nodes, types, errors and list members are each at
 // most 960, and none takes over 64 bytes.
@@ -11,33 +13,27 @@ const ROOM: usize = 262144;
 
 // The listing of what a reading answered and left in the arrays.
 pub fn print(
+    rt: &impl Print,
     answer: Parsed,
     nodes: &[u32],
     types: &[u32],
     lists: &[u32],
     roots: &[u32],
     diagnostics: &[u32],
-) {
+) -> io::Result<()> {
     let mut out = [0u8; ROOM];
     match listing::write_listing(answer, nodes, types, lists, roots, diagnostics, &mut out) {
-        Listing::Written(n) => {
-            io::write_all(STDOUT_FILENO, &out[..n]);
-        }
-        Listing::Short => {
-            io::write_all(STDOUT_FILENO, b"(short)\n");
-        }
-        Listing::Malformed => {
-            io::write_all(STDOUT_FILENO, b"(malformed)\n");
-        }
+        Listing::Written(n) => rt.write_all(&out[..n]),
+        Listing::Short => rt.write_all(b"(short)\n"),
+        Listing::Malformed => rt.write_all(b"(malformed)\n"),
     }
 }
 
 // The listing of a script, read in collecting or in strict mode; `(long)` for one of more than 960
 // bytes.
-pub fn print_script(script: &[u8], collecting: bool) {
+pub fn print_script(rt: &impl Print, script: &[u8], collecting: bool) -> io::Result<()> {
     if 960 < script.len() {
-        io::write_all(STDOUT_FILENO, b"(long)\n");
-        return;
+        return rt.write_all(b"(long)\n");
     }
     let mut tokens = [0u32; 3844];
     let mut errors = [0u32; 5760];
@@ -57,7 +53,7 @@ pub fn print_script(script: &[u8], collecting: bool) {
             &mut roots,
             &mut diagnostics,
         );
-        print(answer, &nodes, &types, &lists, &roots, &diagnostics);
+        print(rt, answer, &nodes, &types, &lists, &roots, &diagnostics)
     } else {
         let answer = parser::parse(
             script,
@@ -69,13 +65,13 @@ pub fn print_script(script: &[u8], collecting: bool) {
             &mut roots,
             &mut diagnostics,
         );
-        print(answer, &nodes, &types, &lists, &roots, &diagnostics);
+        print(rt, answer, &nodes, &types, &lists, &roots, &diagnostics)
     }
 }
 
-// The same of the script on standard input.
-pub fn print_input(collecting: bool) {
-    let mut buf = io::buffer();
-    let n = io::read_full(STDIN_FILENO, &mut buf);
-    print_script(&buf[..n], collecting);
+// The same of the script that is read from `input`.
+pub fn print_input(rt: &impl Print, input: &mut impl Read, collecting: bool) -> io::Result<()> {
+    let mut buf = [0u8; 4096];
+    let n = read_full(input, &mut buf)?;
+    print_script(rt, &buf[..n], collecting)
 }

@@ -2,6 +2,8 @@
 // `(long)` for a longer one.
 #![tactic(auto)]
 
-fn main() {
-    list_script::print_input(false);
+use std::io;
+
+fn main(rt: HostRuntime) -> io::Result<()> {
+    list_script::print_input(&rt, &mut rt.stdin(), false)
 }

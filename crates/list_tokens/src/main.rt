@@ -6,7 +6,9 @@
 ghost use Rattle.std.specs.Prelude.{◌≡◌, ◌+◌, length};
 ghost use Rattle.lex.specs.Lex.{tokens_from};
 
-use libc::{STDIN_FILENO, STDOUT_FILENO};
+use console::frames::read_full;
+use std::io;
+use std::io::Read;
 
 // How many tokens there are before Eof.
 fn count(script: &[u8]) -> usize
@@ -24,24 +26,24 @@ fn count(script: &[u8]) -> usize
     }
 }
 
-fn print_count(n: usize) {
-    io::write_all(STDOUT_FILENO, b"(tokens ");
-    io::print_decimal(STDOUT_FILENO, n as u64);
-    io::write_all(STDOUT_FILENO, b")\n");
+fn print_count(rt: &impl Print, n: usize) -> io::Result<()> {
+    println!(rt; "(tokens {n})")
 }
 
 // Says that there is more than was shown, where another byte can be read.
-fn print_cut() {
+fn print_cut(rt: &impl Print, input: &mut impl Read) -> io::Result<()> {
     let mut next = [0u8; 1];
-    if io::read_full(STDIN_FILENO, &mut next) == 1 {
-        io::write_all(STDOUT_FILENO, b"(cut)\n");
+    if read_full(input, &mut next)? == 1 {
+        rt.write_all(b"(cut)\n")?;
     }
+    Ok(())
 }
 
-fn main() {
-    let mut buf = io::buffer();
-    let n = io::read_full(STDIN_FILENO, &mut buf);
-    console::tokens::print_script(&buf[..n]);
-    print_count(count(&buf[..n]));
-    print_cut();
+fn main(rt: HostRuntime) -> io::Result<()> {
+    let mut input = rt.stdin();
+    let mut buf = [0u8; 4096];
+    let n = read_full(&mut input, &mut buf)?;
+    console::tokens::print_script(&rt, &buf[..n])?;
+    print_count(&rt, count(&buf[..n]))?;
+    print_cut(&rt, &mut input)
 }

@@ -52,7 +52,7 @@ fn write_pair(before: usize, lists: &[u32], j: usize, out: &mut [u8], at: usize)
 // A member from cell `j` on, by the sort of its list. A case has `((token condition) body)`, a fn
 // of an extern `(docs name arguments type)`, and the lists that these name have members that name
 // none.
-#[cycle(write_list_write_member)]
+#[cycle(members)]
 fn write_member(
     before: usize,
     lists: &[u32],
@@ -94,7 +94,7 @@ fn write_member(
 }
 
 // The list of a run, by its sort.
-#[cycle(write_list_write_member)]
+#[cycle(members)]
 pub(crate) fn write_list(
     before: usize,
     lists: &[u32],

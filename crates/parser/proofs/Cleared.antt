@@ -4,7 +4,7 @@ use mathlib.Core.List.{List, [], ◌∷◌, ◌++◌, append_assoc, append-nil}
 use Prim.Native.Nat.{ℕ, zero, suc, ◌+◌, ◌-◌, ◌≤◌, ◌<◌}
 use native.Mathlib.Omega.{arith}
 use lib.ListN.{length, take, drop, set, get_or, length-append, length-replicate, drop_of_length-le, take-append-drop}
-use lib.Seq.{set_at, drop-cons, length-take-le, take_all}
+use lib.Seq.{set_at, drop-cons, length-take-le}
 use Rattle.lex.specs.Cells.{zeros}
 
 pub cleared_start : (a : List ℕ) (from : ℕ) → a ≡ take from a ++ (zeros (from - from) ++ drop from a)

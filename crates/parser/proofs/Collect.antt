@@ -44,7 +44,7 @@ use Rattle.parser_state.proofs.Loops.{member-going, member-eof}
 use Rattle.parser.specs.Whole.{Begun, FirstToken, drop_docs, Resumes, synchronizing}
 use Rattle.parser.specs.Collect.{RootsCollected, collect_step, AllBelow, DiagnosticsAre, GatheredAre, Room, TurnEnds, CollectEnds}
 use Rattle.parser.proofs.Synchronize.{recovered}
-use Rattle.parser.proofs.Roots.{some-ahead, root-pushed, at-eof, tree-held, begun, tokens-all, tokens-few}
+use Rattle.parser.proofs.Roots.{some-ahead, root-pushed, at-eof, tree-held, begun, tokens-few}
 
 -- ---- how many tokens are cut before an error
 

@@ -1,8 +1,8 @@
 -- What a reading promises, from how the roots end.
-use mathlib.Core.Path.{◌≡◌, refl, sym, ap, subst, ◌∙◌}
+use mathlib.Core.Path.{◌≡◌, refl, sym, ap, ◌∙◌}
 use mathlib.Core.Bool.{Bool, true, false}
 use mathlib.Core.List.{List, [], ◌++◌, map, flatten}
-use Prim.Native.Nat.{ℕ, zero, suc, ◌+◌, ◌*◌, ◌-◌, ◌≤◌}
+use Prim.Native.Nat.{ℕ, ◌*◌, ◌-◌, ◌≤◌}
 use native.Mathlib.Omega.{arith}
 use lib.Dec.{eqb, ltb}
 use lib.ListN.{length, take}
@@ -15,7 +15,6 @@ use Rattle.lex.specs.declared.diagnostic.Diagnostic.{Diagnostic}
 use Rattle.tokens.specs.Tables as T
 use Rattle.tokens.specs.Tables.{token_width, error_width, token_table, error_table, is_cut}
 use Rattle.tokens.specs.declared.Cutting.{Cutting}
-use Rattle.tokens.proofs.Whole.{is_cut_tables}
 use Rattle.tokens.proofs.Promised as TP
 use Rattle.rules.specs.Tree.{State, Result, ok, err}
 use Rattle.rules.specs.Rules.{stage_one}

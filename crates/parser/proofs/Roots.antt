@@ -1,22 +1,21 @@
 -- The roots of a script, one after the other.
 use mathlib.Core.Path.{◌≡◌, refl, sym, ap, subst, ◌∙◌}
-use mathlib.Core.Bool.{Bool, true, false, ◌&&◌}
-use mathlib.Core.List.{List, [], ◌∷◌, ◌++◌, map, flatten, reverse, append_assoc, append-nil}
-use Prim.Native.Nat.{ℕ, zero, suc, ◌+◌, ◌*◌, ◌-◌, ◌≤◌, ◌<◌}
+use mathlib.Core.Bool.{true, false, ◌&&◌}
+use mathlib.Core.List.{List, [], ◌∷◌, ◌++◌, map, flatten, reverse, append-nil}
+use Prim.Native.Nat.{ℕ, zero, suc, ◌+◌, ◌*◌, ◌≤◌, ◌<◌}
 use native.Mathlib.Omega.{arith}
 use lib.Dec.{eqb, ltb}
-use lib.ListN.{length, take, drop, set, get_or, length-append, length-set}
-use lib.Seq.{take_at, get_or-append-add}
-use borrow.Author.Tests.{ltb-true, ltb-false, lt-ltb, le-ltb}
+use lib.ListN.{length, take, set, length-append}
+use lib.Seq.{take_at}
+use borrow.Author.Tests.{ltb-true, ltb-false, lt-ltb}
 use Rattle.lex.specs.Answer.{max_bytes}
-use Rattle.lex.specs.Cells.{zeros, padded}
+use Rattle.lex.specs.Cells.{padded}
 use Rattle.lex.specs.Kind.{k_eof}
-use Rattle.lex.specs.Lex.{cut, tokens_of, eof_token}
+use Rattle.lex.specs.Lex.{cut, tokens_of}
 use Rattle.lex.proofs.Steps.{cut_le}
-use Rattle.lex.specs.declared.diagnostic.Diagnostic.{Diagnostic}
 use Rattle.lex.specs.declared.tok.Token.{Token}
 use Rattle.tokens.specs.Table.{token_of, token_at, tokens_from}
-use Rattle.tokens.specs.Tables.{token_width, token_table}
+use Rattle.tokens.specs.Tables.{token_table}
 use Rattle.tokens.proofs.Records.{table_token, table_all, token_in_range, past_start}
 use Rattle.rules.specs.Tree.{State, Result, ok, err}
 use Rattle.rules.specs.Combinators.{◌>>=◌, pure, current, with_docs, loop, ControlFlow, continue, break}
@@ -24,11 +23,10 @@ use Rattle.rules.specs.Rules.{max_levels, stage_one}
 use Rattle.rules.specs.Parse.{begin, parse_roots}
 use Rattle.ast.specs.Layout.{node_width, type_width, node_cells, type_cells}
 use Rattle.ast.specs.declared.NodeId.{NodeId}
-use Rattle.parser_state.specs.Represents.{with_used, Going, Failed, Code, code, going, is_going, ahead, from, Near, doc_cells, Related, Represents, FailedAt}
+use Rattle.parser_state.specs.Represents.{with_used, Code, code, going, is_going, ahead, from, Near, doc_cells, Related, Represents}
 use Rattle.parser_state.specs.Refines.{Ends, stack_unchanged, Refines, rules_of, deeper, member_follows}
 use Rattle.parser_state.specs.declared.Parser.{Parser}
 use Rattle.parser_state.specs.declared.Used.{Used}
-use Rattle.parser_state.specs.declared.Status.{Status}
 use Rattle.parser_state.proofs.Steps.{either, true≢false, and_both, left-some, current_represents, represents_less, represents_going, failed-fails}
 use Rattle.parser_state.proofs.Leaves.{through_used, from_at}
 use Rattle.parser_state.proofs.Cells.{types-length, nodes-length}

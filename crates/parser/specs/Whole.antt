@@ -17,7 +17,6 @@ use Rattle.ast.specs.Layout.{node_width, type_width, diagnostic_width, cells_per
 use Rattle.parser_state.specs.Represents.{Going, Failed, Code, ahead, is_going, EnoughLent, Represents, FailedAt}
 use Rattle.parser_state.specs.Refines.{rules_of, deeper}
 use Rattle.parser_state.specs.declared.Parser.{Parser}
-use Rattle.parser_state.specs.declared.Used.{Used}
 
 -- the number of a refusal, or 0, for a script of `n` bytes and the lengths of the arrays and tables
 unfoldable pub refusal : ℕ → ℕ → ℕ → ℕ → ℕ → ℕ → ℕ → ℕ → ℕ

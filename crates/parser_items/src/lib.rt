@@ -1,8 +1,7 @@
-// The readers of items and expressions of parser.rs. They call each other, so that the names of all
-// of them stand in the name of one module, which is full (docs/PROVING.md): `climb` is the rule
-// `infix_step`, `post_step` `postfix_step`, `record_lit` and `array_lit` `record_literal` and
-// `array_literal`, `init` `field`, `case` `next_case`, `prefix` and `expr` `parse_prefix` and
-// `parse_expr`.
+// The readers of items and expressions of parser.rs, which call each other. Some names are shorter
+// than their rules': `climb` is the rule `infix_step`, `post_step` `postfix_step`, `record_lit` and
+// `array_lit` `record_literal` and `array_literal`, `init` `field`, `case` `next_case`, `prefix` and
+// `expr` `parse_prefix` and `parse_expr`.
 #![tactic(auto)]
 
 ghost use Rattle.std.specs.Prelude.{◌≡◌, ◌<◌, true};
@@ -34,7 +33,7 @@ use tokens::Entry;
 
 // An item of the script or of a list. Most are expressions: these are read without `prefix` in
 // between, whose call takes a fourth of the time of a short one.
-#[cycle(array_lit_binary_call_case_cases_climb_condition_elems_expr_group_infixes_init_inits_item_items_member_operand_parse_body_parse_fn_parse_let_parse_match_post_step_postfix_prefix_record_lit_unary)]
+#[cycle(grammar)]
 pub fn member(
     script: &[u8],
     tokens: &[u32],
@@ -60,7 +59,7 @@ pub fn member(
 }
 
 // prefix = import | let | fn | match | expr
-#[cycle(array_lit_binary_call_case_cases_climb_condition_elems_expr_group_infixes_init_inits_item_items_member_operand_parse_body_parse_fn_parse_let_parse_match_post_step_postfix_prefix_record_lit_unary)]
+#[cycle(grammar)]
 fn prefix(
     script: &[u8],
     tokens: &[u32],
@@ -89,7 +88,7 @@ fn prefix(
 }
 
 // A prefix behind its docs.
-#[cycle(array_lit_binary_call_case_cases_climb_condition_elems_expr_group_infixes_init_inits_item_items_member_operand_parse_body_parse_fn_parse_let_parse_match_post_step_postfix_prefix_record_lit_unary)]
+#[cycle(grammar)]
 fn item(
     script: &[u8],
     tokens: &[u32],
@@ -127,7 +126,7 @@ fn item(
 }
 
 // let = "let" ident "=" prefix
-#[cycle(array_lit_binary_call_case_cases_climb_condition_elems_expr_group_infixes_init_inits_item_items_member_operand_parse_body_parse_fn_parse_let_parse_match_post_step_postfix_prefix_record_lit_unary)]
+#[cycle(grammar)]
 fn parse_let(
     script: &[u8],
     tokens: &[u32],
@@ -154,7 +153,7 @@ fn parse_let(
 }
 
 // fn = "fn" ident "(" (ident ":" type)* ")" type? "{" prefix* "}"
-#[cycle(array_lit_binary_call_case_cases_climb_condition_elems_expr_group_infixes_init_inits_item_items_member_operand_parse_body_parse_fn_parse_let_parse_match_post_step_postfix_prefix_record_lit_unary)]
+#[cycle(grammar)]
 fn parse_fn(
     script: &[u8],
     tokens: &[u32],
@@ -197,7 +196,7 @@ fn parse_fn(
 }
 
 // body = "{" prefix* "}"
-#[cycle(array_lit_binary_call_case_cases_climb_condition_elems_expr_group_infixes_init_inits_item_items_member_operand_parse_body_parse_fn_parse_let_parse_match_post_step_postfix_prefix_record_lit_unary)]
+#[cycle(grammar)]
 fn parse_body(
     script: &[u8],
     tokens: &[u32],
@@ -228,7 +227,7 @@ fn parse_body(
 }
 
 // prefix*, up to a closing token: a body, or the arguments of a call.
-#[cycle(array_lit_binary_call_case_cases_climb_condition_elems_expr_group_infixes_init_inits_item_items_member_operand_parse_body_parse_fn_parse_let_parse_match_post_step_postfix_prefix_record_lit_unary)]
+#[cycle(grammar)]
 fn items(
     script: &[u8],
     tokens: &[u32],
@@ -259,7 +258,7 @@ fn items(
 }
 
 // match = "match" "{" (expr "{" prefix* "}")* "{" prefix* "}" "}"
-#[cycle(array_lit_binary_call_case_cases_climb_condition_elems_expr_group_infixes_init_inits_item_items_member_operand_parse_body_parse_fn_parse_let_parse_match_post_step_postfix_prefix_record_lit_unary)]
+#[cycle(grammar)]
 fn parse_match(
     script: &[u8],
     tokens: &[u32],
@@ -284,7 +283,7 @@ fn parse_match(
 }
 
 // What follows the `{` of a match, whose record is `at`.
-#[cycle(array_lit_binary_call_case_cases_climb_condition_elems_expr_group_infixes_init_inits_item_items_member_operand_parse_body_parse_fn_parse_let_parse_match_post_step_postfix_prefix_record_lit_unary)]
+#[cycle(grammar)]
 fn cases(
     script: &[u8],
     tokens: &[u32],
@@ -324,7 +323,7 @@ fn cases(
 }
 
 // The next block of a match.
-#[cycle(array_lit_binary_call_case_cases_climb_condition_elems_expr_group_infixes_init_inits_item_items_member_operand_parse_body_parse_fn_parse_let_parse_match_post_step_postfix_prefix_record_lit_unary)]
+#[cycle(grammar)]
 fn case(
     script: &[u8],
     tokens: &[u32],
@@ -361,7 +360,7 @@ fn case(
 }
 
 // A case = expr "{" prefix* "}"
-#[cycle(array_lit_binary_call_case_cases_climb_condition_elems_expr_group_infixes_init_inits_item_items_member_operand_parse_body_parse_fn_parse_let_parse_match_post_step_postfix_prefix_record_lit_unary)]
+#[cycle(grammar)]
 fn condition(
     script: &[u8],
     tokens: &[u32],
@@ -395,7 +394,7 @@ fn condition(
 //     expr infix-op expr |
 //     { ident ":" expr } |
 //     "[" expr "]"
-#[cycle(array_lit_binary_call_case_cases_climb_condition_elems_expr_group_infixes_init_inits_item_items_member_operand_parse_body_parse_fn_parse_let_parse_match_post_step_postfix_prefix_record_lit_unary)]
+#[cycle(grammar)]
 fn expr(
     script: &[u8],
     tokens: &[u32],
@@ -423,7 +422,7 @@ fn expr(
 }
 
 // What an expr begins with: all but `expr postfix-op` and `expr infix-op expr`.
-#[cycle(array_lit_binary_call_case_cases_climb_condition_elems_expr_group_infixes_init_inits_item_items_member_operand_parse_body_parse_fn_parse_let_parse_match_post_step_postfix_prefix_record_lit_unary)]
+#[cycle(grammar)]
 fn operand(
     script: &[u8],
     tokens: &[u32],
@@ -464,7 +463,7 @@ fn operand(
 }
 
 // An expr = { ident ":" expr }
-#[cycle(array_lit_binary_call_case_cases_climb_condition_elems_expr_group_infixes_init_inits_item_items_member_operand_parse_body_parse_fn_parse_let_parse_match_post_step_postfix_prefix_record_lit_unary)]
+#[cycle(grammar)]
 fn record_lit(
     script: &[u8],
     tokens: &[u32],
@@ -489,7 +488,7 @@ fn record_lit(
 }
 
 // The fields of a record, up to `}`.
-#[cycle(array_lit_binary_call_case_cases_climb_condition_elems_expr_group_infixes_init_inits_item_items_member_operand_parse_body_parse_fn_parse_let_parse_match_post_step_postfix_prefix_record_lit_unary)]
+#[cycle(grammar)]
 fn inits(
     script: &[u8],
     tokens: &[u32],
@@ -517,7 +516,7 @@ fn inits(
 }
 
 // <key>: <value>
-#[cycle(array_lit_binary_call_case_cases_climb_condition_elems_expr_group_infixes_init_inits_item_items_member_operand_parse_body_parse_fn_parse_let_parse_match_post_step_postfix_prefix_record_lit_unary)]
+#[cycle(grammar)]
 fn init(
     script: &[u8],
     tokens: &[u32],
@@ -542,7 +541,7 @@ fn init(
 }
 
 // An expr = "[" expr "]"
-#[cycle(array_lit_binary_call_case_cases_climb_condition_elems_expr_group_infixes_init_inits_item_items_member_operand_parse_body_parse_fn_parse_let_parse_match_post_step_postfix_prefix_record_lit_unary)]
+#[cycle(grammar)]
 fn array_lit(
     script: &[u8],
     tokens: &[u32],
@@ -567,7 +566,7 @@ fn array_lit(
 }
 
 // The members of an array, up to `]`.
-#[cycle(array_lit_binary_call_case_cases_climb_condition_elems_expr_group_infixes_init_inits_item_items_member_operand_parse_body_parse_fn_parse_let_parse_match_post_step_postfix_prefix_record_lit_unary)]
+#[cycle(grammar)]
 fn elems(
     script: &[u8],
     tokens: &[u32],
@@ -596,7 +595,7 @@ fn elems(
 }
 
 // An expr = "(" expr ")"
-#[cycle(array_lit_binary_call_case_cases_climb_condition_elems_expr_group_infixes_init_inits_item_items_member_operand_parse_body_parse_fn_parse_let_parse_match_post_step_postfix_prefix_record_lit_unary)]
+#[cycle(grammar)]
 fn group(
     script: &[u8],
     tokens: &[u32],
@@ -621,7 +620,7 @@ fn group(
 }
 
 // An expr = prefix-op expr
-#[cycle(array_lit_binary_call_case_cases_climb_condition_elems_expr_group_infixes_init_inits_item_items_member_operand_parse_body_parse_fn_parse_let_parse_match_post_step_postfix_prefix_record_lit_unary)]
+#[cycle(grammar)]
 fn unary(
     script: &[u8],
     tokens: &[u32],
@@ -646,7 +645,7 @@ fn unary(
 }
 
 // Postfix parsing loop: expr = expr postfix-op
-#[cycle(array_lit_binary_call_case_cases_climb_condition_elems_expr_group_infixes_init_inits_item_items_member_operand_parse_body_parse_fn_parse_let_parse_match_post_step_postfix_prefix_record_lit_unary)]
+#[cycle(grammar)]
 fn postfix(
     script: &[u8],
     tokens: &[u32],
@@ -672,7 +671,7 @@ fn postfix(
 }
 
 // One more field or call.
-#[cycle(array_lit_binary_call_case_cases_climb_condition_elems_expr_group_infixes_init_inits_item_items_member_operand_parse_body_parse_fn_parse_let_parse_match_post_step_postfix_prefix_record_lit_unary)]
+#[cycle(grammar)]
 fn post_step(
     script: &[u8],
     tokens: &[u32],
@@ -699,7 +698,7 @@ fn post_step(
 }
 
 // An expr = expr "(" prefix* ")"
-#[cycle(array_lit_binary_call_case_cases_climb_condition_elems_expr_group_infixes_init_inits_item_items_member_operand_parse_body_parse_fn_parse_let_parse_match_post_step_postfix_prefix_record_lit_unary)]
+#[cycle(grammar)]
 fn call(
     script: &[u8],
     tokens: &[u32],
@@ -733,7 +732,7 @@ fn call(
 }
 
 // Infix parsing loop: expr = expr infix-op expr
-#[cycle(array_lit_binary_call_case_cases_climb_condition_elems_expr_group_infixes_init_inits_item_items_member_operand_parse_body_parse_fn_parse_let_parse_match_post_step_postfix_prefix_record_lit_unary)]
+#[cycle(grammar)]
 fn infixes(
     script: &[u8],
     tokens: &[u32],
@@ -761,7 +760,7 @@ fn infixes(
 }
 
 // One more cast, or one more sign with its right side.
-#[cycle(array_lit_binary_call_case_cases_climb_condition_elems_expr_group_infixes_init_inits_item_items_member_operand_parse_body_parse_fn_parse_let_parse_match_post_step_postfix_prefix_record_lit_unary)]
+#[cycle(grammar)]
 fn climb(
     script: &[u8],
     tokens: &[u32],
@@ -805,7 +804,7 @@ fn climb(
 
 // An expr = expr infix-op expr, `left` being the power on the left of the sign. The power on its
 // right is one more.
-#[cycle(array_lit_binary_call_case_cases_climb_condition_elems_expr_group_infixes_init_inits_item_items_member_operand_parse_body_parse_fn_parse_let_parse_match_post_step_postfix_prefix_record_lit_unary)]
+#[cycle(grammar)]
 fn binary(
     script: &[u8],
     tokens: &[u32],

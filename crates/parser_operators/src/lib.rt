@@ -33,6 +33,7 @@ pub const PREFIX_POWER: u32 = 5;
 // What begins an operand: a record 1, an array 2, an atom 3, a name 4, a bracket 5, a sign 6; 0
 // what begins none. A chain of tests, which is compiled to one jump: a constant array would be
 // written out at each use.
+#[tactic(auto, unfolding(crate::specs::Tests::operand_class, rules::specs::Combinators::choose))]
 pub fn operand_class(kind: u32) -> u32
     ensures { result ≡ operand_class kind }
 {
@@ -73,6 +74,7 @@ pub fn operand_class(kind: u32) -> u32
 }
 
 // The number of an infix sign by its kind; 9 where there is none.
+#[tactic(auto, unfolding(crate::specs::Tests::operator_number, rules::specs::Combinators::choose))]
 pub fn operator(kind: u32) -> u32
     ensures { result ≡ operator_number kind }
 {
@@ -115,6 +117,7 @@ pub fn left_power(n: u32) -> u32
 
 // No doc is pending or read, and none of the words that begin another item: the kinds from Doc to
 // Match.
+#[tactic(auto, unfolding(crate::specs::Tests::begins_expr))]
 pub fn begins_expr(p: &State) -> bool
     ensures { result ≡ begins_expr (parser_of p.now) }
 {
@@ -146,6 +149,7 @@ fn is_callable_target(nodes: &[u32], made: u32, n: NodeId) -> bool
 }
 
 // A `.`, or a `(` behind a node that can be called.
+#[tactic(auto, unfolding(crate::specs::Tests::postfix_by))]
 pub fn postfix_follows(nodes: &[u32], p: &State, n: NodeId) -> bool
     ensures { result ≡ postfix_follows nodes.now (parser_of p.now) n }
 {
@@ -163,6 +167,7 @@ pub fn postfix_follows(nodes: &[u32], p: &State, n: NodeId) -> bool
 }
 
 // A sign that begins an operand ends the one before it.
+#[tactic(auto, using(crate::proofs::Tables::here, crate::proofs::Tables::past, crate::proofs::Tables::past_all), unfolding(rules::specs::Rules::breaks_off))]
 fn breaks_off(script: &[u8], t: Entry) -> bool
     ensures { result ≡ breaks_off script.now (token_of t) }
 {
@@ -291,6 +296,7 @@ pub struct CasesRead {
 }
 
 // The cells of a case.
+#[tactic(auto, unfolding(ast::specs::Layout::token_cells, ast::specs::Layout::run_cells))]
 pub fn push_case(lists: &mut [u32], p: &mut State, t: Entry, n: NodeId, body: Run)
     ensures { (tokens nodes types : List ℕ) →
         let before = code nodes types lists.old (parser_of p.old) in

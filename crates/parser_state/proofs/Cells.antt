@@ -1,5 +1,5 @@
 -- Records, and cells of lists under construction.
-use Rattle.std.proofs.Common.{◌≡◌, ℕ, suc, ◌+◌, ◌-◌, ◌*◌, ◌<◌, ◌≤◌, Bool, true, false, ◌&&◌, ltb, leb, List, [], ◌∷◌, ◌++◌, map, reverse, length, get_or, take, drop, set, sym, refl, ap, ◌∙◌, subst, append_assoc, append-nil, arith, length-append, length-drop, take-append-drop, drop_of_length-le, length-take-le, get_or-drop, take_all, get_or-take, drop-drop, take_at, drop_at, ltb-false, ltb-true, lt-ltb, le-leb, leb-true}
+use Rattle.std.proofs.Common.{◌≡◌, ℕ, suc, ◌+◌, ◌-◌, ◌*◌, ◌<◌, ◌≤◌, true, false, ◌&&◌, ltb, leb, List, [], ◌∷◌, ◌++◌, map, reverse, length, get_or, take, drop, set, sym, refl, ap, ◌∙◌, subst, append_assoc, append-nil, arith, length-append, length-drop, take-append-drop, drop_of_length-le, length-take-le, get_or-drop, take_all, get_or-take, drop-drop, take_at, drop_at, ltb-false, ltb-true, lt-ltb, le-leb, leb-true}
 use mathlib.Core.List.{flatten, reverse-cons, reverse-append, reverse-reverse}
 use lib.ListN.{length-reverse, get_or-append}
 use borrow.Rule.Slice.PartMut.{mid_of, put_mid}

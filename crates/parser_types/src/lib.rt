@@ -76,7 +76,7 @@ fn foreign_type(tokens: &[u32], types: &mut [u32], p: &mut State) -> TypeExprId
 }
 
 // A type = "Option" "<" type ">"
-#[cycle(array_type_option_type_parse_type_record_type_typed_name_typed_names)]
+#[cycle(types)]
 fn option_type(
     tokens: &[u32],
     types: &mut [u32],
@@ -99,7 +99,7 @@ fn option_type(
 }
 
 // A type = "Array" "<" type ">"
-#[cycle(array_type_option_type_parse_type_record_type_typed_name_typed_names)]
+#[cycle(types)]
 fn array_type(
     tokens: &[u32],
     types: &mut [u32],
@@ -122,7 +122,7 @@ fn array_type(
 }
 
 // A name and its type = ident ":" type
-#[cycle(array_type_option_type_parse_type_record_type_typed_name_typed_names)]
+#[cycle(types)]
 fn typed_name(tokens: &[u32], types: &mut [u32], lists: &mut [u32], p: &mut State, levels: usize)
     ensures { (rules : Rules) (nodes : List ℕ) →
         let before = code nodes types.old lists.old
@@ -139,7 +139,7 @@ fn typed_name(tokens: &[u32], types: &mut [u32], lists: &mut [u32], p: &mut Stat
 }
 
 // (ident ":" type)*, up to a closing token.
-#[cycle(array_type_option_type_parse_type_record_type_typed_name_typed_names)]
+#[cycle(types)]
 fn typed_names(
     tokens: &[u32],
     types: &mut [u32],
@@ -167,7 +167,7 @@ fn typed_names(
 }
 
 // A type = "Record" "<" (ident ":" type)* ">"
-#[cycle(array_type_option_type_parse_type_record_type_typed_name_typed_names)]
+#[cycle(types)]
 fn record_type(
     tokens: &[u32],
     types: &mut [u32],
@@ -201,7 +201,7 @@ fn record_type(
 
 // type = atom-type | "Foreign" "<" ident ">" | "Option" "<" type ">" | "Array" "<" type ">" |
 // "Record" "<" (ident ":" type)* ">"
-#[cycle(array_type_option_type_parse_type_record_type_typed_name_typed_names)]
+#[cycle(types)]
 pub fn parse_type(
     tokens: &[u32],
     types: &mut [u32],
@@ -397,6 +397,7 @@ pub fn parse_import(tokens: &[u32], nodes: &mut [u32], lists: &mut [u32], p: &mu
 // ---- externs
 
 // The cells of a fn of an extern.
+#[tactic(auto, unfolding(ast::specs::Layout::token_cells, ast::specs::Layout::run_cells))]
 fn push_extern_fn(
     lists: &mut [u32],
     p: &mut State,

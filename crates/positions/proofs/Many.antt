@@ -10,7 +10,7 @@ use lib.ListN.{length, get_or, set, take, drop, drop_of_length-le, length-append
 use lib.Seq.{drop-cons, take-suc, take_all, set_at, length-take-le}
 use borrow.Author.Tests.{lt-ltb, le-ltb, ltb-true, ltb-false}
 use Rattle.lex.specs.Answer.{max_bytes, Answer, refused, answer}
-use Rattle.positions.specs.Position.{feeds, since, place_of, place_at, onward}
+use Rattle.positions.specs.Position.{feeds, since, place_of, onward}
 use Rattle.positions.specs.LineColumns.{falls_from, falls, pair_before, pairs, outcome, line_columns, all_inside, cells_of, Fillable}
 use Rattle.positions.specs.declared.Place.{Place}
 use Rattle.positions.specs.declared.Filled.TheVariants as F

@@ -4,8 +4,9 @@
 
 use ast::{Counts, Parsed};
 use lex::Diagnostic;
+use std::io;
 
-fn sign() {
+fn sign(rt: &impl Print) -> io::Result<()> {
     let nodes = [
         2u32, 0, 25, 0, 1, 0, 0, 0, 0, 0, 0, 0, 0, 0, 0, 0, 2, 1, 25, 3, 1, 0, 0, 0, 0, 0, 0, 0, 0,
         0, 0, 0, 4, 2, 5, 2, 1, 1, 0, 0, 0, 0, 0, 0, 0, 0, 0, 0,
@@ -23,17 +24,18 @@ fn sign() {
         diagnostics: 0,
     };
     list_script::print(
+        rt,
         Parsed::Tree(counts),
         &nodes,
         &types,
         &lists,
         &roots,
         &diagnostics,
-    );
+    )
 }
 
 // Script 1643 of the fixed list, strict.
-fn foreign() {
+fn foreign(rt: &impl Print) -> io::Result<()> {
     let nodes = [
         6u32, 0, 0, 0, 25, 3, 1, 0, 0, 0, 0, 0, 0, 0, 0, 0, 12, 1, 28, 23, 6, 0, 0, 22, 30, 2, 4,
         1, 0, 0, 0, 0,
@@ -53,17 +55,18 @@ fn foreign() {
         diagnostics: 0,
     };
     list_script::print(
+        rt,
         Parsed::Tree(counts),
         &nodes,
         &types,
         &lists,
         &roots,
         &diagnostics,
-    );
+    )
 }
 
 // Script 475 of the fixed list, collecting.
-fn arms() {
+fn arms(rt: &impl Print) -> io::Result<()> {
     let nodes = [
         1u32, 0, 24, 7, 1, 0, 0, 0, 0, 0, 0, 0, 0, 0, 0, 0, 13, 1, 20, 16, 1, 0, 0, 0, 0, 0, 0, 0,
         0, 0, 0, 0, 4, 2, 5, 10, 1, 1, 0, 0, 0, 0, 0, 0, 0, 0, 0, 0, 3, 3, 6, 9, 1, 0, 2, 0, 0, 0,
@@ -82,17 +85,18 @@ fn arms() {
         diagnostics: 1,
     };
     list_script::print(
+        rt,
         Parsed::Tree(counts),
         &nodes,
         &types,
         &lists,
         &roots,
         &diagnostics,
-    );
+    )
 }
 
 // Script 407 of the fixed list, collecting.
-fn docs() {
+fn docs(rt: &impl Print) -> io::Result<()> {
     let nodes = [
         12u32, 0, 28, 14, 6, 0, 2, 22, 21, 1, 6, 0, 0, 0, 0, 0, 6, 1, 6, 0, 25, 3, 1, 6, 0, 0, 6,
         1, 0, 0, 0, 0,
@@ -110,22 +114,23 @@ fn docs() {
         diagnostics: 1,
     };
     list_script::print(
+        rt,
         Parsed::Tree(counts),
         &nodes,
         &types,
         &lists,
         &roots,
         &diagnostics,
-    );
+    )
 }
 
-fn print_error(e: Diagnostic) {
+fn print_error(rt: &impl Print, e: Diagnostic) -> io::Result<()> {
     let none = [0u32; 1];
-    list_script::print(Parsed::Error(e), &none, &none, &none, &none, &none);
+    list_script::print(rt, Parsed::Error(e), &none, &none, &none, &none, &none)
 }
 
 // The same counts with a kind that there is not, and with a node more than the array has.
-fn broken(kind: u32, n: u32) {
+fn broken(rt: &impl Print, kind: u32, n: u32) -> io::Result<()> {
     let nodes = [2u32, 0, kind, 0, 1, 0, 0, 0, 0, 0, 0, 0, 0, 0, 0, 0];
     let none = [0u32; 1];
     let counts = Counts {
@@ -136,29 +141,35 @@ fn broken(kind: u32, n: u32) {
         values: 1,
         diagnostics: 0,
     };
-    list_script::print(Parsed::Tree(counts), &nodes, &none, &none, &none, &none);
+    list_script::print(rt, Parsed::Tree(counts), &nodes, &none, &none, &none, &none)
 }
 
-fn main() {
-    sign();
-    foreign();
-    arms();
-    docs();
-    print_error(Diagnostic {
-        number: 19,
-        start: 2,
-        len: 2,
-        wanted: 0,
-        seen: 14,
-    });
-    print_error(Diagnostic {
-        number: 10,
-        start: 127,
-        len: 1,
-        wanted: 0,
-        seen: 25,
-    });
-    broken(25, 1);
-    broken(44, 1);
-    broken(25, 2);
+fn main(rt: HostRuntime) -> io::Result<()> {
+    sign(&rt)?;
+    foreign(&rt)?;
+    arms(&rt)?;
+    docs(&rt)?;
+    print_error(
+        &rt,
+        Diagnostic {
+            number: 19,
+            start: 2,
+            len: 2,
+            wanted: 0,
+            seen: 14,
+        },
+    )?;
+    print_error(
+        &rt,
+        Diagnostic {
+            number: 10,
+            start: 127,
+            len: 1,
+            wanted: 0,
+            seen: 25,
+        },
+    )?;
+    broken(&rt, 25, 1)?;
+    broken(&rt, 44, 1)?;
+    broken(&rt, 25, 2)
 }

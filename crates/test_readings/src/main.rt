@@ -9,6 +9,8 @@ ghost use Rattle.std.specs.Prelude.{◌≤◌, length};
 use ast::Parsed;
 use console::frames::{Frame, read_script, read_up_to};
 use console::output::{write, write_number};
+use std::io;
+use std::io::Read;
 
 // One more than a script may have.
 const ROOM: usize = 65537;
@@ -32,36 +34,36 @@ const DIAGNOSTICS: usize = 640;
 const RUBBISH: u32 = 4294967295;
 
 // A number behind a blank.
-fn write_next(n: u32) {
-    write(b" ");
-    write_number(n as u64);
+fn write_next(rt: &impl Print, n: u32) -> io::Result<()> {
+    write(rt, b" ")?;
+    write_number(rt, n as u64)
 }
 
-fn write_answer(answer: Parsed) {
+fn write_answer(rt: &impl Print, answer: Parsed) -> io::Result<()> {
     match answer {
         Parsed::Tree(c) => {
-            write(b"tree");
-            write_next(c.nodes);
-            write_next(c.types);
-            write_next(c.cells);
-            write_next(c.roots);
-            write_next(c.values);
-            write_next(c.diagnostics);
+            write(rt, b"tree")?;
+            write_next(rt, c.nodes)?;
+            write_next(rt, c.types)?;
+            write_next(rt, c.cells)?;
+            write_next(rt, c.roots)?;
+            write_next(rt, c.values)?;
+            write_next(rt, c.diagnostics)?;
         }
         Parsed::Error(d) => {
-            write(b"error");
-            write_next(d.number);
-            write_next(d.start);
-            write_next(d.len);
-            write_next(d.wanted);
-            write_next(d.seen);
+            write(rt, b"error")?;
+            write_next(rt, d.number)?;
+            write_next(rt, d.start)?;
+            write_next(rt, d.len)?;
+            write_next(rt, d.wanted)?;
+            write_next(rt, d.seen)?;
         }
         Parsed::Refused(n) => {
-            write(b"refused");
-            write_next(n);
+            write(rt, b"refused")?;
+            write_next(rt, n)?;
         }
     }
-    write(b"\n");
+    write(rt, b"\n")
 }
 
 // How many cells there are without those at the end that hold `cell`.
@@ -80,40 +82,39 @@ fn length_without(cells: &[u32], cell: u32) -> usize
 
 // The cells up to the last that is not zero, and how many zeros follow; or that all are as they
 // were.
-fn write_cells(name: &[u8], cells: &[u32]) {
-    write(name);
+fn write_cells(rt: &impl Print, name: &[u8], cells: &[u32]) -> io::Result<()> {
+    write(rt, name)?;
     if length_without(cells, RUBBISH) == 0 {
-        write(b": as it was\n");
-        return;
+        return write(rt, b": as it was\n");
     }
     let n = length_without(cells, 0);
-    let mut i = 0;
-    while i < n {
-        write_next(cells[i]);
-        i += 1;
+    for cell in &cells[..n] {
+        write_next(rt, *cell)?;
     }
-    write(b", zeros ");
-    write_number((cells.len() - n) as u64);
-    write(b"\n");
+    write(rt, b", zeros ")?;
+    write_number(rt, (cells.len() - n) as u64)?;
+    write(rt, b"\n")
 }
 
 fn write_reading(
+    rt: &impl Print,
     answer: Parsed,
     nodes: &[u32],
     types: &[u32],
     lists: &[u32],
     roots: &[u32],
     diagnostics: &[u32],
-) {
-    write_answer(answer);
-    write_cells(b"nodes", nodes);
-    write_cells(b"types", types);
-    write_cells(b"lists", lists);
-    write_cells(b"roots", roots);
-    write_cells(b"diagnostics", diagnostics);
+) -> io::Result<()> {
+    write_answer(rt, answer)?;
+    write_cells(rt, b"nodes", nodes)?;
+    write_cells(rt, b"types", types)?;
+    write_cells(rt, b"lists", lists)?;
+    write_cells(rt, b"roots", roots)?;
+    write_cells(rt, b"diagnostics", diagnostics)
 }
 
 fn read(
+    rt: &impl Print,
     collecting: bool,
     script: &[u8],
     nodes: &mut [u32],
@@ -121,7 +122,7 @@ fn read(
     lists: &mut [u32],
     roots: &mut [u32],
     diagnostics: &mut [u32],
-) {
+) -> io::Result<()> {
     let mut tokens = [RUBBISH; TOKENS];
     let mut errors = [RUBBISH; ERRORS];
     if collecting {
@@ -135,7 +136,7 @@ fn read(
             roots,
             diagnostics,
         );
-        write_reading(answer, nodes, types, lists, roots, diagnostics);
+        write_reading(rt, answer, nodes, types, lists, roots, diagnostics)
     } else {
         let answer = parser::parse(
             script,
@@ -147,25 +148,26 @@ fn read(
             roots,
             diagnostics,
         );
-        write_reading(answer, nodes, types, lists, roots, diagnostics);
+        write_reading(rt, answer, nodes, types, lists, roots, diagnostics)
     }
 }
 
-fn reading() {
+fn reading(rt: &impl Print, input: &mut impl Read) -> io::Result<()> {
     let mut script = [b' '; ROOM];
     let mut nodes = [RUBBISH; NODES];
     let mut types = [RUBBISH; TYPES];
     let mut lists = [RUBBISH; LISTS];
     let mut roots = [RUBBISH; ROOTS];
     let mut diagnostics = [RUBBISH; DIAGNOSTICS];
-    let collecting = read_up_to(1) == 1;
-    let a = read_up_to(NODES);
-    let b = read_up_to(TYPES);
-    let c = read_up_to(LISTS);
-    let d = read_up_to(ROOTS);
-    let e = read_up_to(DIAGNOSTICS);
-    let n = read_script(&mut script);
+    let collecting = read_up_to(input, 1)? == 1;
+    let a = read_up_to(input, NODES)?;
+    let b = read_up_to(input, TYPES)?;
+    let c = read_up_to(input, LISTS)?;
+    let d = read_up_to(input, ROOTS)?;
+    let e = read_up_to(input, DIAGNOSTICS)?;
+    let n = read_script(input, &mut script)?;
     read(
+        rt,
         collecting,
         &script[..n],
         &mut nodes[..a],
@@ -173,34 +175,34 @@ fn reading() {
         &mut lists[..c],
         &mut roots[..d],
         &mut diagnostics[..e],
-    );
+    )
 }
 
 // The next case. Answers whether there was one.
-fn next_case() -> bool {
-    let mut name = io::buffer();
-    match console::frames::read_frame(&mut name) {
+fn next_case(rt: &impl Print, input: &mut impl Read) -> io::Result<bool> {
+    let mut name = [0u8; 4096];
+    match console::frames::read_frame(input, &mut name)? {
         Frame::Bytes(n) => {
-            write(&name[..n]);
-            write(b": ");
-            reading();
-            true
+            write(rt, &name[..n])?;
+            write(rt, b": ")?;
+            reading(rt, input)?;
+            Ok(true)
         }
         Frame::Malformed => {
-            write(b"(malformed)\n");
-            false
+            write(rt, b"(malformed)\n")?;
+            Ok(false)
         }
-        Frame::End => false,
+        Frame::End => Ok(false),
     }
 }
 
 // Nothing says that the input ends, so the cases are counted.
-fn main() {
-    let mut left: u32 = 1000000;
-    while 0 < left {
-        if !next_case() {
-            return;
+fn main(rt: HostRuntime) -> io::Result<()> {
+    let mut input = rt.stdin();
+    for _ in 0..1000000 {
+        if !next_case(&rt, &mut input)? {
+            break;
         }
-        left -= 1;
     }
+    Ok(())
 }

@@ -9,92 +9,86 @@ use ast::{Counts, NodeId, Parsed, TypeExprId};
 use console::frames::Frame;
 use console::output::{write, write_number};
 use lookups::{Start, TypeToken, node_start, type_token};
+use std::io;
+use std::io::Read;
 use tokens::cut;
 
 // What the arrays of the second reading hold before it.
 const RUBBISH: u32 = 4294967295;
 
-fn write_refused(n: u32) {
-    write(b"refused ");
-    write_number(n as u64);
+fn write_refused(rt: &impl Print, n: u32) -> io::Result<()> {
+    write(rt, b"refused ")?;
+    write_number(rt, n as u64)
 }
 
-fn print_start(i: u32, start: Start) {
-    write(b"(start ");
-    write_number(i as u64);
-    write(b" ");
+fn print_start(rt: &impl Print, i: u32, start: Start) -> io::Result<()> {
+    write(rt, b"(start ")?;
+    write_number(rt, i as u64)?;
+    write(rt, b" ")?;
     match start {
-        Start::At(at) => write_number(at as u64),
-        Start::Nothing => write(b"none"),
-        Start::Refused(n) => write_refused(n),
+        Start::At(at) => write_number(rt, at as u64)?,
+        Start::Nothing => write(rt, b"none")?,
+        Start::Refused(n) => write_refused(rt, n)?,
     }
-    write(b")\n");
+    write(rt, b")\n")
 }
 
-fn print_type_token(i: u32, token: TypeToken) {
-    write(b"(typetoken ");
-    write_number(i as u64);
-    write(b" ");
+fn print_type_token(rt: &impl Print, i: u32, token: TypeToken) -> io::Result<()> {
+    write(rt, b"(typetoken ")?;
+    write_number(rt, i as u64)?;
+    write(rt, b" ")?;
     match token {
-        TypeToken::Found(t) => console::tokens::print_token(t),
-        TypeToken::Refused(n) => write_refused(n),
+        TypeToken::Found(t) => console::tokens::print_token(rt, t)?,
+        TypeToken::Refused(n) => write_refused(rt, n)?,
     }
-    write(b")\n");
+    write(rt, b")\n")
 }
 
 fn print_starts(
+    rt: &impl Print,
     script: &[u8],
     nodes: &[u32],
     types: &[u32],
     lists: &[u32],
     roots: &[u32],
     counts: Counts,
-) {
-    let n = counts.nodes;
-    let mut i = 0;
-    while i < n {
-        print_start(
-            i,
-            node_start(script, nodes, types, lists, roots, counts, NodeId(i)),
-        );
-        i += 1;
+) -> io::Result<()> {
+    for i in 0..counts.nodes {
+        let start = node_start(script, nodes, types, lists, roots, counts, NodeId(i));
+        print_start(rt, i, start)?;
     }
+    Ok(())
 }
 
 fn print_type_tokens(
+    rt: &impl Print,
     script: &[u8],
     nodes: &[u32],
     types: &[u32],
     lists: &[u32],
     roots: &[u32],
     counts: Counts,
-) {
-    let n = counts.types;
-    let mut i = 0;
-    while i < n {
-        print_type_token(
-            i,
-            type_token(script, nodes, types, lists, roots, counts, TypeExprId(i)),
-        );
-        i += 1;
+) -> io::Result<()> {
+    for i in 0..counts.types {
+        let token = type_token(script, nodes, types, lists, roots, counts, TypeExprId(i));
+        print_type_token(rt, i, token)?;
     }
+    Ok(())
 }
 
-fn print_tokens(script: &[u8]) {
-    write(b"(tokens)\n");
-    console::tokens::print_script(script);
+fn print_tokens(rt: &impl Print, script: &[u8]) -> io::Result<()> {
+    write(rt, b"(tokens)\n")?;
+    console::tokens::print_script(rt, script)
 }
 
 fn same_cells(a: &[u32], b: &[u32]) -> bool {
     if a.len() != b.len() {
         return false;
     }
-    let mut i = 0;
-    while i < a.len() {
+    for i in 0..a.len() {
         if a[i] != b[i] {
             return false;
         }
-        i += 1;
     }
     true
 }
@@ -162,6 +156,7 @@ fn cut_and_read(
 // Both steps into other arrays: answer, tables and arrays have to be those that `parse` or
 // `parse_collect` left.
 fn read_again(
+    rt: &impl Print,
     script: &[u8],
     collecting: bool,
     answer: Parsed,
@@ -172,7 +167,7 @@ fn read_again(
     lists: &[u32],
     roots: &[u32],
     diagnostics: &[u32],
-) {
+) -> io::Result<()> {
     let mut tokens2 = [RUBBISH; 3844];
     let mut errors2 = [RUBBISH; 5760];
     let mut nodes2 = [RUBBISH; 15360];
@@ -200,12 +195,13 @@ fn read_again(
     same = same & same_cells(roots, &roots2);
     same = same & same_cells(diagnostics, &diagnostics2);
     if !same {
-        write(b"(differs)\n");
+        write(rt, b"(differs)\n")?;
     }
+    Ok(())
 }
 
 // Strict mode, and the lookups on the arrays that it leaves.
-fn print_strict(script: &[u8]) {
+fn print_strict(rt: &impl Print, script: &[u8]) -> io::Result<()> {
     let mut tokens = [0u32; 3844];
     let mut errors = [0u32; 5760];
     let mut nodes = [0u32; 15360];
@@ -223,14 +219,15 @@ fn print_strict(script: &[u8]) {
         &mut roots,
         &mut diagnostics,
     );
-    write(b"(strict)\n");
-    list_script::print(answer, &nodes, &types, &lists, &roots, &diagnostics);
-    write(b"(starts)\n");
+    write(rt, b"(strict)\n")?;
+    list_script::print(rt, answer, &nodes, &types, &lists, &roots, &diagnostics)?;
+    write(rt, b"(starts)\n")?;
     if let Parsed::Tree(counts) = answer {
-        print_starts(script, &nodes, &types, &lists, &roots, counts);
-        print_type_tokens(script, &nodes, &types, &lists, &roots, counts);
+        print_starts(rt, script, &nodes, &types, &lists, &roots, counts)?;
+        print_type_tokens(rt, script, &nodes, &types, &lists, &roots, counts)?;
     }
     read_again(
+        rt,
         script,
         false,
         answer,
@@ -241,10 +238,10 @@ fn print_strict(script: &[u8]) {
         &lists,
         &roots,
         &diagnostics,
-    );
+    )
 }
 
-fn print_collect(script: &[u8]) {
+fn print_collect(rt: &impl Print, script: &[u8]) -> io::Result<()> {
     let mut tokens = [0u32; 3844];
     let mut errors = [0u32; 5760];
     let mut nodes = [0u32; 15360];
@@ -262,9 +259,10 @@ fn print_collect(script: &[u8]) {
         &mut roots,
         &mut diagnostics,
     );
-    write(b"(collect)\n");
-    list_script::print(answer, &nodes, &types, &lists, &roots, &diagnostics);
+    write(rt, b"(collect)\n")?;
+    list_script::print(rt, answer, &nodes, &types, &lists, &roots, &diagnostics)?;
     read_again(
+        rt,
         script,
         true,
         answer,
@@ -275,41 +273,41 @@ fn print_collect(script: &[u8]) {
         &lists,
         &roots,
         &diagnostics,
-    );
+    )
 }
 
-fn print_script(i: u64, script: &[u8]) {
-    write(b"(script ");
-    write_number(i);
-    write(b")\n");
-    print_tokens(script);
-    print_strict(script);
-    print_collect(script);
+fn print_script(rt: &impl Print, i: u64, script: &[u8]) -> io::Result<()> {
+    write(rt, b"(script ")?;
+    write_number(rt, i)?;
+    write(rt, b")\n")?;
+    print_tokens(rt, script)?;
+    print_strict(rt, script)?;
+    print_collect(rt, script)
 }
 
 // The next script, with number `i`. Answers whether there was one.
-fn replay(i: u64) -> bool {
+fn replay(rt: &impl Print, input: &mut impl Read, i: u64) -> io::Result<bool> {
     let mut script = [0u8; 960];
-    match console::frames::read_frame(&mut script) {
+    match console::frames::read_frame(input, &mut script)? {
         Frame::Bytes(n) => {
-            print_script(i, &script[..n]);
-            true
+            print_script(rt, i, &script[..n])?;
+            Ok(true)
         }
         Frame::Malformed => {
-            write(b"(malformed)\n");
-            false
+            write(rt, b"(malformed)\n")?;
+            Ok(false)
         }
-        Frame::End => false,
+        Frame::End => Ok(false),
     }
 }
 
 // Nothing says that the input ends, so the scripts are counted.
-fn main() {
-    let mut i: u64 = 0;
-    while i < 1000000000000 {
-        if !replay(i) {
-            return;
+fn main(rt: HostRuntime) -> io::Result<()> {
+    let mut input = rt.stdin();
+    for i in 0..1000000000000 {
+        if !replay(&rt, &mut input, i)? {
+            break;
         }
-        i += 1;
     }
+    Ok(())
 }

@@ -5,17 +5,18 @@
 use console::output::{write, write_number};
 use lex::Diagnostic;
 use sheet::print_sheet;
+use std::io;
 use text::Writing;
 use words::describe;
 
-fn write_refused(n: u32) {
-    write(b"refused ");
-    write_number(n as u64);
-    write(b"\n");
+fn write_refused(rt: &impl Print, n: u32) -> io::Result<()> {
+    write(rt, b"refused ")?;
+    write_number(rt, n as u64)?;
+    write(rt, b"\n")
 }
 
 // The words of an error, on a line.
-fn show(number: u32, wanted: u32, seen: u32) {
+fn show(rt: &impl Print, number: u32, wanted: u32, seen: u32) -> io::Result<()> {
     let mut line = [b'.'; 160];
     let e = Diagnostic {
         number,
@@ -25,18 +26,18 @@ fn show(number: u32, wanted: u32, seen: u32) {
         seen,
     };
     match describe(e, &mut line) {
-        Writing::Refused(n) => write_refused(n),
+        Writing::Refused(n) => write_refused(rt, n),
         Writing::Written(n) => {
             if n <= 160 {
-                write(&line[..n]);
+                write(rt, &line[..n])?;
             }
-            write(b"\n");
+            write(rt, b"\n")
         }
     }
 }
 
 // A buffer of 159 bytes, and what it holds then.
-fn show_short() {
+fn show_short(rt: &impl Print) -> io::Result<()> {
     let mut line = [b'.'; 159];
     let e = Diagnostic {
         number: 31,
@@ -46,78 +47,82 @@ fn show_short() {
         seen: 0,
     };
     match describe(e, &mut line) {
-        Writing::Refused(n) => write_refused(n),
-        Writing::Written(_) => write(b"written\n"),
+        Writing::Refused(n) => write_refused(rt, n)?,
+        Writing::Written(_) => write(rt, b"written\n")?,
     }
-    write(&line);
-    write(b"\n");
+    write(rt, &line)?;
+    write(rt, b"\n")
 }
 
 // A sheet into the first `room` bytes of a buffer, and the answer.
-fn print_into(script: &[u8], errors: &[u32], room: usize, buffer: &mut [u8]) {
+fn print_into(
+    rt: &impl Print,
+    script: &[u8],
+    errors: &[u32],
+    room: usize,
+    buffer: &mut [u8],
+) -> io::Result<()> {
     if buffer.len() < room {
-        return;
+        return Ok(());
     }
     match print_sheet(script, errors, &mut buffer[..room]) {
-        Writing::Refused(n) => write_refused(n),
+        Writing::Refused(n) => write_refused(rt, n),
         Writing::Written(n) => {
-            write(b"written ");
-            write_number(n as u64);
-            write(b"\n");
+            write(rt, b"written ")?;
+            write_number(rt, n as u64)?;
+            write(rt, b"\n")
         }
     }
 }
 
 // The answer, and what the buffer holds then.
-fn show_sheet(script: &[u8], errors: &[u32], room: usize) {
+fn show_sheet(rt: &impl Print, script: &[u8], errors: &[u32], room: usize) -> io::Result<()> {
     let mut buffer = [b'.'; 256];
-    print_into(script, errors, room, &mut buffer);
-    write(&buffer);
-    write(b"\n");
+    print_into(rt, script, errors, room, &mut buffer)?;
+    write(rt, &buffer)?;
+    write(rt, b"\n")
 }
 
-fn show_numbers() {
-    let mut number = 0;
-    while number < 36 {
-        show(number, 0, 24);
-        number += 1;
+fn show_numbers(rt: &impl Print) -> io::Result<()> {
+    for number in 0..36 {
+        show(rt, number, 0, 24)?;
     }
+    Ok(())
 }
 
-fn show_kinds() {
-    let mut kind = 0;
-    while kind < 45 {
-        show(11, kind, 25);
-        show(12, 0, kind);
-        kind += 1;
+fn show_kinds(rt: &impl Print) -> io::Result<()> {
+    for kind in 0..45 {
+        show(rt, 11, kind, 25)?;
+        show(rt, 12, 0, kind)?;
     }
+    Ok(())
 }
 
-fn main() {
-    show_numbers();
-    show_kinds();
-    show(31, 0, 0);
-    show(32, 0, 0);
-    show(33, 0, 0);
-    show(33, 0, 175);
-    show(33, 0, 255);
-    show(33, 0, 256);
-    show(34, 0, 0);
-    show(34, 1, 0);
-    show_short();
+fn main(rt: HostRuntime) -> io::Result<()> {
+    show_numbers(&rt)?;
+    show_kinds(&rt)?;
+    show(&rt, 31, 0, 0)?;
+    show(&rt, 32, 0, 0)?;
+    show(&rt, 33, 0, 0)?;
+    show(&rt, 33, 0, 175)?;
+    show(&rt, 33, 0, 255)?;
+    show(&rt, 33, 0, 256)?;
+    show(&rt, 34, 0, 0)?;
+    show(&rt, 34, 1, 0)?;
+    show_short(&rt)?;
     let script = b"let x = 1\nlet y 2";
     let errors = [11u32, 16, 1, 9, 24, 18, 4, 1, 0, 20, 7, 7];
-    show_sheet(script, &errors, 256);
-    show_sheet(script, &errors, 219);
-    show_sheet(script, &errors, 218);
+    show_sheet(&rt, script, &errors, 256)?;
+    show_sheet(&rt, script, &errors, 219)?;
+    show_sheet(&rt, script, &errors, 218)?;
     let one = [11u32, 16, 1, 9, 24, 18, 4, 1, 0];
-    show_sheet(script, &one, 73);
+    show_sheet(&rt, script, &one, 73)?;
     let none = [11u32, 16, 1, 9];
-    show_sheet(script, &none, 0);
+    show_sheet(&rt, script, &none, 0)?;
     let end = [31u32, 17, 1, 0, 0];
-    show_sheet(script, &end, 73);
+    show_sheet(&rt, script, &end, 73)?;
     let past = [31u32, 18, 1, 0, 0, 24, 0, 0, 0, 0];
-    show_sheet(script, &past, 0);
+    show_sheet(&rt, script, &past, 0)?;
     let wordless = [24u32, 18, 1, 0, 0, 31, 18, 1, 0, 0];
-    show_sheet(script, &wordless, 0);
+    show_sheet(&rt, script, &wordless, 0)
 }

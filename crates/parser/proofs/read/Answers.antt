@@ -1,0 +1,27 @@
+-- `parser::read` meets its contract.
+use Rattle.std.proofs.Common.{refl, ◌∙◌}
+use Rattle.rules.specs.Parse.{parse}
+use Rattle.rules.specs.Rules.{stage_one}
+use Rattle.rules.specs.Promise.{arrays_of}
+use Rattle.tokens.proofs.Whole.{is_cut_tables}
+use Rattle.parser.proofs.Promised.{read_turned_away, read-accepted, accepted, is_read_lem, begins}
+use Rattle.parser.proofs.read.Goals as goal
+
+pub returns-then-refused-ne0 : goal.returns-then-refused-ne0
+returns-then-refused-ne0 c = read_turned_away _ _ _ _ _ _ c.not_read-refused.ensures c.if-refused-ne0.true
+
+pub read_cut-requires : goal.read_cut-requires
+read_cut-requires c =
+    let args = c.args in
+    let lent = arrays_of args.nodes.now args.types.now args.lists.now args.roots.now args.diagnostics.now in
+    let read = read-accepted (parse stage_one) args.script.now args.tokens.now args.errors.now lent _ c.not_read-refused.ensures c.if-refused-ne0.false in
+    let ok = accepted (parse stage_one) args.script.now args.tokens.now args.errors.now lent 0 read.number refl in
+    let tables = is_cut_tables args.script.now args.tokens.now args.errors.now read.cut in
+    begins _ _ _ _ _ ok _ tables.tokens
+
+pub returns : goal.returns
+returns c =
+    let args = c.args in
+    let lent = arrays_of args.nodes.now args.types.now args.lists.now args.roots.now args.diagnostics.now in
+    let read = read-accepted (parse stage_one) args.script.now args.tokens.now args.errors.now lent _ c.not_read-refused.ensures c.if-refused-ne0.false in
+    is_read_lem _ _ _ _ _ (accepted _ _ _ _ _ 0 read.number refl) read.cut ∙ c.read_cut.ensures

@@ -1,0 +1,10 @@
+-- `parser_operators::atom` meets its contract.
+use Rattle.std.proofs.Common.{refl}
+use Rattle.parser_state.proofs.Steps.{read, enough}
+use Rattle.ast.specs.Layout.{token_cells, node_cells}
+use Rattle.rules.specs.Rules.{atom}
+use Rattle.parser_operators.proofs.atom.Goals as goal
+
+pub returns : goal.returns
+unfolding atom node_cells token_cells
+returns c = λ types lists. enough (read _ (c.advance.ensures _ types lists) c.current-raw.ensures (c.push_token_node.ensures _ types lists _ refl)) tt

@@ -1,0 +1,10 @@
+-- `parser_types::foreign_type` meets its contract.
+use Rattle.std.proofs.Common.{refl}
+use Rattle.parser_state.proofs.Steps.{read, then, enough}
+use Rattle.ast.specs.Layout.{type_cells, token_cells, run_cells}
+use Rattle.rules.specs.Rules.{foreign_type}
+use Rattle.parser_types.proofs.foreign_type.Goals as goal
+
+pub returns : goal.returns
+unfolding foreign_type type_cells token_cells run_cells
+returns c = λ nodes lists. enough (then (c.open_angle.ensures nodes _ lists) (read _ (c.expect_ident.ensures nodes _ lists) c.current-name.ensures (then (c.expect.ensures nodes _ lists) (c.push_type.ensures _ nodes lists _ refl)))) tt

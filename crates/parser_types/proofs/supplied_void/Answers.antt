@@ -1,0 +1,10 @@
+-- `parser_types::supplied_void` meets its contract.
+use Rattle.std.proofs.Common.{refl}
+use Rattle.parser_state.proofs.Steps.{looks, read}
+use Rattle.ast.specs.Layout.{type_cells, token_cells, run_cells}
+use Rattle.rules.specs.Rules.{supplied_void}
+use Rattle.parser_types.proofs.supplied_void.Goals as goal
+
+pub returns : goal.returns
+unfolding supplied_void type_cells token_cells run_cells
+returns c = λ tokens nodes lists. read _ looks c.current-at.ensures (c.push_type.ensures tokens nodes lists _ refl)

@@ -1,0 +1,127 @@
+-- `tokens::agrees` meets its contract: what is left to compare comes to the same at every turn.
+use Rattle.std.proofs.Common.{arith, refl}
+use Rattle.std.proofs.lemmas.Bool.{not_from_true, not_from_false}
+use Rattle.lex.proofs.Steps.{cut_le}
+use Rattle.tokens.proofs.Same.{agreeing_start, part_room, differs_tokens, differs_errors, agreeing_part, differs_behind, agrees_end}
+use Rattle.tokens.proofs.agrees.Goals as goal
+
+pub loop-s-init : goal.loop-s-init
+loop-s-init c =
+    (agreeing_start _ _ _, refl, refl)
+
+pub fill-s-requires : goal.fill-s-requires
+fill-s-requires c =
+    let g = c.loop-s.invariant.0 in
+    (c.requires.0, c.requires.3, g.inside, omega (arith, g.tokens, cut_le c.args.script.now))
+
+pub overflow_mul-n : goal.overflow_mul-n
+overflow_mul-n c =
+    let g = c.loop-s.invariant.0 in
+    let st = c.fill-s.ensures in
+    let room = part_room g st in
+    omega (arith, room)
+
+pub overflow_mul-m : goal.overflow_mul-m
+overflow_mul-m c =
+    let g = c.loop-s.invariant.0 in
+    let st = c.fill-s.ensures in
+    let room = part_room g st in
+    omega (arith, room)
+
+pub overflow_add-n : goal.overflow_add-n
+overflow_add-n c =
+    let g = c.loop-s.invariant.0 in
+    let st = c.fill-s.ensures in
+    let room = part_room g st in
+    omega (arith, room)
+
+pub overflow_add-m : goal.overflow_add-m
+overflow_add-m c =
+    let g = c.loop-s.invariant.0 in
+    let st = c.fill-s.ensures in
+    let room = part_room g st in
+    omega (arith, room)
+
+pub overflow_mul-n-then-s : goal.overflow_mul-n-then-s
+overflow_mul-n-then-s c =
+    let g = c.loop-s.invariant.0 in
+    let st = c.fill-s.ensures in
+    let room = part_room g st in
+    omega (arith, room)
+
+pub overflow_mul-m-then-s : goal.overflow_mul-m-then-s
+overflow_mul-m-then-s c =
+    let g = c.loop-s.invariant.0 in
+    let st = c.fill-s.ensures in
+    let room = part_room g st in
+    omega (arith, room)
+
+pub same_cells-requires : goal.same_cells-requires
+same_cells-requires c =
+    let g = c.loop-s.invariant.0 in
+    let st = c.fill-s.ensures in
+    let room = part_room g st in
+    (st.tokens_fit, omega (arith, room))
+
+pub same_cells-requires-in-loop-s : goal.same_cells-requires-in-loop-s
+same_cells-requires-in-loop-s c =
+    let g = c.loop-s.invariant.0 in
+    let st = c.fill-s.ensures in
+    let room = part_room g st in
+    (st.errors_fit, omega (arith, room))
+
+pub is_zero_from-requires : goal.is_zero_from-requires
+is_zero_from-requires c =
+    let g = c.loop-s.invariant.0 in
+    let st = c.fill-s.ensures in
+    let room = part_room g st in
+    omega (arith, room)
+
+pub is_zero_from-requires-then-s : goal.is_zero_from-requires-then-s
+is_zero_from-requires-then-s c =
+    let g = c.loop-s.invariant.0 in
+    let st = c.fill-s.ensures in
+    let room = part_room g st in
+    omega (arith, room)
+
+pub returns-then-not-same_cells : goal.returns-then-not-same_cells
+returns-then-not-same_cells c =
+    let g = c.loop-s.invariant.0 in
+    let st = c.fill-s.ensures in
+    let room = part_room g st in
+    differs_tokens g st (omega (arith, room)) (omega (arith, room)) c.same_cells.ensures (not_from_false _ c.if-not-same_cells.true)
+
+pub returns-then-not-same_cells-2 : goal.returns-then-not-same_cells-2
+returns-then-not-same_cells-2 c =
+    let g = c.loop-s.invariant.0 in
+    let st = c.fill-s.ensures in
+    let room = part_room g st in
+    differs_errors g st (omega (arith, room)) (omega (arith, room)) c.same_cells-in-loop-s.ensures (not_from_false _ c.if-not-same_cells-2.true)
+
+pub returns-then-not-is_zero_from : goal.returns-then-not-is_zero_from
+returns-then-not-is_zero_from c =
+    let g = c.loop-s.invariant.0 in
+    let st = c.fill-s.ensures in
+    let room = part_room g st in
+    differs_behind g st (omega (arith, room)) (omega (arith, room)) c.same_cells.ensures (not_from_true _ c.if-not-same_cells.false) c.same_cells-in-loop-s.ensures (not_from_true _ c.if-not-same_cells-2.false) c.if-s.true c.is_zero_from.ensures (not_from_false _ c.if-not-is_zero_from.true)
+
+pub returns-then-s : goal.returns-then-s
+returns-then-s c =
+    let g = c.loop-s.invariant.0 in
+    let st = c.fill-s.ensures in
+    let room = part_room g st in
+    agrees_end g st (omega (arith, room)) (omega (arith, room)) c.same_cells.ensures (not_from_true _ c.if-not-same_cells.false) c.same_cells-in-loop-s.ensures (not_from_true _ c.if-not-same_cells-2.false) c.if-s.true c.is_zero_from.ensures (not_from_true _ c.if-not-is_zero_from.false) c.is_zero_from-then-s.ensures
+
+pub loop-s-smaller : goal.loop-s-smaller
+loop-s-smaller c =
+    let g = c.loop-s.invariant.0 in
+    let st = c.fill-s.ensures in
+    let room = part_room g st in
+    omega (arith, st.moves (omega (arith, c.fill-s.auto)) (omega (arith, c.fill-s.auto)) c.if-s.false, st.inside)
+
+pub loop-s-preserved : goal.loop-s-preserved
+loop-s-preserved c =
+    let g = c.loop-s.invariant.0 in
+    let st = c.fill-s.ensures in
+    let room = part_room g st in
+    (agreeing_part g st (omega (arith, room)) (omega (arith, room)) c.same_cells.ensures (not_from_true _ c.if-not-same_cells.false) c.same_cells-in-loop-s.ensures (not_from_true _ c.if-not-same_cells-2.false) c.if-s.false, omega (arith, c.fill-s.auto), omega (arith, c.fill-s.auto))
