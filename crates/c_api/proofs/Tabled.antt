@@ -5,7 +5,7 @@ use mathlib.Core.List.{List}
 use Prim.Native.Nat.{ℕ}
 use Rattle.tokens.specs.declared.Cutting.{Cutting}
 use Rattle.tokens.specs.Tables.{Outcome}
-use Rattle.c_api.specs.Tables.{CutNumbers, cut_number, cut_counts, cut_numbers}
+use Rattle.c_api.specs.Tables.{cut_number, cut_counts, cut_numbers}
 
 pub tabled : (out : List ℕ) {o : Outcome} {r s : Cutting} {ts es : List ℕ} → o ≡ record { answer = r; tokens = ts; errors = es } → r ≡ s
     → cut_numbers o out ≡ record { number = cut_number s; counts = cut_counts s out; tokens = ts; errors = es }
