@@ -10,11 +10,11 @@
  *   `counts` and the arrays for an answer have the lengths that are written here.
  * - What a function writes to overlaps nothing else that is passed to it, and nobody else uses it
  *   during the call.
- * - There is stack enough. A reading takes up to 120 KB (the deepest nests measured took 110.5), a
+ * - There is stack enough. A reading takes up to 120 KB (the deepest nests measured took 60), a
  *   lookup 16 KB on arrays of any depth, and a comparison of trees that readings returned 64 KB. A
  *   comparison of arrays that no reading made goes as deep as they do: nests in the last member of
- *   the last list take no more, any other 320 bytes a level, record types in one another 144. With
- *   8 MB it compares 26,000 such levels; arrays of 65,536 bytes hold up to 65,535. Bound the depth,
+ *   the last list take no more, any other 400 bytes a level, record types in one another 180. With
+ *   8 MB it compares 21,000 such levels; arrays of 65,536 bytes hold up to 65,535. Bound the depth,
  *   or read the script anew.
  *
  * What is not left to the caller: on every input that keeps this, each function answers what its
