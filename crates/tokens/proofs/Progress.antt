@@ -1,10 +1,9 @@
 -- Where filling stands: the records made and those that the rest of the script gives are the tables.
 -- Assumes nothing.
 use mathlib.Core.Path.{◌≡◌, refl, ◌∙◌, sym, ap}
-use mathlib.Core.Bool.{Bool, true, false}
-use mathlib.Core.List.{List, [], ◌∷◌, ◌++◌, map, flatten, append_assoc, append-nil}
-use Prim.Native.Nat.{ℕ, zero, suc, ◌+◌, ◌*◌, ◌-◌, ◌≤◌, ◌<◌}
-use native.Mathlib.Numerals.{add-one}
+use mathlib.Core.Bool.{true, false}
+use mathlib.Core.List.{List, [], ◌∷◌, ◌++◌, flatten, append_assoc, append-nil}
+use Prim.Native.Nat.{ℕ, suc, ◌+◌, ◌*◌, ◌-◌, ◌≤◌, ◌<◌}
 use native.Mathlib.Omega.{arith}
 use native.Mathlib.Nat.{add-zero}
 use lib.ListN.{length, take, drop, length-append, length-take}
@@ -12,16 +11,16 @@ use lib.Dec.{eqb}
 use Rattle.lex.specs.Answer.{max_bytes}
 use Rattle.lex.specs.Kind.{k_s, k_doc}
 use Rattle.lex.specs.Spelling.{spelling_offset}
-use Rattle.lex.specs.Lex.{Cut, eof, cut_token, cut_fault, extend_cut, cut_at, cut, step_at, eof_token, tokens_of, Occurrence, faults_of, diagnostic_of}
+use Rattle.lex.specs.Lex.{Cut, eof, cut_token, cut_fault, extend_cut, cut_at, step_at, eof_token, tokens_of, Occurrence, faults_of, diagnostic_of}
 use Rattle.lex.specs.declared.tok.Token.{Token}
 use Rattle.lex.specs.declared.tok.Fault.{Fault}
 use Rattle.lex.specs.declared.tok.Step.{Step}
 use Rattle.lex.proofs.Laws.{cases, leading_le_one}
-use Rattle.lex.proofs.Steps.{Forward, step_forward, cut_step, cut_le}
+use Rattle.lex.proofs.Steps.{Forward, step_forward, cut_step}
 use Rattle.tokens.specs.declared.Stop.{Stop}
 use Rattle.tokens.specs.Filling.{tokens_left, errors_left, Stops}
-use Rattle.tokens.specs.Tables.{token_record, error_record, token_records, error_records, token_table, error_table, counts_of}
-use Rattle.tokens.proofs.Arrays.{Stored, stored}
+use Rattle.tokens.specs.Tables.{token_record, error_record, token_records, error_records}
+use Rattle.tokens.proofs.Arrays.{stored}
 
 -- ---- how long the tables are
 

@@ -1,11 +1,10 @@
 -- What cutting leaves is what is promised.
 -- Assumes nothing.
-use mathlib.Core.Path.{◌≡◌, refl, ◌∙◌, sym, ap}
+use mathlib.Core.Path.{◌≡◌, ◌∙◌, sym, ap}
 use mathlib.Core.Bool.{Bool, true, false}
-use mathlib.Core.List.{List, [], ◌++◌, flatten, append-nil}
+use mathlib.Core.List.{List, ◌++◌, flatten, append-nil}
 use Prim.Native.Nat.{ℕ, ◌+◌, ◌*◌, ◌-◌, ◌≤◌, ◌<◌}
 use native.Mathlib.Omega.{arith}
-use lib.Dec.{ltb}
 use lib.ListN.{length, take}
 use borrow.Author.Tests.{lt-ltb, le-ltb}
 use Rattle.lex.specs.Bytes.{or}
@@ -16,7 +15,7 @@ use Rattle.tokens.specs.declared.TableCounts.{TableCounts}
 use Rattle.tokens.specs.Filling.{tokens_left, errors_left, Stops}
 use Rattle.tokens.specs.declared.Cutting.TheVariants as C
 use Rattle.lex.specs.Cells.{zeros}
-use Rattle.tokens.specs.Tables.{Outcome, token_records, error_records, token_table, error_table, counts_of, tabled, too_short, promised}
+use Rattle.tokens.specs.Tables.{token_records, error_records, token_table, error_table, counts_of, tabled, too_short, promised}
 use Rattle.tokens.proofs.Progress.{token-records-length, error-records-length, some-token, made-left, met-left}
 
 module _ (script ts es : List ℕ) where

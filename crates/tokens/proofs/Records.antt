@@ -2,26 +2,24 @@
 -- Assumes no_error.
 use mathlib.Core.Path.{◌≡◌, refl, ◌∙◌, sym, ap}
 use mathlib.Core.Bool.{Bool, true, false}
-use mathlib.Core.List.{List, [], ◌∷◌, ◌++◌, map, flatten, append_assoc}
+use mathlib.Core.List.{List, [], ◌∷◌, ◌++◌, flatten}
 use Prim.Native.Nat.{ℕ, zero, suc, ◌+◌, ◌*◌, ◌/◌, ◌-◌, ◌≤◌, ◌<◌}
 use native.Mathlib.Omega.{arith}
 use lib.Dec.{ltb, eqb}
-use lib.ListN.{length, get_or, drop, replicate, length-append, length-drop, drop_of_length-le}
+use lib.ListN.{length, get_or, drop, length-append, length-drop, drop_of_length-le}
 use lib.Seq.{drop-cons, get_or-append-add}
 use borrow.Author.Tests.{lt-ltb, le-ltb, eq-eqb, ne_eqb, ltb-true, ltb-false}
-use Rattle.lex.specs.Answer.{max_bytes}
 use Rattle.lex.specs.Cells.{zeros, padded}
 use Rattle.lex.specs.Kind.{k_eof}
 use Rattle.lex.specs.Lex.{Cut, eof, cut_token, cut_fault, extend_cut, cut_at, cut, skipped, piece, placed, stands_at, step_at, eof_token, tokens_of, Occurrence, faults_of, diagnostic_of}
 use Rattle.lex.specs.declared.tok.Token.{Token}
-use Rattle.lex.specs.declared.tok.Fault.{Fault}
 use Rattle.lex.specs.declared.tok.Piece.{Piece}
 use Rattle.lex.specs.declared.tok.Step.{Step}
 use Rattle.lex.proofs.Laws.{cases}
 use Rattle.lex.proofs.Pieces.{Within, piece-within}
 use Rattle.lex.proofs.Spellings.{Ended, Spelled, cut-ended}
 use Rattle.lex.proofs.Steps.{Forward, step_forward, cut_by, cut_ind}
-use Rattle.tokens.specs.Tables.{token_width, error_width, token_record, error_record, token_records, error_records, token_table, error_table, counts_of}
+use Rattle.tokens.specs.Tables.{token_width, error_width, token_record, error_record, token_records, error_records, token_table, error_table}
 use Rattle.tokens.specs.Table.{token_at, tokens_up_to, tokens_from, InRange, no_error, error_at, errors_up_to, errors_from, NeverFalls}
 use Rattle.tokens.proofs.Progress.{some-token, token-records-length, error-records-length}
 

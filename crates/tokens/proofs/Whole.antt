@@ -1,23 +1,20 @@
 -- What is cut is what cutting leaves, and what cutting leaves is cut.
 -- Assumes nothing.
-use mathlib.Core.Path.{◌≡◌, refl, ◌∙◌, sym, ap, subst}
+use mathlib.Core.Path.{◌≡◌, refl, ◌∙◌, sym, ap}
 use mathlib.Core.Bool.{Bool, true, false, ◌&&◌}
-use mathlib.Core.List.{List, [], ◌∷◌, ◌++◌}
-use Prim.Native.Nat.{ℕ, suc, ◌+◌, ◌*◌, ◌-◌, ◌≤◌, ◌<◌}
+use mathlib.Core.List.{List, [], ◌∷◌}
+use Prim.Native.Nat.{ℕ, ◌+◌, ◌*◌, ◌-◌, ◌≤◌}
 use native.Mathlib.Omega.{arith}
 use lib.Dec.{ltb, eqb}
 use lib.ListN.{length, length-append}
 use borrow.Author.Tests.{eq-eqb, eqb-true, ltb-false}
 use Rattle.lex.specs.Bytes.{or}
 use Rattle.lex.specs.Kind.{same_bytes}
-use Rattle.lex.specs.Lex.{cut}
 use Rattle.lex.proofs.Laws.{false-true}
-use Rattle.tokens.specs.declared.TableCounts.{TableCounts}
-use Rattle.tokens.specs.declared.Cutting.{Cutting}
 use Rattle.tokens.specs.declared.Cutting.TheVariants as C
 use Rattle.lex.specs.Answer.{max_bytes}
 use Rattle.lex.specs.Cells.{zeros, padded}
-use Rattle.tokens.specs.Tables.{Outcome, token_table, error_table, counts_of, tabled, too_short, promised, is_cut}
+use Rattle.tokens.specs.Tables.{token_table, error_table, counts_of, tabled, too_short, promised, is_cut}
 use Rattle.tokens.proofs.Arrays.{zeros-length}
 use Rattle.tokens.proofs.Promised.{counts_fit, taken}
 

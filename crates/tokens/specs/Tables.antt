@@ -8,7 +8,6 @@ use Rattle.lex.specs.Kind.{same_bytes}
 use Rattle.lex.specs.Lex.{cut, tokens_of, Occurrence, faults_of}
 use Rattle.lex.specs.Refusals.{r_too_long, r_too_short}
 use Rattle.lex.specs.Spelling.{spelling_start}
-use Rattle.lex.specs.declared.diagnostic.Diagnostic.{Diagnostic}
 use Rattle.lex.specs.declared.tok.Token.{Token}
 use Rattle.tokens.specs.declared.TableCounts.{TableCounts}
 use Rattle.tokens.specs.declared.Cutting.{Cutting}

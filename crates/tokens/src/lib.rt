@@ -40,8 +40,14 @@ pub const ERROR_WIDTH: usize = 6;
 
 // Token record `n`.
 fn put_token(script: &[u8], tokens: &mut [u32], n: usize, t: Token)
-    requires { (token_width * n + token_width ≤ length tokens.old) × (length script.now ≤ max_bytes) × (t.start ≤ length script.now) × (t.len ≤ max_bytes) }
-    ensures { tokens.new ≡ take (token_width * n) tokens.old ++ token_record script.now t ++ drop (token_width * n + token_width) tokens.old }
+    requires { (token_width * n + token_width ≤ length tokens.old)
+        × (length script.now ≤ max_bytes)
+        × (t.start ≤ length script.now)
+        × (t.len ≤ max_bytes) }
+    ensures { tokens.new
+        ≡ take (token_width * n) tokens.old
+        ++ token_record script.now t
+        ++ drop (token_width * n + token_width) tokens.old }
 {
     let at = TOKEN_WIDTH * n;
     let start = t.start;
@@ -54,8 +60,14 @@ fn put_token(script: &[u8], tokens: &mut [u32], n: usize, t: Token)
 
 // Error record `n`, with so many tokens before it.
 fn put_error(errors: &mut [u32], n: usize, e: Fault, after: usize)
-    requires { (error_width * n + error_width ≤ length errors.old) × (e.start ≤ max_bytes) × (e.len ≤ max_bytes) × (after ≤ max_bytes) }
-    ensures { errors.new ≡ take (error_width * n) errors.old ++ error_record (record { after = after; diagnostic = diagnostic_of e }) ++ drop (error_width * n + error_width) errors.old }
+    requires { (error_width * n + error_width ≤ length errors.old)
+        × (e.start ≤ max_bytes)
+        × (e.len ≤ max_bytes)
+        × (after ≤ max_bytes) }
+    ensures { errors.new
+        ≡ take (error_width * n) errors.old
+        ++ error_record (record { after = after; diagnostic = diagnostic_of e })
+        ++ drop (error_width * n + error_width) errors.old }
 {
     let at = ERROR_WIDTH * n;
     errors[at] = e.number;
@@ -143,8 +155,7 @@ fn clear_from(a: &mut [u32], from: usize)
     }
 }
 
-// What stands at the position of a lexer. It holds a reference: so this function is thin, and
-// proved by hand.
+// What stands at the position of a lexer: it is taken apart, and the reader of one piece is called.
 fn step_of<'c, 'l>(classes: &'c [u8; 256], lexer: Lexer<'l>) -> Step
     requires { classes.now ≡ class_table }
     ensures { result ≡ step_at lexer.entry.input.now lexer.entry.pos }
@@ -160,7 +171,8 @@ fn step_at(classes: &[u8; 256], script: &[u8], pos: usize) -> Step
     step_of(classes, Lexer { input: script, pos })
 }
 
-// Where filling stopped: how many records it made, where it would go on, and whether the script has ended.
+// Where filling stopped: how many records it made, where it would go on, and whether the script has
+// ended.
 #[derive(Clone, Copy)]
 struct Stop {
     tokens: usize,
@@ -169,8 +181,8 @@ struct Stop {
     ended: bool,
 }
 
-// The records from a position on, which has so many tokens before it, at the front of both arrays, as far as there is room. It is the only loop over the lexer: so
-// the lexer is compiled into it.
+// The records from a position on, which has so many tokens before it, at the front of both arrays,
+// as far as there is room. It is the only loop over the lexer: so the lexer is compiled into it.
 fn fill(
     classes: &[u8; 256],
     script: &[u8],
@@ -179,7 +191,10 @@ fn fill(
     tokens: &mut [u32],
     errors: &mut [u32],
 ) -> Stop
-    requires { (classes.now ≡ class_table) × (length script.now ≤ max_bytes) × (from ≤ length script.now) × (before + length (tokens_of (cut_at script.now from)) ≤ max_bytes + 1) }
+    requires { (classes.now ≡ class_table)
+        × (length script.now ≤ max_bytes)
+        × (from ≤ length script.now)
+        × (before + length (tokens_of (cut_at script.now from)) ≤ max_bytes + 1) }
     ensures { Stops script.now from before tokens.new errors.new result }
 {
     let mut n: usize = 0;
@@ -239,10 +254,12 @@ fn fill(
     }
 }
 
-// Cuts a script into both tables, with zeros behind them. Refused, with nothing changed: 1 where the script has more than 65,536 bytes, then 2 where `tokens`
-// has fewer cells than 4 for each byte and 4 more, or `errors` than 6 for each byte.
+// Cuts a script into both tables, with zeros behind them. Refused, with nothing changed: 1 where the
+// script has more than 65,536 bytes, then 2 where `tokens` has fewer cells than 4 for each byte and
+// 4 more, or `errors` than 6 for each byte.
 pub fn cut(script: &[u8], tokens: &mut [u32], errors: &mut [u32]) -> Cutting
-    ensures { promised script.now tokens.old errors.old ≡ record { answer = result; tokens = tokens.new; errors = errors.new } }
+    ensures { promised script.now tokens.old errors.old
+        ≡ record { answer = result; tokens = tokens.new; errors = errors.new } }
 {
     if MAX_BYTES < script.len() {
         return Cutting::Refused(Refusal::TOO_LONG);
@@ -265,7 +282,8 @@ pub fn cut(script: &[u8], tokens: &mut [u32], errors: &mut [u32]) -> Cutting
 
 // ---- whether two arrays are these tables
 
-// Whether the first `n` cells of `a` stand in `b` from a place on. Here and below the loop has no early exit: so the compiled code compares many cells at once.
+// Whether the first `n` cells of `a` stand in `b` from a place on. Here and below the loop has no
+// early exit: so the compiled code compares many cells in one step.
 fn same_cells(a: &[u32], n: usize, b: &[u32], at: usize) -> bool
     requires { (n ≤ length a.now) × (at + n ≤ length b.now) }
     ensures { result ≡ same_bytes (take n (drop at b.now)) (take n a.now) }
@@ -293,7 +311,8 @@ fn is_zero_from(a: &[u32], from: usize) -> bool
     all
 }
 
-// Whether both arrays hold their tables and zeros behind: a part of the script is cut into `t` and `e`, and compared, one part after the other.
+// Whether both arrays hold their tables and zeros behind: a part of the script is cut into `t` and
+// `e`, and compared, one part after the other.
 fn agrees(
     classes: &[u8; 256],
     t: &mut [u32],
@@ -302,8 +321,15 @@ fn agrees(
     tokens: &[u32],
     errors: &[u32],
 ) -> bool
-    requires { (classes.now ≡ class_table) × (token_width ≤ length t.old) × (error_width ≤ length e.old) × (length script.now ≤ max_bytes) × (token_width * length script.now + token_width ≤ length tokens.now) × (error_width * length script.now ≤ length errors.now) }
-    ensures { result ≡ same_bytes tokens.now (padded (length tokens.now) (token_table script.now)) && same_bytes errors.now (padded (length errors.now) (error_table script.now)) }
+    requires { (classes.now ≡ class_table)
+        × (token_width ≤ length t.old)
+        × (error_width ≤ length e.old)
+        × (length script.now ≤ max_bytes)
+        × (token_width * length script.now + token_width ≤ length tokens.now)
+        × (error_width * length script.now ≤ length errors.now) }
+    ensures { result
+        ≡ same_bytes tokens.now (padded (length tokens.now) (token_table script.now))
+        && same_bytes errors.now (padded (length errors.now) (error_table script.now)) }
 {
     let mut n: usize = 0;
     let mut m: usize = 0;
@@ -328,7 +354,8 @@ fn agrees(
     }
 }
 
-// Whether both arrays are exactly what cutting this script leaves in them, zeros behind included. No where cutting is refused.
+// Whether both arrays are exactly what cutting this script leaves in them, zeros behind included. No
+// where cutting is refused.
 pub fn is_cut(script: &[u8], tokens: &[u32], errors: &[u32]) -> bool
     ensures { result ≡ is_cut script.now tokens.now errors.now }
 {

@@ -1,7 +1,7 @@
 -- `tokens::clear_from` meets its contract.
-use Rattle.std.proofs.Common.{arith, rules, refl, ap, ◌∙◌, List, ℕ, length}
+use Rattle.std.proofs.Common.{arith, refl, ap, ◌∙◌, List, ℕ}
 use lib.ListN.{length-set, set}
-use Rattle.tokens.proofs.Arrays.{cleared, cleared_start, cleared_turn, cleared_end}
+use Rattle.tokens.proofs.Arrays.{cleared_start, cleared_turn, cleared_end}
 use Rattle.tokens.proofs.clear_from.Goals as goal
 
 pub loop-i-init : goal.loop-i-init

@@ -1,5 +1,5 @@
 -- `tokens::is_zero_from` meets its contract.
-use Rattle.std.proofs.Common.{arith, rules, refl}
+use Rattle.std.proofs.Common.{arith, refl}
 use Rattle.tokens.proofs.Same.{zero_turn, zero_end}
 use Rattle.tokens.proofs.is_zero_from.Goals as goal
 

@@ -1,5 +1,5 @@
 -- `tokens::put_token` meets its contract.
-use Rattle.std.proofs.Common.{arith, rules, ◌∙◌, ap, List, [], ◌∷◌, ◌++◌, ℕ, ◌+◌, ◌*◌, take, drop}
+use Rattle.std.proofs.Common.{arith, ◌∙◌, ap, [], ◌∷◌, ◌++◌, ℕ, ◌+◌, ◌*◌, take, drop}
 use borrow.Author.Rules.{part_to_end}
 use Rattle.lex.specs.Spelling.{spelling_start}
 use Rattle.tokens.specs.Tables.{token_record}

@@ -1,5 +1,5 @@
 -- `tokens::same_cells` meets its contract.
-use Rattle.std.proofs.Common.{arith, rules}
+use Rattle.std.proofs.Common.{arith}
 use Rattle.tokens.proofs.Same.{cells-start, cells_turn, cells_end}
 use Rattle.tokens.proofs.same_cells.Goals as goal
 

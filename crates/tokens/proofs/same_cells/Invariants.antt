@@ -1,5 +1,5 @@
 -- The cells before `i` are the same where `all` says so.
-use Rattle.std.proofs.Common.{◌≡◌, ◌+◌, ◌-◌, ◌≤◌, ◌&&◌, length, take, drop}
+use Rattle.std.proofs.Common.{◌≡◌, ◌+◌, ◌-◌, ◌≤◌, ◌&&◌, take, drop}
 use Rattle.lex.specs.Kind.{same_bytes}
 use Rattle.tokens.proofs.same_cells.Given as goal
 

@@ -1,5 +1,5 @@
 -- The cycle of calls `write-list`, `write-member`.
-use Prim.Native.Nat.{ℕ, ◌*◌, ◌-◌}
+use Prim.Native.Nat.{ℕ, ◌*◌}
 use Rattle.ast.specs.Schema.{members_of}
 use Rattle.listing.proofs.EmitLaws.{depth, members-none, members-next, list_inside, list_outside, as_list, few-cells, few-before, as_member, as_token, token_is, number_is, run_is}
 use Rattle.listing.specs.Text.{gap, member, fields, tuple, tokens, ids, pairs, branch, extern_fn}

@@ -1,6 +1,5 @@
 -- `listing::lines::write_diagnostics` meets its contract.
 use native.Mathlib.Omega.{arith}
-use Prim.Native.Nat.{◌-◌}
 use Rattle.text.proofs.EmitLaws.{same_size}
 use Rattle.listing.proofs.EmitLaws.{members-none, members-next, members-all}
 use Rattle.listing.proofs.lines.write_diagnostics.Goals as goal

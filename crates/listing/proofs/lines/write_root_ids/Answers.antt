@@ -1,6 +1,5 @@
 -- `listing::lines::write_root_ids` meets its contract.
 use native.Mathlib.Omega.{arith}
-use Prim.Native.Nat.{◌-◌}
 use native.Mathlib.Nat.{add-zero}
 use Rattle.text.proofs.EmitLaws.{same_size}
 use Rattle.listing.proofs.EmitLaws.{members-none, members-next, members-all, number_is}
