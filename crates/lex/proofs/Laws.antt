@@ -11,8 +11,7 @@ use lib.ListN.{length, get_or, take, drop, length-take, length-drop, drop_of_len
 use lib.Seq.{drop-cons, drop-drop, get_or-drop}
 use lib.Dec.{leb, ltb, eqb, leb-zero, leb-suc-zero, leb-suc-suc}
 use borrow.Author.Tests.{lt-ltb, le-ltb, ltb-true, leb-true, eq-eqb, ne_eqb, eqb-false}
-use Rattle.lex.specs.declared.byte_search.Found.{Found}
-use Rattle.lex.specs.declared.byte_search.Found.TheVariants.{At, Nothing}
+use Rattle.std.specs.Prelude.{Option, Some, None}
 use Rattle.lex.specs.declared.utf8.Utf8State.{Utf8State}
 use Rattle.lex.specs.Bytes.{count_while, differs_from, is_plain, before, find_byte}
 use Rattle.lex.specs.Kind.{Keyword, k_ident, same_bytes, name_kind}
@@ -28,10 +27,10 @@ pub cases : {A : Type 0} (P : A → Type 0) {a b : A} (t : Bool) → (t ≡ true
 cases P true f g = f refl
 cases P false f g = g refl
 
-pub found-cases : {A : Type 0} (P : A → Type 0) {a : ℕ → A} {b : A} (f : Found) → ((i : ℕ) → f ≡ At i → P (a i)) → (f ≡ Nothing → P b)
-    → P (elim f as (λ (_ : Found). A) [ At i ↦ a i | Nothing ↦ b ])
-found-cases P (At i) f g = f i refl
-found-cases P Nothing f g = g refl
+pub found-cases : {A : Type 0} (P : A → Type 0) {a : ℕ → A} {b : A} (f : Option ℕ) → ((i : ℕ) → f ≡ Some i → P (a i)) → (f ≡ None → P b)
+    → P (elim f as (λ (_ : Option ℕ). A) [ Some i ↦ a i | None ↦ b ])
+found-cases P (Some i) f g = f i refl
+found-cases P None f g = g refl
 
 -- ---- tables that antt computes
 
@@ -163,18 +162,18 @@ plain_differs b x = go (ltb x 0x80)
 -- ---- what `find_byte` answers, by where the first `b` stands
 
 module _ (b : ℕ) (s : List ℕ) (i : ℕ) where
-  pub find_hit : i ≡ before b s → i < length s → At i ≡ find_byte b s
+  pub find_hit : i ≡ before b s → i < length s → Some i ≡ find_byte b s
   unfolding find_byte
-  find_hit e h = rw (← e, lt-ltb i (length s) h, find_byte) (ap At e)
+  find_hit e h = rw (← e, lt-ltb i (length s) h, find_byte) (ap Some e)
 
-  pub find_miss : i ≡ before b s → length s ≤ i → Nothing ≡ find_byte b s
+  pub find_miss : i ≡ before b s → length s ≤ i → None ≡ find_byte b s
   unfolding find_byte
   find_miss e h = rw (← e, le-ltb i (length s) h, find_byte)
 
-  pub found : find_byte b s ≡ At i → (i ≡ before b s) × (i < length s)
+  pub found : find_byte b s ≡ Some i → (i ≡ before b s) × (i < length s)
   unfolding find_byte
   found =
-      cases (λ (f : Found). f ≡ At i → (i ≡ before b s) × (i < length s)) (ltb (before b s) (length s))
+      cases (λ (f : Option ℕ). f ≡ Some i → (i ≡ before b s) × (i < length s)) (ltb (before b s) (length s))
       (λ q e. let n : before b s ≡ i = cc in (sym n, rw n at (ltb-true (before b s) (length s) q)))
       (λ q e. let z : ◌≡◌ {A = ℕ} 0 1 = cc in absurd (omega arith))
 
@@ -183,7 +182,7 @@ unfolding before
 before_le b s = run_le (differs_from b) s
 
 -- a byte that is found in a part of a list
-pub found_part : (b m a : ℕ) (s : List ℕ) (i : ℕ) → find_byte b (take m (drop a s)) ≡ At i → (i < m) × (a + i < length s)
+pub found_part : (b m a : ℕ) (s : List ℕ) (i : ℕ) → find_byte b (take m (drop a s)) ≡ Some i → (i < m) × (a + i < length s)
 found_part b m a s i e =
     let h = simp (length-take, length-drop) at (found b (take m (drop a s)) i e).1 in
     (omega arith, omega arith)
@@ -255,7 +254,7 @@ none_before A b (x ∷ xs) n =
     let r = none_before (A × (b ≡ x → ⊥)) b xs n in
     (r.0.0, rw (ne_eqb x b (λ e. r.0.1 (sym e)), count_while) (ap suc r.1))
 
-pub none_found : (b : ℕ) (xs : List ℕ) → NoneOf (Unit {0}) b xs → find_byte b xs ≡ Nothing
+pub none_found : (b : ℕ) (xs : List ℕ) → NoneOf (Unit {0}) b xs → find_byte b xs ≡ None
 none_found b xs n = sym (find_miss b xs (length xs) (sym (none_before (Unit {0}) b xs n).1) (omega arith))
 
 -- ---- a name, looked up by its first byte

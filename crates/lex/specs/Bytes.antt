@@ -1,7 +1,5 @@
 -- The classes of bytes, runs of bytes, and the first place of a byte.
-use Rattle.std.specs.Prelude.{Bool, true, false, not, ◌&&◌, List, [], ◌∷◌, ℕ, zero, suc, ◌+◌, leb, ltb, eqb, length}
-use Rattle.lex.specs.declared.byte_search.Found.{Found}
-use Rattle.lex.specs.declared.byte_search.Found.TheVariants.{At, Nothing}
+use Rattle.std.specs.Prelude.{Bool, true, false, not, ◌&&◌, List, [], ◌∷◌, ℕ, zero, suc, ◌+◌, leb, ltb, eqb, length, Option, Some, None}
 
 abbrev pub if : {A : Type 0} → Bool → A → A → A
 if true a b = a
@@ -85,5 +83,5 @@ unfoldable pub before : ℕ → List ℕ → ℕ
 before b bs = count_while (differs_from b) bs
 
 -- the place of the first `b`
-unfoldable pub find_byte : ℕ → List ℕ → Found
-find_byte b bs = elim (ltb (before b bs) (length bs)) [ true ↦ At (before b bs) | false ↦ Nothing ]
+unfoldable pub find_byte : ℕ → List ℕ → Option ℕ
+find_byte b bs = elim (ltb (before b bs) (length bs)) [ true ↦ Some (before b bs) | false ↦ None ]

@@ -5,13 +5,6 @@ ghost use Rattle.lex.specs.Bytes.{class_table, in_set, count_while, before, find
 
 use crate::class::{begins_number, continues_name, continues_number, is_digit, is_ident_cont};
 
-// What a search found.
-#[derive(Clone, Copy)]
-pub enum Found {
-    At(usize),
-    Nothing,
-}
-
 // The sets of bytes that a scan passes over.
 #[derive(Clone, Copy)]
 pub(crate) struct ByteSet(pub u8);
@@ -93,15 +86,11 @@ pub(crate) fn skip_byte(b: u8, bytes: &[u8], from: usize) -> usize
 }
 
 // The first place of `needle`.
-pub(crate) fn find_byte(needle: u8, haystack: &[u8]) -> Found
+pub(crate) fn find_byte(needle: u8, haystack: &[u8]) -> Option<usize>
     ensures { result ≡ find_byte needle haystack.now }
 {
     let i = skip_set(ByteSet::EXCEPT, needle, haystack, 0);
-    if i < haystack.len() {
-        Found::At(i)
-    } else {
-        Found::Nothing
-    }
+    if i < haystack.len() { Some(i) } else { None }
 }
 
 // How many bytes stand before the end of the first line.

@@ -17,7 +17,6 @@ ghost use Rattle.lex.specs.Lex.{leading_space, doc as doc_of, string as string_o
 ghost use Rattle.lex.specs.Lex.{number as number_of, name as name_of, symbol as symbol_of};
 ghost use Rattle.lex.specs.Lex.{piece as piece_of, step_at, next_at, is_prefix_sign};
 
-pub use byte_search::Found;
 use byte_search::{
     find_byte, line_end, peek, skip_byte, skip_digits, skip_ident_cont, skip_num_cont, skip_plain,
 };
@@ -186,7 +185,7 @@ fn string(classes: &[u8; 256], rest: &[u8]) -> Piece
             taken: plain + 2,
         };
     }
-    let Found::At(n) = find_byte(b'"', rest) else {
+    let Some(n) = find_byte(b'"', rest) else {
         let line = line_end(rest) + 1;
         return Piece::Fault {
             number: Diagnostic::UNTERMINATED_STRING,

@@ -5,7 +5,6 @@ ghost use Rattle.lex.specs.Kind.{punctuator_kind, fixed_spelling};
 ghost use Rattle.lex.specs.Spelling.{spelling_offset, spelling as spelling_of};
 ghost use Rattle.lex.specs.Spelling.{well_formed, as_str_length};
 
-use crate::byte_search::Found;
 use crate::leading_space;
 
 // A token: its kind, where it starts and how long its spelling is.
@@ -294,29 +293,29 @@ pub fn spelling_offset(kind: u32, rest: &[u8]) -> usize
 }
 
 // Where the spelling of any token begins, if its kind has one and it lies within the script.
-pub fn spelling(script: &[u8], t: Token) -> Found
+pub fn spelling(script: &[u8], t: Token) -> Option<usize>
     ensures { result ≡ spelling_of script.now t }
 {
     let kind = t.kind;
     let start = t.start;
     if kind < Type::S {
-        return Found::Nothing;
+        return None;
     }
     if Type::DOC < kind {
-        return Found::Nothing;
+        return None;
     }
     if script.len() < start {
-        return Found::Nothing;
+        return None;
     }
     let offset = spelling_offset(kind, &script[start..]);
     let left = script.len() - start;
     if left < offset {
-        return Found::Nothing;
+        return None;
     }
     if left - offset < t.len {
-        return Found::Nothing;
+        return None;
     }
-    Found::At(start + offset)
+    Some(start + offset)
 }
 
 // The kind is known, and a spelling from the script lies in it. A known kind has one of these, or a fixed one.
@@ -324,8 +323,8 @@ pub fn well_formed(script: &[u8], t: Token) -> bool
     ensures { result ≡ well_formed script.now t }
 {
     match spelling(script, t) {
-        Found::At(_) => true,
-        Found::Nothing => 0 < Type::spelling_len(t.kind),
+        Some(_) => true,
+        None => 0 < Type::spelling_len(t.kind),
     }
 }
 

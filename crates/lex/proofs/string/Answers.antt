@@ -25,21 +25,21 @@ unfolding string
 returns-in_default c = rw (sym c.find_byte.ensures ∙ c.in_default.is, c.line_end-line.ensures, string)
 
 pub slice_bounds-is_utf8-end : goal.slice_bounds-is_utf8-end
-slice_bounds-is_utf8-end c = sym (length-take-le _ c.args.rest.now (omega (arith, (found _ c.args.rest.now _ (sym c.find_byte.ensures ∙ c.in-At.is)).1)))
+slice_bounds-is_utf8-end c = sym (length-take-le _ c.args.rest.now (omega (arith, (found _ c.args.rest.now _ (sym c.find_byte.ensures ∙ c.in-Some.is)).1)))
 
 pub overflow_add-result-then-is_utf8 : goal.overflow_add-result-then-is_utf8
-overflow_add-result-then-is_utf8 c = omega (arith, (found _ c.args.rest.now _ (sym c.find_byte.ensures ∙ c.in-At.is)).1)
+overflow_add-result-then-is_utf8 c = omega (arith, (found _ c.args.rest.now _ (sym c.find_byte.ensures ∙ c.in-Some.is)).1)
 
 pub overflow_add-result-else-is_utf8 : goal.overflow_add-result-else-is_utf8
-overflow_add-result-else-is_utf8 c = omega (arith, (found _ c.args.rest.now _ (sym c.find_byte.ensures ∙ c.in-At.is)).1)
+overflow_add-result-else-is_utf8 c = omega (arith, (found _ c.args.rest.now _ (sym c.find_byte.ensures ∙ c.in-Some.is)).1)
 
 pub overflow_add-result-else-is_utf8-2 : goal.overflow_add-result-else-is_utf8-2
-overflow_add-result-else-is_utf8-2 c = omega (arith, (found _ c.args.rest.now _ (sym c.find_byte.ensures ∙ c.in-At.is)).1)
+overflow_add-result-else-is_utf8-2 c = omega (arith, (found _ c.args.rest.now _ (sym c.find_byte.ensures ∙ c.in-Some.is)).1)
 
 pub returns-then-is_utf8 : goal.returns-then-is_utf8
 unfolding string
-returns-then-is_utf8 c = rw (sym c.find_byte.ensures ∙ c.in-At.is, sym c.is_utf8.ensures ∙ c.if-is_utf8.true, string)
+returns-then-is_utf8 c = rw (sym c.find_byte.ensures ∙ c.in-Some.is, sym c.is_utf8.ensures ∙ c.if-is_utf8.true, string)
 
 pub returns-else-is_utf8 : goal.returns-else-is_utf8
 unfolding string
-returns-else-is_utf8 c = rw (sym c.find_byte.ensures ∙ c.in-At.is, sym c.is_utf8.ensures ∙ c.if-is_utf8.false, string)
+returns-else-is_utf8 c = rw (sym c.find_byte.ensures ∙ c.in-Some.is, sym c.is_utf8.ensures ∙ c.if-is_utf8.false, string)
