@@ -6,13 +6,10 @@ ghost use Rattle.std.specs.Prelude.{[], ◌∷◌};
 ghost use Rattle.text.specs.Text.{number};
 ghost use Rattle.text.specs.Emit.{Writes};
 
-// How a call ends that writes a text into a lent buffer: the text's length in bytes, or the number
-// of the refusal.
-#[derive(Clone, Copy)]
-pub enum Writing {
-    Written(usize),
-    Refused(u32),
-}
+use lex::Refusal;
+
+// How a call ends that writes a text into a lent buffer: with the text's length in bytes.
+pub type Writing = Result<usize, Refusal>;
 
 // The last position: counting stops there.
 pub const LAST: usize = usize::MAX;
