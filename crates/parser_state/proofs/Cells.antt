@@ -101,7 +101,7 @@ types-room {types} {c} {k} {arena} {docs} h =
 abbrev pub type_made : Used → Used
 type_made u = record { nodes = u.nodes; values = u.values; types = u.types + 1; docs = u.docs; cells = u.cells; scratch = u.scratch }
 
-type-made : (tokens nodes types types' lists cells : List ℕ) (p : Parser) (t : TypeExpr) → is_going p.status ≡ true → cells ≡ type_cells t → types' ≡ paste types (type_width * p.used.types) cells (length cells)
+type-made : (tokens nodes types types' lists cells : List ℕ) (p : Parser) (t : TypeExpr) → is_going p.error ≡ true → cells ≡ type_cells t → types' ≡ paste types (type_width * p.used.types) cells (length cells)
     → Refines tokens 1 0 (push_type t) (λ i. i ≡ record { 0 = p.used.types }) stack_unchanged 0 0 0 (code nodes types lists p) (code nodes types' lists (with_used p (type_made p.used)))
 unfolding push_type with_arena
 type-made tokens nodes types types' lists cells p t g w e = record {
@@ -143,7 +143,7 @@ type-made tokens nodes types types' lists cells p t g w e = record {
       );
 }
 
-pub making : (tokens nodes types types' lists cells : List ℕ) {p q : Parser} {u : Used} (t : TypeExpr) → is_going p.status ≡ true → cells ≡ type_cells t → u ≡ p.used → q ≡ with_used p (type_made u) → types' ≡ paste types (type_width * u.types) cells (length cells)
+pub making : (tokens nodes types types' lists cells : List ℕ) {p q : Parser} {u : Used} (t : TypeExpr) → is_going p.error ≡ true → cells ≡ type_cells t → u ≡ p.used → q ≡ with_used p (type_made u) → types' ≡ paste types (type_width * u.types) cells (length cells)
     → Refines tokens 1 0 (push_type t) (λ i. i ≡ record { 0 = u.types }) stack_unchanged 0 0 0 (code nodes types lists p) (code nodes types' lists q)
 making tokens nodes types types' lists cells {p} t g w e f = through_used p type_made
     (λ (u : Used) (q : Parser). types' ≡ paste types (type_width * u.types) cells (length cells) → Refines tokens 1 0 (push_type t) (λ i. i ≡ record { 0 = u.types }) stack_unchanged 0 0 0 (code nodes types lists p) (code nodes types' lists q))
@@ -181,7 +181,7 @@ pub nodes-room : {nodes : List ℕ} {c v : ℕ} {arena : List Node} {given : ℕ
 nodes-room {nodes} {c} {v} {arena} {given} h =
     omega (arith, h.counted, nodes-length arena, ap length h.laid ∙ length-append (flatten (map node_cells arena)) _, length-append h.between [])
 
-node_made_lem : (tokens nodes nodes' types lists cells : List ℕ) (p : Parser) (f : ℕ → Node) (more rooms : ℕ) → 1 + more ≤ 40000 * rooms → is_going p.status ≡ true → cells ≡ node_cells (f p.used.values) → nodes' ≡ paste nodes (node_width * p.used.nodes) cells (length cells)
+node_made_lem : (tokens nodes nodes' types lists cells : List ℕ) (p : Parser) (f : ℕ → Node) (more rooms : ℕ) → 1 + more ≤ 40000 * rooms → is_going p.error ≡ true → cells ≡ node_cells (f p.used.values) → nodes' ≡ paste nodes (node_width * p.used.nodes) cells (length cells)
     → Refines tokens rooms 0 (push_node_and more f) (λ i. i ≡ record { 0 = p.used.nodes }) stack_unchanged 0 0 0 (code nodes types lists p) (code nodes' types lists (with_used p (node_made p.used more)))
 unfolding push_node_and with_arena
 node_made_lem tokens nodes nodes' types lists cells p f more rooms few g w e = record {
@@ -225,7 +225,7 @@ node_made_lem tokens nodes nodes' types lists cells p f more rooms few g w e = r
       );
 }
 
-pub node_making : (tokens nodes nodes' types lists cells : List ℕ) {p q : Parser} {u : Used} (f : ℕ → Node) (more rooms : ℕ) → 1 + more ≤ 40000 * rooms → is_going p.status ≡ true → cells ≡ node_cells (f p.used.values) → u ≡ p.used
+pub node_making : (tokens nodes nodes' types lists cells : List ℕ) {p q : Parser} {u : Used} (f : ℕ → Node) (more rooms : ℕ) → 1 + more ≤ 40000 * rooms → is_going p.error ≡ true → cells ≡ node_cells (f p.used.values) → u ≡ p.used
     → q ≡ with_used p (node_made u more) → nodes' ≡ paste nodes (node_width * u.nodes) cells (length cells)
     → Refines tokens rooms 0 (push_node_and more f) (λ i. i ≡ record { 0 = u.nodes }) stack_unchanged 0 0 0 (code nodes types lists p) (code nodes' types lists q)
 node_making tokens nodes nodes' types lists cells {p} f more rooms few g w e h = through_used p (λ (u : Used). node_made u more)
@@ -235,7 +235,7 @@ node_making tokens nodes nodes' types lists cells {p} f more rooms few g w e h =
 -- ---- room for a node
 
 pub record Room (len : ℕ) (p : Parser) : Type 0 where
-  pub going : is_going p.status ≡ true
+  pub going : is_going p.error ≡ true
   pub records : p.used.nodes < max_bytes
   pub cells : node_width * p.used.nodes + node_width ≤ len
   pub values : p.used.values < 4000000000
@@ -243,7 +243,7 @@ pub record Room (len : ℕ) (p : Parser) : Type 0 where
 pub room : (len : ℕ) (p : Parser) → has_room len p ≡ true → Room len p
 unfolding has_room
 room len p e =
-    let a = and_both (is_going p.status) (ltb p.used.nodes max_bytes && (leb (node_width * p.used.nodes + node_width) len && ltb p.used.values 4000000000)) e in
+    let a = and_both (is_going p.error) (ltb p.used.nodes max_bytes && (leb (node_width * p.used.nodes + node_width) len && ltb p.used.values 4000000000)) e in
     let b = and_both (ltb p.used.nodes max_bytes) (leb (node_width * p.used.nodes + node_width) len && ltb p.used.values 4000000000) a.1 in
     let c = and_both (leb (node_width * p.used.nodes + node_width) len) (ltb p.used.values 4000000000) b.1 in
     record { going = a.0; records = ltb-true _ _ b.0; cells = leb-true _ _ c.0; values = ltb-true _ _ c.1 }
@@ -252,7 +252,7 @@ room len p e =
 pub no_room : (tokens nodes types lists : List ℕ) (p : Parser) (f : ℕ → Node) (more rooms : ℕ) {Q : NodeId → Type 0} → 1 + more ≤ 40000 * rooms → has_room (length nodes) p ≡ false
     → Refines tokens rooms 0 (push_node_and more f) Q stack_unchanged 0 0 0 (code nodes types lists p) (code nodes types lists p)
 unfolding has_room
-no_room tokens nodes types lists p f more rooms few e = either (is_going p.status)
+no_room tokens nodes types lists p f more rooms few e = either (is_going p.error)
     (λ g. full (λ R L stack m h.
     let a : p.used.nodes < max_bytes = omega (arith, h.credit.records, h.lent.small, left-some h) in
     let b : node_width * p.used.nodes + node_width ≤ length nodes = omega (arith, h.credit.records, h.lent.nodes, left-some h) in
@@ -271,7 +271,7 @@ lists-room {lists} {c} {k} {cells} {stack} h =
     omega (arith, h.counted, h.stacked, ap length h.laid ∙ length-append cells _, length-append h.between (reverse stack), length-reverse stack)
 
 -- cells that are written the last first before those are pushed
-cells-pushed : (tokens nodes types lists lists' vs : List ℕ) (p : Parser) → is_going p.status ≡ true → lists' ≡ paste lists (length lists - (p.used.scratch + length vs)) vs (length vs)
+cells-pushed : (tokens nodes types lists lists' vs : List ℕ) (p : Parser) → is_going p.error ≡ true → lists' ≡ paste lists (length lists - (p.used.scratch + length vs)) vs (length vs)
     → Pushes tokens (2 * length vs) (reverse vs) (code nodes types lists p) (code nodes types lists' (with_used p (pushed p.used (length vs))))
 unfolding pure
 cells-pushed tokens nodes types lists lists' vs p g e = record {
@@ -314,7 +314,7 @@ cells-pushed tokens nodes types lists lists' vs p g e = record {
       );
 }
 
-pub pushing : (tokens nodes types lists lists' vs : List ℕ) {p q : Parser} {u : Used} → is_going p.status ≡ true → u ≡ p.used → q ≡ with_used p (pushed u (length vs)) → lists' ≡ paste lists (length lists - (u.scratch + length vs)) vs (length vs)
+pub pushing : (tokens nodes types lists lists' vs : List ℕ) {p q : Parser} {u : Used} → is_going p.error ≡ true → u ≡ p.used → q ≡ with_used p (pushed u (length vs)) → lists' ≡ paste lists (length lists - (u.scratch + length vs)) vs (length vs)
     → Pushes tokens (2 * length vs) (reverse vs) (code nodes types lists p) (code nodes types lists' q)
 pushing tokens nodes types lists lists' vs {p} g e f = through_used p (λ (u : Used). pushed u (length vs))
     (λ (u : Used) (q : Parser). lists' ≡ paste lists (length lists - (u.scratch + length vs)) vs (length vs) → Pushes tokens (2 * length vs) (reverse vs) (code nodes types lists p) (code nodes types lists' q))
@@ -341,7 +341,7 @@ moved_list between top base n scratch e k fits =
     let w : n ≡ length top = sym e in
     ap (λ (l : List ℕ). paste part 0 l n) cells ∙ rw w (laid-over [] top between (reverse top ++ base) 0 refl (omega arith))
 
-list-made : (tokens nodes types lists lists' : List ℕ) (p : Parser) (mark members : ℕ) → is_going p.status ≡ true → lists' ≡ take p.used.cells lists ++ moved (drop p.used.cells lists) (p.used.scratch - mark) p.used.scratch
+list-made : (tokens nodes types lists lists' : List ℕ) (p : Parser) (mark members : ℕ) → is_going p.error ≡ true → lists' ≡ take p.used.cells lists ++ moved (drop p.used.cells lists) (p.used.scratch - mark) p.used.scratch
     → Lists tokens alloc_slice (record { start = p.used.cells; len = members }) 0 0 0 mark members (code nodes types lists p) (code nodes types lists' (with_used p (finished p.used mark)))
 unfolding alloc_slice with_arena
 list-made tokens nodes types lists lists' p mark members g e = record {
@@ -393,7 +393,7 @@ list-made tokens nodes types lists lists' p mark members g e = record {
       );
 }
 
-pub allocating : (tokens nodes types lists lists' : List ℕ) {p q : Parser} {u : Used} (mark members : ℕ) → is_going p.status ≡ true → u ≡ p.used → q ≡ with_used p (finished u mark) → lists' ≡ take u.cells lists ++ moved (drop u.cells lists) (u.scratch - mark) u.scratch
+pub allocating : (tokens nodes types lists lists' : List ℕ) {p q : Parser} {u : Used} (mark members : ℕ) → is_going p.error ≡ true → u ≡ p.used → q ≡ with_used p (finished u mark) → lists' ≡ take u.cells lists ++ moved (drop u.cells lists) (u.scratch - mark) u.scratch
     → Lists tokens alloc_slice (record { start = u.cells; len = members }) 0 0 0 mark members (code nodes types lists p) (code nodes types lists' q)
 allocating tokens nodes types lists lists' {p} mark members g e f = through_used p (λ (u : Used). finished u mark)
     (λ (u : Used) (q : Parser). lists' ≡ take u.cells lists ++ moved (drop u.cells lists) (u.scratch - mark) u.scratch → Lists tokens alloc_slice (record { start = u.cells; len = members }) 0 0 0 mark members (code nodes types lists p) (code nodes types lists' q))

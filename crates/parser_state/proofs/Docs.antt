@@ -40,7 +40,7 @@ near-snoc : (ds : List Token) (d : Token) → AllNear ds → Near d → AllNear 
 near-snoc [] d h e = (e, tt)
 near-snoc (x ∷ ds) d h e = (h.0, near-snoc ds d h.1 e)
 
-doc_kept_lem : (tokens nodes types types' lists : List ℕ) (p : Parser) (i n : ℕ) (t : Entry) → is_going p.status ≡ true → token_of t ≡ token_at tokens i
+doc_kept_lem : (tokens nodes types types' lists : List ℕ) (p : Parser) (i n : ℕ) (t : Entry) → is_going p.error ≡ true → token_of t ≡ token_at tokens i
     → types' ≡ paste types (length types - (3 * p.used.docs + 3)) (t.len ∷ t.start ∷ t.kind ∷ []) 3
     → Refines tokens 1 3 (keep_doc n (token_at tokens i)) (λ c. c ≡ continue n) stack_unchanged 0 0 0 (code nodes types lists p) (code nodes types' lists (with_used p (doc_kept p.used)))
 unfolding with_docs
@@ -90,7 +90,7 @@ doc_kept_lem tokens nodes types types' lists p i n t g named e = record {
       );
 }
 
-pub keeping : (tokens nodes types types' lists : List ℕ) {p q : Parser} {u : Used} (i n : ℕ) (t : Entry) → is_going p.status ≡ true → token_of t ≡ token_at tokens i → u ≡ p.used
+pub keeping : (tokens nodes types types' lists : List ℕ) {p q : Parser} {u : Used} (i n : ℕ) (t : Entry) → is_going p.error ≡ true → token_of t ≡ token_at tokens i → u ≡ p.used
     → q ≡ with_used p (doc_kept u) → types' ≡ paste types (length types - (3 * u.docs + 3)) (t.len ∷ t.start ∷ t.kind ∷ []) 3
     → Refines tokens 1 3 (keep_doc n (token_at tokens i)) (λ c. c ≡ continue n) stack_unchanged 0 0 0 (code nodes types lists p) (code nodes types' lists q)
 keeping tokens nodes types types' lists {p} i n t g w e f = through_used p doc_kept
@@ -106,7 +106,7 @@ docs_taken u = record { nodes = u.nodes; values = u.values; types = u.types; doc
 abbrev pub docs_moved : List ℕ → List ℕ → ℕ → ℕ → List ℕ
 docs_moved types lists at n = paste lists at (reverse (drop (length types - n) types)) n
 
-docs-taken : (tokens nodes types lists lists' : List ℕ) (p : Parser) → is_going p.status ≡ true → lists' ≡ docs_moved types lists p.used.cells (3 * p.used.docs)
+docs-taken : (tokens nodes types lists lists' : List ℕ) (p : Parser) → is_going p.error ≡ true → lists' ≡ docs_moved types lists p.used.cells (3 * p.used.docs)
     → Refines tokens 0 0 take_docs (λ t. t ≡ record { start = p.used.cells; len = p.used.docs }) stack_unchanged 0 0 0 (code nodes types lists p) (code nodes types lists' (with_used p (docs_taken p.used)))
 unfolding take_docs with_docs alloc_slice with_arena flatten
 docs-taken tokens nodes types lists lists' p g e = record {
@@ -165,7 +165,7 @@ docs-taken tokens nodes types lists lists' p g e = record {
       );
 }
 
-pub attaching : (tokens nodes types lists lists' : List ℕ) {p q : Parser} {u : Used} → is_going p.status ≡ true → u ≡ p.used → q ≡ with_used p (docs_taken u) → lists' ≡ docs_moved types lists u.cells (3 * u.docs)
+pub attaching : (tokens nodes types lists lists' : List ℕ) {p q : Parser} {u : Used} → is_going p.error ≡ true → u ≡ p.used → q ≡ with_used p (docs_taken u) → lists' ≡ docs_moved types lists u.cells (3 * u.docs)
     → Refines tokens 0 0 take_docs (λ t. t ≡ record { start = u.cells; len = u.docs }) stack_unchanged 0 0 0 (code nodes types lists p) (code nodes types lists' q)
 attaching tokens nodes types lists lists' {p} g e f = through_used p docs_taken
     (λ (u : Used) (q : Parser). lists' ≡ docs_moved types lists u.cells (3 * u.docs) → Refines tokens 0 0 take_docs (λ t. t ≡ record { start = u.cells; len = u.docs }) stack_unchanged 0 0 0 (code nodes types lists p) (code nodes types lists' q))
@@ -230,7 +230,7 @@ docs-none tokens nodes types lists p e = record {
     go R L stack m h [] n = (refl, h)
     go R L stack m h (d ∷ ds) n = absurd (omega arith)
 
-docs_bad : (tokens nodes types lists : List ℕ) (p : Parser) (number at : ℕ) → is_going p.status ≡ true → (p.used.docs ≡ 0 → ⊥)
+docs_bad : (tokens nodes types lists : List ℕ) (p : Parser) (number at : ℕ) → is_going p.error ≡ true → (p.used.docs ≡ 0 → ⊥)
     → (eqb p.cur.kind k_eof ≡ true → (number ≡ 13) × (at ≡ length types - 3 * p.used.docs)) → (eqb p.cur.kind k_eof ≡ false → (number ≡ 14) × (at ≡ length types - 3))
     → Refines tokens 0 0 no_docs_wait (λ n. n ≡ 0) stack_unchanged 0 0 0 (code nodes types lists p) (code nodes types lists (failed p (at_entry number 0 (token_of (doc_at types at)))))
 unfolding no_docs_wait require_no_docs pure by_docs
@@ -262,7 +262,7 @@ docs_bad tokens nodes types lists p number at g waits at_eof elsewhere = record 
         (λ f. subst (Ends {A = ℕ} tokens (λ n. n ≡ 0) stack_unchanged after R L 0 0 stack) (sym (if_kind_is_no k_eof (λ t. err (at_token 13 0 (last_of d ds)) t) (λ t. err (at_token 14 0 d) t) m (rw kind f)))
         (failing_at _ _ (named 14 d (elsewhere f).0 (ap (λ (k : ℕ). token_of (doc_at types k)) (elsewhere f).1 ∙ first-doc types front d ds e) near.0) h₀))
 
-pub docs-fail : (tokens nodes types lists : List ℕ) (p r : Parser) (number at : ℕ) (d : Entry) → d ≡ doc_at types at → r ≡ failed p (at_entry number 0 (token_of d)) → is_going p.status ≡ true → (p.used.docs ≡ 0 → ⊥)
+pub docs-fail : (tokens nodes types lists : List ℕ) (p r : Parser) (number at : ℕ) (d : Entry) → d ≡ doc_at types at → r ≡ failed p (at_entry number 0 (token_of d)) → is_going p.error ≡ true → (p.used.docs ≡ 0 → ⊥)
     → (eqb p.cur.kind k_eof ≡ true → (number ≡ 13) × (at ≡ length types - 3 * p.used.docs)) → (eqb p.cur.kind k_eof ≡ false → (number ≡ 14) × (at ≡ length types - 3))
     → Refines tokens 0 0 no_docs_wait (λ n. n ≡ 0) stack_unchanged 0 0 0 (code nodes types lists p) (code nodes types lists r)
 docs-fail tokens nodes types lists p r number at d e f g waits at_eof elsewhere =

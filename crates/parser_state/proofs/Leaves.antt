@@ -84,7 +84,7 @@ rest_from tokens c t at = go (eqb t.kind k_eof)
 
 module _ (tokens : List ℕ) (p : Parser) (t : Entry) where
   -- the token of the next record
-  pub taking : is_going p.status ≡ true → (p.cur.kind ≡ k_eof → ⊥) → token_of t ≡ token_at tokens (p.at + 1) → Takes tokens advance p (with_token p t (p.at + 1))
+  pub taking : is_going p.error ≡ true → (p.cur.kind ≡ k_eof → ⊥) → token_of t ≡ token_at tokens (p.at + 1) → Takes tokens advance p (with_token p t (p.at + 1))
   unfolding advance
   taking g k e nodes types lists = record {
     sticky = λ f. absurd (true≢false g f);
@@ -121,7 +121,7 @@ module _ (tokens : List ℕ) (p : Parser) (t : Entry) where
       more = from_more tokens (token_of p.cur) p.at (ne_eqb p.cur.kind k_eof k) ∙ ap (λ (ts : List Token). token_of p.cur ∷ ts) (ap (tokens_from tokens) {x = suc p.at} {y = p.at + 1} (omega arith) ∙ from_at tokens (p.at + 1) ∙ ap (λ (u : Token). from tokens u (p.at + 1)) (sym e))
 
 -- no script has so many tokens
-pub taking_past : (tokens : List ℕ) (p : Parser) (start len : ℕ) → is_going p.status ≡ true → (p.cur.kind ≡ k_eof → ⊥) → max_bytes ≤ p.at → Takes tokens advance p (with_token p (record { kind = k_eof; start = start; len = len }) p.at)
+pub taking_past : (tokens : List ℕ) (p : Parser) (start len : ℕ) → is_going p.error ≡ true → (p.cur.kind ≡ k_eof → ⊥) → max_bytes ≤ p.at → Takes tokens advance p (with_token p (record { kind = k_eof; start = start; len = len }) p.at)
 unfolding from
 taking_past tokens p start len g k z nodes types lists = record {
   sticky = λ f. absurd (true≢false g f);
@@ -158,9 +158,9 @@ failing_at e e' w h = record {
 }
 
 module _ (tokens nodes types lists : List ℕ) (p q : Parser) (number wanted : ℕ) (t : Entry) (named : t ≡ p.cur) where
-  pub failing : (is_going p.status ≡ true → q ≡ failed p (at_entry number wanted (token_of t))) → (is_going p.status ≡ false → q ≡ p)
+  pub failing : (is_going p.error ≡ true → q ≡ failed p (at_entry number wanted (token_of t))) → (is_going p.error ≡ false → q ≡ p)
       → Refuses tokens number wanted (code nodes types lists p) (code nodes types lists q)
-  failing f g = either (is_going p.status)
+  failing f g = either (is_going p.error)
       (λ e. subst (λ (r : Parser). Refuses tokens number wanted (code nodes types lists p) (code nodes types lists r)) (sym (f e)) (record {
         sticky = λ z. absurd (true≢false e z);
         monotone = omega arith;
@@ -174,10 +174,10 @@ module _ (tokens nodes types lists : List ℕ) (p q : Parser) (number wanted : �
       (record { sticky = λ z. refl; monotone = omega arith; fails = e; simulates = λ R L stack m h. absurd (true≢false (represents_going h) e) }))
 
 module _ {A : Type 0} {Q : A → Type 0} {d r' l' : ℕ} (tokens nodes types lists : List ℕ) (p q : Parser) (number i : ℕ) (t : Entry) (named : token_of t ≡ token_at tokens i) where
-  pub failing_before : (is_going p.status ≡ true → q ≡ failed p (at_entry number 0 (token_of t))) → (is_going p.status ≡ false → q ≡ p)
+  pub failing_before : (is_going p.error ≡ true → q ≡ failed p (at_entry number 0 (token_of t))) → (is_going p.error ≡ false → q ≡ p)
       → Refines {A = A} tokens 0 0 (fail_at number (token_at tokens i)) Q stack_unchanged d r' l' (code nodes types lists p) (code nodes types lists q)
   unfolding fail_at
-  failing_before f g = either (is_going p.status)
+  failing_before f g = either (is_going p.error)
       (λ e. subst (λ (r : Parser). Refines {A = A} tokens 0 0 (fail_at number (token_at tokens i)) Q stack_unchanged d r' l' (code nodes types lists p) (code nodes types lists r)) (sym (f e)) (record {
         sticky = λ z. absurd (true≢false e z);
         monotone = omega arith;

@@ -87,16 +87,16 @@ no-member_when true f p q = absurd (true≢false refl q)
 no-member_when false f p q = not-false f p
 
 module _ (p : Parser) (stop : ℕ) where
-  pub member-going : member_follows p stop ≡ true → is_going p.status ≡ true
-  member-going e = (member_when (is_going p.status) (eqb p.cur.kind k_eof) (eqb p.cur.kind stop) e).0
+  pub member-going : member_follows p stop ≡ true → is_going p.error ≡ true
+  member-going e = (member_when (is_going p.error) (eqb p.cur.kind k_eof) (eqb p.cur.kind stop) e).0
 
   pub member-eof : member_follows p stop ≡ true → eqb p.cur.kind k_eof ≡ false
-  member-eof e = (member_when (is_going p.status) (eqb p.cur.kind k_eof) (eqb p.cur.kind stop) e).1
+  member-eof e = (member_when (is_going p.error) (eqb p.cur.kind k_eof) (eqb p.cur.kind stop) e).1
 
   pub member_stop : member_follows p stop ≡ true → eqb p.cur.kind stop ≡ false
-  member_stop e = (member_when (is_going p.status) (eqb p.cur.kind k_eof) (eqb p.cur.kind stop) e).2
+  member_stop e = (member_when (is_going p.error) (eqb p.cur.kind k_eof) (eqb p.cur.kind stop) e).2
 
-  pub no_member : is_going p.status ≡ true → member_follows p stop ≡ false → eqb p.cur.kind k_eof ≡ false → eqb p.cur.kind stop ≡ true
+  pub no_member : is_going p.error ≡ true → member_follows p stop ≡ false → eqb p.cur.kind k_eof ≡ false → eqb p.cur.kind stop ≡ true
   no_member g e f = no-member_when (eqb p.cur.kind k_eof) (eqb p.cur.kind stop) (subst (λ (b : Bool). follows_by b (eqb p.cur.kind k_eof) (eqb p.cur.kind stop) ≡ false) g e) f
 
 -- a turn lowers the measure

@@ -212,14 +212,14 @@ lighter {tokens = tokens} {s = s} {s'} g p = either (going s') (λ g'. rw (g, g'
 -- ---- the test of such a loop
 
 module _ (p : Parser) where
-  pub doc-going : doc_follows p ≡ true → is_going p.status ≡ true
+  pub doc-going : doc_follows p ≡ true → is_going p.error ≡ true
   unfolding doc_follows
-  doc-going e = (and_both (is_going p.status) (eqb p.cur.kind k_doc) e).0
+  doc-going e = (and_both (is_going p.error) (eqb p.cur.kind k_doc) e).0
 
   pub doc-kind : doc_follows p ≡ true → p.cur.kind ≡ k_doc
   unfolding doc_follows
-  doc-kind e = eqb-true _ _ (and_both (is_going p.status) (eqb p.cur.kind k_doc) e).1
+  doc-kind e = eqb-true _ _ (and_both (is_going p.error) (eqb p.cur.kind k_doc) e).1
 
-  pub no-doc : is_going p.status ≡ true → doc_follows p ≡ false → eqb p.cur.kind k_doc ≡ false
+  pub no-doc : is_going p.error ≡ true → doc_follows p ≡ false → eqb p.cur.kind k_doc ≡ false
   unfolding doc_follows
   no-doc g e = subst (λ (b : Bool). (b && eqb p.cur.kind k_doc) ≡ false) g e

@@ -15,7 +15,7 @@ use Rattle.rules.specs.Rules.{readers, stage_one, require_no_docs}
 use Rattle.ast.specs.declared.Run.{Run}
 use Rattle.ast.specs.declared.NodeId.{NodeId}
 use Rattle.ast.specs.declared.TypeExprId.{TypeExprId}
-use Rattle.parser_state.specs.Represents.{Failed, with_status, Code, code, going, ahead, Represents, FailedAt, is_going}
+use Rattle.parser_state.specs.Represents.{Failed, with_error, Code, code, going, ahead, Represents, FailedAt, is_going}
 use Rattle.parser_state.specs.declared.Parser.{Parser}
 
 -- a set of rules: the powers of the signs, and the script whose signs they are
@@ -111,7 +111,7 @@ no_docs_wait = require_no_docs (pure 0)
 
 -- a parser that has failed
 abbrev pub failed : Parser → Diagnostic → Parser
-failed p e = with_status p (Failed e)
+failed p e = with_error p (Failed e)
 
 -- an error at a token that the code has: the start of its span has 32 bits
 unfoldable pub at_entry : ℕ → ℕ → Token → Diagnostic
@@ -125,7 +125,7 @@ doc_at types at = record { kind = slice_index types (at + 2); start = slice_inde
 
 -- a node of a parser that has not failed has room in so many cells, and its value numbers fit
 unfoldable pub has_room : ℕ → Parser → Bool
-has_room len p = is_going p.status && (nat_lt p.used.nodes max_bytes && (nat_le (node_width * p.used.nodes + node_width) len && nat_lt p.used.values 4000000000))
+has_room len p = is_going p.error && (nat_lt p.used.nodes max_bytes && (nat_le (node_width * p.used.nodes + node_width) len && nat_lt p.used.values 4000000000))
 
 -- a loop over members goes on
 abbrev pub follows_by : Bool → Bool → Bool → Bool
@@ -134,11 +134,11 @@ follows_by true true stops = false
 follows_by true false stops = not stops
 
 abbrev pub member_follows : Parser → ℕ → Bool
-member_follows p stop = follows_by (is_going p.status) (p.cur.kind == k_eof) (p.cur.kind == stop)
+member_follows p stop = follows_by (is_going p.error) (p.cur.kind == k_eof) (p.cur.kind == stop)
 
 -- a doc is read next
 unfoldable pub doc_follows : Parser → Bool
-doc_follows p = is_going p.status && p.cur.kind == k_doc
+doc_follows p = is_going p.error && p.cur.kind == k_doc
 
 -- the end of a list
 unfoldable pub closed : ℕ → List (List ℕ) → Rule Run

@@ -1,5 +1,5 @@
 -- The lent arrays and the parser hold a state of the rules.
-use Rattle.std.specs.Prelude.{◌≡◌, ℕ, suc, ◌+◌, ◌*◌, ◌≤◌, Bool, true, false, List, [], ◌∷◌, ◌++◌, map, reverse, length, ◌==◌, slice_index}
+use Rattle.std.specs.Prelude.{Option, None, Some, is_none, ◌≡◌, ℕ, suc, ◌+◌, ◌*◌, ◌≤◌, Bool, true, false, List, [], ◌∷◌, ◌++◌, map, reverse, length, ◌==◌}
 use mathlib.Core.List.{flatten}
 use Rattle.lex.specs.Kind.{k_eof}
 use Rattle.lex.specs.declared.diagnostic.Diagnostic.{Diagnostic}
@@ -16,7 +16,6 @@ use Rattle.parser_state.specs.declared.WideNode.TheVariants as W
 use Rattle.ast.specs.declared.TypeExpr.{TypeExpr}
 use Rattle.parser_state.specs.declared.Parser.{Parser}
 use Rattle.parser_state.specs.declared.Used.{Used}
-use Rattle.parser_state.specs.declared.Status.{Status}
 
 -- ---- nodes
 
@@ -27,32 +26,26 @@ node_of (W.Extern id src docs name fns) = N.Extern id (token_of src) docs (token
 
 -- ---- the code and the state
 
-abbrev pub is_going : Status → Bool
-is_going s = s.failed == 0
+abbrev pub is_going : Option Diagnostic → Bool
+is_going e = is_none e
 
-abbrev pub Going : Status
-Going = record { failed = 0; error = record { number = 0; start = 0; len = 0; wanted = 0; seen = 0 } }
+abbrev pub Going : Option Diagnostic
+Going = None
 
-abbrev pub Failed : Diagnostic → Status
-Failed e = record { failed = 1; error = e }
+abbrev pub Failed : Diagnostic → Option Diagnostic
+Failed e = Some e
 
--- what the cells of a parser say
-unfoldable pub parser_of : List ℕ → Parser
-parser_of c = record {
-  cur = record { kind = slice_index c 1; start = slice_index c 0; len = slice_index c 2 };
-  at = slice_index c 3;
-  used = record { nodes = slice_index c 4; values = slice_index c 5; types = slice_index c 6; docs = slice_index c 7; cells = slice_index c 8; scratch = slice_index c 9 };
-  status = record { failed = slice_index c 10; error = record { number = slice_index c 11; start = slice_index c 12; len = slice_index c 13; wanted = slice_index c 14; seen = slice_index c 15 } };
-}
+abbrev pub parser_of : Parser → Parser
+parser_of p = p
 
 abbrev pub with_token : Parser → Entry → ℕ → Parser
-with_token p t at = record { cur = t; at = at; used = p.used; status = p.status }
+with_token p t at = record { cur = t; at = at; used = p.used; error = p.error }
 
 abbrev pub with_used : Parser → Used → Parser
-with_used p u = record { cur = p.cur; at = p.at; used = u; status = p.status }
+with_used p u = record { cur = p.cur; at = p.at; used = u; error = p.error }
 
-abbrev pub with_status : Parser → Status → Parser
-with_status p s = record { cur = p.cur; at = p.at; used = p.used; status = s }
+abbrev pub with_error : Parser → Option Diagnostic → Parser
+with_error p e = record { cur = p.cur; at = p.at; used = p.used; error = e }
 
 -- all that the code changes
 pub record Code : Type 0 where
@@ -65,7 +58,7 @@ abbrev pub code : List ℕ → List ℕ → List ℕ → Parser → Code
 code nodes types lists p = record { nodes = nodes; types = types; lists = lists; parser = p }
 
 abbrev pub going : Code → Bool
-going s = is_going s.parser.status
+going s = is_going s.parser.error
 
 -- a token and those behind record `at` of the table
 unfoldable pub from : List ℕ → Token → ℕ → List Token
@@ -140,11 +133,11 @@ pub record Related (tokens : List ℕ) (s : Code) (r l : ℕ) (stack : List ℕ)
   pub lent : EnoughLent bytes s.nodes s.types s.lists
 
 pub record Represents (tokens : List ℕ) (s : Code) (r l : ℕ) (stack : List ℕ) (m : State) : Type 0 where
-  pub status : s.parser.status ≡ Going
+  pub status : s.parser.error ≡ Going
   pub related : Related tokens s r l stack m
 
 -- a reading has failed; what was under construction still lies there
 pub record FailedAt (tokens : List ℕ) (s : Code) (e : Diagnostic) (r l : ℕ) (stack : List ℕ) (m : State) : Type 0 where
-  pub status : s.parser.status ≡ Failed e
+  pub status : s.parser.error ≡ Failed e
   pub over : List ℕ
   pub related : Related tokens s r l (stack ++ over) m

@@ -11,20 +11,13 @@ ghost use Rattle.rules.specs.Combinators.{continue, at_token, advance, expect, e
 ghost use Rattle.ast.specs.declared.Node.{Node};
 ghost use Rattle.ast.specs.declared.Node.TheVariants as N;
 ghost use Rattle.ast.specs.declared.TypeExpr.{TypeExpr};
-ghost use Rattle.parser_state.specs.Represents.{parser_of, with_token, with_used, with_status, code, is_going, node_of};
+ghost use Rattle.parser_state.specs.Represents.{parser_of, with_token, with_used, with_error, code, is_going, node_of};
 ghost use Rattle.parser_state.specs.Refines.{Refines, stack_unchanged, Takes, Refuses, Pushes, Lists, fail_at, no_docs_wait, failed, at_entry, doc_at, has_room, member_follows, doc_follows, closed};
 
 use ast::lent::CELLS_PER_BYTE;
 use ast::{Node, NodeId, NodeKind, Run, TypeExpr, TypeExprId};
 use lex::{Diagnostic, MAX_BYTES, Type};
 use tokens::{Entry, token_at};
-
-// Whether the reading has failed, and its error.
-#[derive(Clone, Copy)]
-pub struct Status {
-    pub failed: u32,
-    pub error: Diagnostic,
-}
 
 // How much is made: node and type records, value numbers, list cells; the pending docs; and the
 // cells of lists under construction.
@@ -38,132 +31,89 @@ pub struct Used {
     pub scratch: u32,
 }
 
-// The token being read and the number of its record, what is used of the arrays, and whether the
-// reading has failed.
-//
-// Its numbers lie in cells that are lent from call to call (`State`), since a struct by value would
-// be copied whole at each: the token's start, kind and length, the number of its record, the six
-// counts, whether the reading has failed, and the five numbers of the error.
+// The token being read and the number of its record, what is used of the arrays, and the error of a
+// reading that has failed. It is lent from call to call, since a struct by value would be copied
+// whole at each.
 #[derive(Clone, Copy)]
 pub struct Parser {
     pub cur: Entry,
     pub at: u32,
     pub used: Used,
-    pub status: Status,
+    pub error: Option<Diagnostic>,
 }
 
 impl Parser {
     pub const MAX_BYTES: usize = lex::MAX_BYTES;
 
     pub const MAX_LEVELS: usize = 128;
-
-    pub const CELLS: usize = 16;
 }
-
-// The cells of a parser, in the order in which `set_token`, `set_used` and `set_status` write them.
-pub type State = [u32; Parser::CELLS];
 
 // The most list cells that a reading makes.
 const MAX_LISTS: usize = CELLS_PER_BYTE * MAX_BYTES;
 
-// ---- the cells of a parser
+// ---- the parts of a parser
 
 // The reading has not failed.
-pub fn going(p: &State) -> bool
-    ensures { result ≡ is_going (parser_of p.now).status }
+pub fn going(p: &Parser) -> bool
+    ensures { result ≡ is_going (parser_of p.now).error }
 {
-    p[10] == 0
+    p.error.is_none()
 }
 
 // The kind of the token being read.
-pub fn kind(p: &State) -> u32
+pub fn kind(p: &Parser) -> u32
     ensures { result ≡ (parser_of p.now).cur.kind }
 {
-    p[1]
+    p.cur.kind
 }
 
 // The token being read.
-pub fn current(p: &State) -> Entry
+pub fn current(p: &Parser) -> Entry
     ensures { result ≡ (parser_of p.now).cur }
 {
-    Entry {
-        kind: p[1],
-        start: p[0],
-        len: p[2],
-    }
+    p.cur
 }
 
 // The number of its record in the token table.
-pub fn at(p: &State) -> u32
+pub fn at(p: &Parser) -> u32
     ensures { result ≡ (parser_of p.now).at }
 {
-    p[3]
+    p.at
 }
 
 // What is used of the arrays.
-pub fn get_used(p: &State) -> Used
+pub fn get_used(p: &Parser) -> Used
     ensures { result ≡ (parser_of p.now).used }
 {
-    Used {
-        nodes: p[4],
-        values: p[5],
-        types: p[6],
-        docs: p[7],
-        cells: p[8],
-        scratch: p[9],
-    }
+    p.used
+}
+
+// The token of record `at` is the one being read.
+pub fn set_token(p: &mut Parser, t: Entry, at: u32)
+    ensures { parser_of p.new ≡ with_token (parser_of p.old) t at }
+{
+    p.cur = t;
+    p.at = at;
+}
+
+// What is used of the arrays.
+pub fn set_used(p: &mut Parser, u: Used)
+    ensures { parser_of p.new ≡ with_used (parser_of p.old) u }
+{
+    p.used = u;
 }
 
 // The error of a reading that has failed.
-pub fn error(p: &State) -> Diagnostic
-    ensures { result ≡ (parser_of p.now).status.error }
+pub fn set_error(p: &mut Parser, error: Option<Diagnostic>)
+    ensures { parser_of p.new ≡ with_error (parser_of p.old) error }
 {
-    Diagnostic {
-        number: p[11],
-        start: p[12],
-        len: p[13],
-        wanted: p[14],
-        seen: p[15],
-    }
-}
-
-// The token of record `at` is the one being read. Its start and length lie apart: side by side they
-// would be loaded together in one step, right after each was stored for itself, and that stalls.
-pub fn set_token(p: &mut State, t: Entry, at: u32)
-    ensures { parser_of p.new ≡ with_token (parser_of p.old) t at }
-{
-    *p = [
-        t.start, t.kind, t.len, at, p[4], p[5], p[6], p[7], p[8], p[9], p[10], p[11], p[12], p[13],
-        p[14], p[15],
-    ];
-}
-
-// What is used of the arrays. Each `set` writes all cells, of which the compiled code writes those
-// that change.
-pub fn set_used(p: &mut State, u: Used)
-    ensures { parser_of p.new ≡ with_used (parser_of p.old) u }
-{
-    *p = [
-        p[0], p[1], p[2], p[3], u.nodes, u.values, u.types, u.docs, u.cells, u.scratch, p[10],
-        p[11], p[12], p[13], p[14], p[15],
-    ];
-}
-
-// Whether the reading has failed, and its error.
-pub fn set_status(p: &mut State, failed: u32, d: Diagnostic)
-    ensures { parser_of p.new
-        ≡ with_status (parser_of p.old) (record { failed = failed; error = d }) }
-{
-    *p = [
-        p[0], p[1], p[2], p[3], p[4], p[5], p[6], p[7], p[8], p[9], failed, d.number, d.start,
-        d.len, d.wanted, d.seen,
-    ];
+    p.error = error;
 }
 
 // ---- tokens
 
 // The next token is read.
-pub fn advance(tokens: &[u32], p: &mut State)
+pub fn advance(tokens: &[u32], p: &mut Parser)
     requires { (parser_of p.old).cur.kind ≢ 1 }
     ensures { Takes tokens.now advance (parser_of p.old)
         (parser_of p.new) }
@@ -201,11 +151,11 @@ fn span_start(t: Entry) -> u32
 }
 
 // The reading fails at a token.
-fn fail_with(p: &mut State, number: u32, wanted: u32, t: Entry)
-    ensures { (is_going (parser_of p.old).status ≡ true
+fn fail_with(p: &mut Parser, number: u32, wanted: u32, t: Entry)
+    ensures { (is_going (parser_of p.old).error ≡ true
         → parser_of p.new
         ≡ failed (parser_of p.old) (at_entry number wanted (token_of t)))
-        × (is_going (parser_of p.old).status ≡ false
+        × (is_going (parser_of p.old).error ≡ false
         → parser_of p.new ≡ parser_of p.old) }
 {
     if !going(p) {
@@ -218,11 +168,11 @@ fn fail_with(p: &mut State, number: u32, wanted: u32, t: Entry)
         wanted,
         seen: t.kind,
     };
-    set_status(p, 1, d);
+    set_error(p, Some(d));
 }
 
 // The reading fails at the token being read.
-pub fn fail_expecting(p: &mut State, number: u32, wanted: u32)
+pub fn fail_expecting(p: &mut Parser, number: u32, wanted: u32)
     ensures { (tokens nodes types lists : List ℕ) →
         let before = code nodes types lists (parser_of p.old) in
         let after = code nodes types lists (parser_of p.new) in
@@ -233,7 +183,7 @@ pub fn fail_expecting(p: &mut State, number: u32, wanted: u32)
 }
 
 // The reading fails at the token of record `at`.
-pub fn fail_at(tokens: &[u32], p: &mut State, number: u32, at: u32)
+pub fn fail_at(tokens: &[u32], p: &mut Parser, number: u32, at: u32)
     ensures { (nodes types lists : List ℕ) →
         let before = code nodes types lists (parser_of p.old) in
         let after = code nodes types lists (parser_of p.new) in
@@ -245,7 +195,7 @@ pub fn fail_at(tokens: &[u32], p: &mut State, number: u32, at: u32)
 }
 
 // A token of the wanted kind is taken.
-pub fn expect(tokens: &[u32], p: &mut State, wanted: u32)
+pub fn expect(tokens: &[u32], p: &mut Parser, wanted: u32)
     requires { 1 < wanted }
     ensures { Takes tokens.now (expect wanted) (parser_of p.old)
         (parser_of p.new) }
@@ -258,7 +208,7 @@ pub fn expect(tokens: &[u32], p: &mut State, wanted: u32)
 }
 
 // A name is taken.
-pub fn expect_ident(tokens: &[u32], p: &mut State)
+pub fn expect_ident(tokens: &[u32], p: &mut Parser)
     ensures { Takes tokens.now expect_ident (parser_of p.old)
         (parser_of p.new) }
 {
@@ -270,7 +220,7 @@ pub fn expect_ident(tokens: &[u32], p: &mut State)
 }
 
 // The reading fails at a token of this kind, with this number.
-pub fn reject_kind(p: &mut State, rejected: u32, number: u32)
+pub fn reject_kind(p: &mut Parser, rejected: u32, number: u32)
     ensures { (tokens nodes types lists : List ℕ) →
         let before = code nodes types lists (parser_of p.old) in
         let after = code nodes types lists (parser_of p.new) in
@@ -283,7 +233,7 @@ pub fn reject_kind(p: &mut State, rejected: u32, number: u32)
 }
 
 // Another member of a list follows.
-pub fn member_follows(p: &State, stop: u32) -> bool
+pub fn member_follows(p: &Parser, stop: u32) -> bool
     ensures { result ≡ member_follows (parser_of p.now) stop }
 {
     if !going(p) {
@@ -297,7 +247,7 @@ pub fn member_follows(p: &State, stop: u32) -> bool
 }
 
 // The reading has not failed, and the token being read is a doc.
-fn doc_follows(p: &State) -> bool
+fn doc_follows(p: &Parser) -> bool
     ensures { result ≡ doc_follows (parser_of p.now) }
 {
     if !going(p) {
@@ -324,7 +274,7 @@ fn put(dst: &mut [u32], at: usize, cells: &[u32])
 // The next type, where the reading has not failed and the types have room: its kind and five cells.
 pub fn push_type(
     types: &mut [u32],
-    p: &mut State,
+    p: &mut Parser,
     kind: u32,
     a: u32,
     b: u32,
@@ -471,7 +421,7 @@ fn node_cells(n: WideNode) -> [u32; Node::WIDTH]
 }
 
 // A record is written where the reading has not failed and the nodes have room.
-fn has_room(len: usize, p: &State) -> bool
+fn has_room(len: usize, p: &Parser) -> bool
     ensures { result ≡ has_room len (parser_of p.now) }
 {
     if !going(p) {
@@ -489,7 +439,7 @@ fn has_room(len: usize, p: &State) -> bool
 }
 
 // `more` value numbers go with the node that no node has.
-pub fn push_node(nodes: &mut [u32], p: &mut State, node: WideNode, more: u32) -> NodeId
+pub fn push_node(nodes: &mut [u32], p: &mut Parser, node: WideNode, more: u32) -> NodeId
     requires { more ≤ max_bytes }
     ensures { (tokens types lists : List ℕ) (f : ℕ → Node) (rooms : ℕ) →
         let before = code nodes.old types lists (parser_of p.old) in
@@ -550,7 +500,7 @@ fn put_record(
 // A node of six cells besides its kind and its number: the others are `WideNode`s.
 fn push_record(
     nodes: &mut [u32],
-    p: &mut State,
+    p: &mut Parser,
     kind: u32,
     a: u32,
     b: u32,
@@ -594,7 +544,7 @@ fn push_record(
 // A node of a token and two cells.
 pub fn push_token_node(
     nodes: &mut [u32],
-    p: &mut State,
+    p: &mut Parser,
     kind: u32,
     t: Entry,
     a: u32,
@@ -613,7 +563,7 @@ pub fn push_token_node(
 }
 
 // A call.
-pub fn push_call(nodes: &mut [u32], p: &mut State, target: NodeId, args: Run) -> NodeId
+pub fn push_call(nodes: &mut [u32], p: &mut Parser, target: NodeId, args: Run) -> NodeId
     ensures { (tokens types lists : List ℕ) →
         let before = code nodes.old types lists (parser_of p.old) in
         let after = code nodes.new types lists (parser_of p.new) in
@@ -634,7 +584,7 @@ pub fn push_call(nodes: &mut [u32], p: &mut State, target: NodeId, args: Run) ->
 }
 
 // A field of a node.
-pub fn push_field(nodes: &mut [u32], p: &mut State, target: NodeId, name: Entry) -> NodeId
+pub fn push_field(nodes: &mut [u32], p: &mut Parser, target: NodeId, name: Entry) -> NodeId
     ensures { (tokens types lists : List ℕ) →
         let before = code nodes.old types lists (parser_of p.old) in
         let after = code nodes.new types lists (parser_of p.new) in
@@ -655,7 +605,7 @@ pub fn push_field(nodes: &mut [u32], p: &mut State, target: NodeId, name: Entry)
 }
 
 // A let.
-pub fn push_let(nodes: &mut [u32], p: &mut State, docs: Run, name: Entry, rhs: NodeId) -> NodeId
+pub fn push_let(nodes: &mut [u32], p: &mut Parser, docs: Run, name: Entry, rhs: NodeId) -> NodeId
     ensures { (tokens types lists : List ℕ) →
         let before = code nodes.old types lists (parser_of p.old) in
         let after = code nodes.new types lists (parser_of p.new) in
@@ -679,7 +629,7 @@ pub fn push_let(nodes: &mut [u32], p: &mut State, docs: Run, name: Entry, rhs: N
 
 // Cells of a list under construction, at the far end of the list table, where they lie in reverse:
 // they are given the last first.
-pub fn push_cells(lists: &mut [u32], p: &mut State, cells: &[u32])
+pub fn push_cells(lists: &mut [u32], p: &mut Parser, cells: &[u32])
     ensures { (tokens nodes types : List ℕ) →
         let before = code nodes types lists.old (parser_of p.old) in
         let after = code nodes types lists.new (parser_of p.new) in
@@ -712,7 +662,7 @@ pub fn push_cells(lists: &mut [u32], p: &mut State, cells: &[u32])
 }
 
 // One cell.
-pub fn push_cell(lists: &mut [u32], p: &mut State, v: u32)
+pub fn push_cell(lists: &mut [u32], p: &mut Parser, v: u32)
     ensures { (tokens nodes types : List ℕ) →
         let before = code nodes types lists.old (parser_of p.old) in
         let after = code nodes types lists.new (parser_of p.new) in
@@ -723,7 +673,7 @@ pub fn push_cell(lists: &mut [u32], p: &mut State, v: u32)
 }
 
 // A token.
-pub fn push_token(lists: &mut [u32], p: &mut State, t: Entry)
+pub fn push_token(lists: &mut [u32], p: &mut Parser, t: Entry)
     ensures { (tokens nodes types : List ℕ) →
         let before = code nodes types lists.old (parser_of p.old) in
         let after = code nodes types lists.new (parser_of p.new) in
@@ -734,7 +684,7 @@ pub fn push_token(lists: &mut [u32], p: &mut State, t: Entry)
 }
 
 // A name, and the number of the type or node that goes with it.
-pub fn push_named(lists: &mut [u32], p: &mut State, name: Entry, id: u32)
+pub fn push_named(lists: &mut [u32], p: &mut Parser, name: Entry, id: u32)
     ensures { (tokens nodes types : List ℕ) →
         let before = code nodes types lists.old (parser_of p.old) in
         let after = code nodes types lists.new (parser_of p.new) in
@@ -759,7 +709,7 @@ fn move_list(part: &mut [u32], n: usize, scratch: usize)
 }
 
 // The cells above the mark become a list.
-pub fn alloc_slice(lists: &mut [u32], p: &mut State, mark: u32, members: u32) -> Run
+pub fn alloc_slice(lists: &mut [u32], p: &mut Parser, mark: u32, members: u32) -> Run
     ensures { ((tokens nodes types : List ℕ) →
         let before = code nodes types lists.old (parser_of p.old) in
         let after = code nodes types lists.new (parser_of p.new) in
@@ -811,7 +761,7 @@ pub fn alloc_slice(lists: &mut [u32], p: &mut State, mark: u32, members: u32) ->
 pub fn close(
     tokens: &[u32],
     lists: &mut [u32],
-    p: &mut State,
+    p: &mut Parser,
     stop: u32,
     mark: u32,
     members: u32,
@@ -830,7 +780,7 @@ pub fn close(
 // ---- docs
 
 // The token of record `at` is a pending doc, at the far end of the type array.
-fn push_doc(tokens: &[u32], types: &mut [u32], p: &mut State, at: u32)
+fn push_doc(tokens: &[u32], types: &mut [u32], p: &mut Parser, at: u32)
     ensures { (nodes lists : List ℕ) (n : ℕ) →
         let before = code nodes types.old lists (parser_of p.old) in
         let after = code nodes types.new lists (parser_of p.new) in
@@ -865,7 +815,7 @@ fn push_doc(tokens: &[u32], types: &mut [u32], p: &mut State, at: u32)
 }
 
 // The docs that stand next are pending.
-pub fn collect_docs(tokens: &[u32], types: &mut [u32], p: &mut State)
+pub fn collect_docs(tokens: &[u32], types: &mut [u32], p: &mut Parser)
     ensures { (nodes lists : List ℕ) →
         let before = code nodes types.old lists (parser_of p.old) in
         let after = code nodes types.new lists (parser_of p.new) in
@@ -893,7 +843,7 @@ fn move_docs(src: &[u32], dst: &mut [u32], at: usize, n: usize)
 }
 
 // The pending docs become a list.
-pub fn take_docs(types: &[u32], lists: &mut [u32], p: &mut State) -> Run
+pub fn take_docs(types: &[u32], lists: &mut [u32], p: &mut Parser) -> Run
     ensures { ((tokens nodes : List ℕ) →
         let before = code nodes types.now lists.old
         (parser_of p.old) in
@@ -955,7 +905,7 @@ fn doc_at(types: &[u32], at: usize) -> Entry
 
 // The reading fails where there are pending docs: at the last of them where the script ends, else
 // at the first.
-pub fn require_no_docs(types: &[u32], p: &mut State)
+pub fn require_no_docs(types: &[u32], p: &mut Parser)
     ensures { (tokens nodes lists : List ℕ) →
         let before = code nodes types.now lists (parser_of p.old) in
         let after = code nodes types.now lists (parser_of p.new) in

@@ -16,7 +16,7 @@ ghost use Rattle.parser_types.specs.Paths.{ReadsPaths};
 use ast::{NodeId, NodeKind, Run, TypeExprId, TypeExprKind};
 use lex::{Diagnostic, Type};
 use parser_state::{
-    State, WideNode, advance, alloc_slice, close, collect_docs, current, expect, expect_ident,
+    Parser, WideNode, advance, alloc_slice, close, collect_docs, current, expect, expect_ident,
     fail_expecting, get_used, kind, member_follows, push_cells, push_named, push_node, push_token,
     push_token_node, push_type, reject_kind, take_docs,
 };
@@ -25,7 +25,7 @@ use tokens::Entry;
 // ---- types
 
 // The word and the `<` of a type, `number` being the error where `>` follows.
-fn open_angle(tokens: &[u32], p: &mut State, number: u32)
+fn open_angle(tokens: &[u32], p: &mut Parser, number: u32)
     requires { 1 < (parser_of p.old).cur.kind }
     ensures { (nodes types lists : List ℕ) →
         let before = code nodes types lists (parser_of p.old) in
@@ -39,7 +39,7 @@ fn open_angle(tokens: &[u32], p: &mut State, number: u32)
 }
 
 // A type = atom-type
-fn atom_type(tokens: &[u32], types: &mut [u32], p: &mut State) -> TypeExprId
+fn atom_type(tokens: &[u32], types: &mut [u32], p: &mut Parser) -> TypeExprId
     requires { 1 < (parser_of p.old).cur.kind }
     ensures { (nodes lists : List ℕ) →
         let before = code nodes types.old lists (parser_of p.old) in
@@ -52,7 +52,7 @@ fn atom_type(tokens: &[u32], types: &mut [u32], p: &mut State) -> TypeExprId
 }
 
 // A type = "Foreign" "<" ident ">"
-fn foreign_type(tokens: &[u32], types: &mut [u32], p: &mut State) -> TypeExprId
+fn foreign_type(tokens: &[u32], types: &mut [u32], p: &mut Parser) -> TypeExprId
     requires { 1 < (parser_of p.old).cur.kind }
     ensures { (nodes lists : List ℕ) →
         let before = code nodes types.old lists (parser_of p.old) in
@@ -81,7 +81,7 @@ fn option_type(
     tokens: &[u32],
     types: &mut [u32],
     lists: &mut [u32],
-    p: &mut State,
+    p: &mut Parser,
     levels: usize,
 ) -> TypeExprId
     requires { 1 < (parser_of p.old).cur.kind }
@@ -104,7 +104,7 @@ fn array_type(
     tokens: &[u32],
     types: &mut [u32],
     lists: &mut [u32],
-    p: &mut State,
+    p: &mut Parser,
     levels: usize,
 ) -> TypeExprId
     requires { 1 < (parser_of p.old).cur.kind }
@@ -123,7 +123,7 @@ fn array_type(
 
 // A name and its type = ident ":" type
 #[cycle(types)]
-fn typed_name(tokens: &[u32], types: &mut [u32], lists: &mut [u32], p: &mut State, levels: usize)
+fn typed_name(tokens: &[u32], types: &mut [u32], lists: &mut [u32], p: &mut Parser, levels: usize)
     ensures { (rules : Rules) (nodes : List ℕ) →
         let before = code nodes types.old lists.old
         (parser_of p.old) in
@@ -144,7 +144,7 @@ fn typed_names(
     tokens: &[u32],
     types: &mut [u32],
     lists: &mut [u32],
-    p: &mut State,
+    p: &mut Parser,
     stop: u32,
     levels: usize,
 ) -> Run
@@ -172,7 +172,7 @@ fn record_type(
     tokens: &[u32],
     types: &mut [u32],
     lists: &mut [u32],
-    p: &mut State,
+    p: &mut Parser,
     levels: usize,
 ) -> TypeExprId
     requires { 1 < (parser_of p.old).cur.kind }
@@ -206,7 +206,7 @@ pub fn parse_type(
     tokens: &[u32],
     types: &mut [u32],
     lists: &mut [u32],
-    p: &mut State,
+    p: &mut Parser,
     levels: usize,
 ) -> TypeExprId
     ensures { (rules : Rules) (nodes : List ℕ) →
@@ -238,7 +238,7 @@ pub fn parse_type(
 // ---- arguments and return types
 
 // A Void that the script leaves out, at the next token.
-fn supplied_void(types: &mut [u32], p: &mut State) -> TypeExprId
+fn supplied_void(types: &mut [u32], p: &mut Parser) -> TypeExprId
     ensures { (tokens nodes lists : List ℕ) →
         let before = code nodes types.old lists (parser_of p.old) in
         let after = code nodes types.new lists (parser_of p.new) in
@@ -253,7 +253,7 @@ pub fn fn_return(
     tokens: &[u32],
     types: &mut [u32],
     lists: &mut [u32],
-    p: &mut State,
+    p: &mut Parser,
     levels: usize,
 ) -> TypeExprId
     ensures { (rules : Rules) (nodes : List ℕ) →
@@ -275,7 +275,7 @@ fn extern_return(
     tokens: &[u32],
     types: &mut [u32],
     lists: &mut [u32],
-    p: &mut State,
+    p: &mut Parser,
     levels: usize,
 ) -> TypeExprId
     ensures { (rules : Rules) (nodes : List ℕ) →
@@ -299,7 +299,7 @@ pub fn parse_args(
     tokens: &[u32],
     types: &mut [u32],
     lists: &mut [u32],
-    p: &mut State,
+    p: &mut Parser,
     levels: usize,
 ) -> Run
     ensures { ((rules : Rules) (nodes : List ℕ) →
@@ -317,7 +317,7 @@ pub fn parse_args(
 // ---- imports
 
 // A path of an import.
-fn import_path(tokens: &[u32], lists: &mut [u32], p: &mut State)
+fn import_path(tokens: &[u32], lists: &mut [u32], p: &mut Parser)
     ensures { (nodes types : List ℕ) →
         let before = code nodes types lists.old (parser_of p.old) in
         let after = code nodes types lists.new (parser_of p.new) in
@@ -333,7 +333,7 @@ fn import_path(tokens: &[u32], lists: &mut [u32], p: &mut State)
 }
 
 // Multiple package import: import ("io" "runtime")
-fn bracketed_paths(tokens: &[u32], lists: &mut [u32], p: &mut State) -> u32
+fn bracketed_paths(tokens: &[u32], lists: &mut [u32], p: &mut Parser) -> u32
     ensures { (nodes types : List ℕ) →
         let before = code nodes types lists.old (parser_of p.old) in
         let after = code nodes types lists.new (parser_of p.new) in
@@ -350,7 +350,7 @@ fn bracketed_paths(tokens: &[u32], lists: &mut [u32], p: &mut State) -> u32
 }
 
 // Single package import: import "io"
-fn one_path(tokens: &[u32], lists: &mut [u32], p: &mut State) -> u32
+fn one_path(tokens: &[u32], lists: &mut [u32], p: &mut Parser) -> u32
     requires { 1 < (parser_of p.old).cur.kind }
     ensures { (nodes types : List ℕ) →
         let before = code nodes types lists.old (parser_of p.old) in
@@ -364,7 +364,7 @@ fn one_path(tokens: &[u32], lists: &mut [u32], p: &mut State) -> u32
 }
 
 // The paths of an import, in brackets or not.
-fn import_paths(tokens: &[u32], lists: &mut [u32], p: &mut State) -> u32
+fn import_paths(tokens: &[u32], lists: &mut [u32], p: &mut Parser) -> u32
     ensures { (nodes types : List ℕ) →
         let before = code nodes types lists.old (parser_of p.old) in
         let after = code nodes types lists.new (parser_of p.new) in
@@ -378,7 +378,7 @@ fn import_paths(tokens: &[u32], lists: &mut [u32], p: &mut State) -> u32
 }
 
 // import = "import" string | "import" "(" string* ")"
-pub fn parse_import(tokens: &[u32], nodes: &mut [u32], lists: &mut [u32], p: &mut State) -> NodeId
+pub fn parse_import(tokens: &[u32], nodes: &mut [u32], lists: &mut [u32], p: &mut Parser) -> NodeId
     requires { 1 < (parser_of p.old).cur.kind }
     ensures { (types : List ℕ) →
         let before = code nodes.old types lists.old
@@ -400,7 +400,7 @@ pub fn parse_import(tokens: &[u32], nodes: &mut [u32], lists: &mut [u32], p: &mu
 #[tactic(auto, unfolding(ast::specs::Layout::token_cells, ast::specs::Layout::run_cells))]
 fn push_extern_fn(
     lists: &mut [u32],
-    p: &mut State,
+    p: &mut Parser,
     docs: Run,
     name: Entry,
     args: Run,
@@ -420,7 +420,7 @@ fn push_extern_fn(
 }
 
 // A fn of an extern = doc* "fn" ident args type?
-fn extern_fn(tokens: &[u32], types: &mut [u32], lists: &mut [u32], p: &mut State, levels: usize)
+fn extern_fn(tokens: &[u32], types: &mut [u32], lists: &mut [u32], p: &mut Parser, levels: usize)
     ensures { (rules : Rules) (nodes : List ℕ) →
         let before = code nodes types.old lists.old
         (parser_of p.old) in
@@ -444,7 +444,7 @@ fn extern_fns(
     tokens: &[u32],
     types: &mut [u32],
     lists: &mut [u32],
-    p: &mut State,
+    p: &mut Parser,
     levels: usize,
 ) -> Run
     ensures { (rules : Rules) (nodes : List ℕ) →
@@ -465,7 +465,7 @@ fn extern_fns(
 }
 
 // The string behind `extern`.
-fn extern_name(tokens: &[u32], p: &mut State)
+fn extern_name(tokens: &[u32], p: &mut Parser)
     ensures { Takes tokens.now extern_name (parser_of p.old)
         (parser_of p.new) }
 {
@@ -482,7 +482,7 @@ pub fn parse_extern(
     nodes: &mut [u32],
     types: &mut [u32],
     lists: &mut [u32],
-    p: &mut State,
+    p: &mut Parser,
     levels: usize,
 ) -> NodeId
     ensures { (rules : Rules) →

@@ -9,6 +9,6 @@ pub returns : goal.returns
 unfolding at_entry
 returns c =
     let args = c.args in (
-      (λ _. c.set_status.ensures ∙ (λ i. failed (parser_of args.p.now) (record { number = args.number; start = c.span_start.ensures i; len = args.t.len; wanted = args.wanted; seen = args.t.kind }))),
+      (λ _. c.set_error.ensures ∙ (λ i. failed (parser_of args.p.now) (record { number = args.number; start = c.span_start.ensures i; len = args.t.len; wanted = args.wanted; seen = args.t.kind }))),
       λ e. absurd (true≢false (sym c.going.ensures ∙ c.if-not-going.false) e),
     )
