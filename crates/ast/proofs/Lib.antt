@@ -1,5 +1,4 @@
 -- The laws that the functions' proofs cite.
-pub mod Copy
 pub mod LayoutLaws
 pub mod SchemaLaws
 pub mod Tabulate

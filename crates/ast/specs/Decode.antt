@@ -2,6 +2,7 @@
 -- what was laid out.
 use Rattle.std.specs.Prelude.{Bool, List, [], ◌∷◌, ℕ, ◌+◌, ◌*◌, ◌%◌, leb, length, get_or, take, drop}
 use Rattle.std.proofs.Math.Option.{Option, none, some}
+use Rattle.std.specs.Prelude as R
 use Rattle.lex.specs.Bytes.{if}
 use Rattle.ast.specs.Layout.{node_width, type_width}
 use Rattle.lex.specs.declared.tok.Token.{Token}
@@ -10,10 +11,6 @@ use Rattle.ast.specs.declared.Node.{Node}
 use Rattle.ast.specs.declared.Node.TheVariants as N
 use Rattle.ast.specs.declared.TypeExpr.{TypeExpr}
 use Rattle.ast.specs.declared.TypeExpr.TheVariants as T
-use Rattle.ast.specs.declared.decode.NodeRead.{NodeRead}
-use Rattle.ast.specs.declared.decode.NodeRead.TheVariants as NR
-use Rattle.ast.specs.declared.decode.TypeRead.{TypeRead}
-use Rattle.ast.specs.declared.decode.TypeRead.TheVariants as TR
 
 -- ---- what cells say
 
@@ -82,10 +79,6 @@ low32 n = n % 4294967296
 
 -- ---- what an answer of the code says
 
-unfoldable pub node_read : NodeRead → Option Node
-node_read (NR.Known n) = some n
-node_read NR.Unknown = none
-
-unfoldable pub type_read : TypeRead → Option TypeExpr
-type_read (TR.Known t) = some t
-type_read TR.Unknown = none
+abbrev pub option_of : {A : Type 0} → R.Option A → Option A
+option_of (R.Some a) = some a
+option_of R.None = none
