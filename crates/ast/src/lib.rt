@@ -5,7 +5,8 @@ pub mod decode;
 pub mod lent;
 pub mod schema;
 
-use lex::{Diagnostic, Token};
+pub use lent::Tree;
+use lex::{Diagnostic, Refusal, Token};
 
 // A list: its first cell and how many members it has.
 #[derive(Clone, Copy)]
@@ -184,10 +185,12 @@ pub struct Counts {
     pub diagnostics: u32,
 }
 
-// What a reading answers.
+// Why a reading has no tree: what was lent, or the script.
 #[derive(Clone, Copy)]
-pub enum Parsed {
-    Tree(Counts),
-    Error(Diagnostic),
-    Refused(u32),
+pub enum ReadError {
+    Refused(Refusal),
+    Script(Diagnostic),
 }
+
+// What a reading answers.
+pub type Parsed = Result<Counts, ReadError>;
