@@ -1,2 +1,3 @@
 -- An error in words.
+pub mod Tables
 pub mod Words
