@@ -9,12 +9,10 @@ use lex::Token;
 pub fn cell(a: &[u32], at: usize, k: usize) -> u32
     ensures { result ≡ get_or a.now (at + k) 0 }
 {
-    if at < a.len() {
-        if k < a.len() - at {
-            return a[at + k];
-        }
-    }
-    0
+    a.get(at..)
+        .and_then(|rest| rest.get(k))
+        .copied()
+        .unwrap_or(0)
 }
 
 // The token whose cells begin at `at`.

@@ -108,6 +108,7 @@ impl Node {
 }
 
 // The kinds of node are numbers, in the order of `Node`. A record's first cell is its kind.
+// No enum: a kind is a cell of a lent array, which may hold any number, and is answered for each.
 #[derive(Clone, Copy)]
 pub struct NodeKind(pub u32);
 
@@ -156,6 +157,7 @@ impl TypeExpr {
 }
 
 // The kinds of type are numbers, in the order of `TypeExpr`. A record's first cell is its kind.
+// No enum: a kind is a cell of a lent array, which may hold any number, and is answered for each.
 #[derive(Clone, Copy)]
 pub struct TypeExprKind(pub u32);
 
