@@ -1,9 +1,10 @@
 // The records of the tree, read from the lent arrays.
 ghost use Rattle.std.specs.Prelude.{◌≡◌, ◌+◌, get_or};
-ghost use Rattle.ast.specs.Decode.{token_at, run_at, node_of, type_of, node_at, type_at, option_of};
+ghost use Rattle.ast.specs.Decode.{token_at, run_at, diagnostic_at};
+ghost use Rattle.ast.specs.Decode.{node_of, type_of, node_at, type_at, option_of};
 
 use crate::{Node, NodeId, NodeKind, Run, TypeExpr, TypeExprId, TypeExprKind};
-use lex::Token;
+use lex::{Diagnostic, Token};
 
 // Cell `at + k`; 0 behind the end.
 pub fn cell(a: &[u32], at: usize, k: usize) -> u32
@@ -36,6 +37,24 @@ pub fn run_at(a: &[u32], at: usize) -> Run
     let start = cell(a, at, 0);
     let len = cell(a, at, 1);
     Run { start, len }
+}
+
+// The error whose cells begin at `at`.
+pub fn diagnostic_at(a: &[u32], at: usize) -> Diagnostic
+    ensures { result ≡ diagnostic_at a.now at }
+{
+    let number = cell(a, at, 0);
+    let start = cell(a, at, 1);
+    let len = cell(a, at, 2);
+    let wanted = cell(a, at, 3);
+    let seen = cell(a, at, 4);
+    Diagnostic {
+        number,
+        start,
+        len,
+        wanted,
+        seen,
+    }
 }
 
 // The node that a record's cells hold; none where the kind is unknown.
