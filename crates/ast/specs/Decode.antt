@@ -74,6 +74,10 @@ type_of cs = get_or (none ∷ types_by_kind cs) (get_or cs 0 0) none
 abbrev pub fits : ℕ → List ℕ → ℕ → Bool
 fits size xs i = leb (size * i + size) (length xs)
 
+-- the cells of record `i`; none where it lies outside
+abbrev pub record_at : ℕ → List ℕ → ℕ → R.Option (List ℕ)
+record_at size xs i = if (fits size xs i) (R.Some (take size (drop (size * i) xs))) R.None
+
 -- record `i`; none where it lies outside or its kind is unknown
 unfoldable pub node_at : List ℕ → ℕ → Option Node
 node_at nodes i =

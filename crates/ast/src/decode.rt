@@ -1,6 +1,6 @@
 // The records of the tree, read from the lent arrays.
-ghost use Rattle.std.specs.Prelude.{◌≡◌, ◌+◌, get_or};
-ghost use Rattle.ast.specs.Decode.{token_at, run_at, diagnostic_at};
+ghost use Rattle.std.specs.Prelude.{◌≡◌, ◌+◌, ◌<◌, get_or, option_copied};
+ghost use Rattle.ast.specs.Decode.{token_at, run_at, diagnostic_at, record_at};
 ghost use Rattle.ast.specs.Decode.{node_of, type_of, node_at, type_at, option_of};
 
 use crate::{Node, NodeId, NodeKind, Run, TypeExpr, TypeExprId, TypeExprKind};
@@ -163,18 +163,27 @@ fn type_of(c: &[u32; TypeExpr::WIDTH]) -> Option<TypeExpr>
     }
 }
 
+// The cells of record `i`, of `N` cells each; none where it lies outside.
+#[tactic(auto, using(crate::proofs::Records::record_is))]
+fn record<const N: usize>(cells: &[u32], i: u32) -> Option<&[u32; N]>
+    requires { 0 < N }
+    ensures { option_copied result ≡ record_at N cells.now i }
+{
+    cells.as_chunks().0.get(i as usize)
+}
+
 // The record of a node; none where it lies outside or its kind is unknown.
+#[tactic(auto, unfolding(crate::specs::Decode::node_at))]
 pub fn node(nodes: &[u32], id: NodeId) -> Option<Node>
     ensures { option_of result ≡ node_at nodes.now id.0 }
 {
-    let records: &[[u32; Node::WIDTH]] = nodes.as_chunks().0;
-    node_of(records.get(id.0 as usize)?)
+    node_of(record(nodes, id.0)?)
 }
 
 // The record of a type; none where it lies outside or its kind is unknown.
+#[tactic(auto, unfolding(crate::specs::Decode::type_at))]
 pub fn type_expr(types: &[u32], id: TypeExprId) -> Option<TypeExpr>
     ensures { option_of result ≡ type_at types.now id.0 }
 {
-    let records: &[[u32; TypeExpr::WIDTH]] = types.as_chunks().0;
-    type_of(records.get(id.0 as usize)?)
+    type_of(record(types, id.0)?)
 }
