@@ -7,6 +7,7 @@ use Rattle.lex.specs.Bytes.{if}
 use Rattle.ast.specs.Layout.{node_width, type_width}
 use Rattle.lex.specs.declared.diagnostic.Diagnostic.{Diagnostic}
 use Rattle.lex.specs.declared.tok.Token.{Token}
+use Rattle.ast.specs.declared.Counts.{Counts}
 use Rattle.ast.specs.declared.Run.{Run}
 use Rattle.ast.specs.declared.Node.{Node}
 use Rattle.ast.specs.declared.Node.TheVariants as N
@@ -29,6 +30,17 @@ diagnostic_at cs j = record {
   wanted = get_or cs (j + 3) 0;
   seen = get_or cs (j + 4) 0;
 }
+
+abbrev pub counts_at : List ℕ → Counts
+counts_at cs =
+    record {
+      nodes = get_or cs 0 0;
+      types = get_or cs 1 0;
+      cells = get_or cs 2 0;
+      roots = get_or cs 3 0;
+      values = get_or cs 4 0;
+      diagnostics = get_or cs 5 0;
+    }
 
 -- the record that cells hold, at each kind from 1 on
 unfoldable pub nodes_by_kind : List ℕ → List (Option Node)

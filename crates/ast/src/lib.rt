@@ -5,6 +5,9 @@ pub mod decode;
 pub mod lent;
 pub mod schema;
 
+ghost use Rattle.std.specs.Prelude.{◌≡◌};
+ghost use Rattle.ast.specs.Decode.{counts_at};
+
 pub use lent::Tree;
 use lex::{Diagnostic, Refusal, Token};
 
@@ -185,6 +188,25 @@ pub struct Counts {
     pub roots: u32,
     pub values: u32,
     pub diagnostics: u32,
+}
+
+// Six cells hold them, in this order.
+impl From<&[u32; 6]> for Counts {
+    ghost from_gives = { λ cells counts. counts ≡ counts_at cells.now };
+
+    fn from(cells: &[u32; 6]) -> Counts
+        ensures { result ≡ counts_at cells.now }
+    {
+        let [nodes, types, cells, roots, values, diagnostics] = *cells;
+        Counts {
+            nodes,
+            types,
+            cells,
+            roots,
+            values,
+            diagnostics,
+        }
+    }
 }
 
 // Why a reading has no tree: what was lent, or the script.
