@@ -1,6 +1,6 @@
 -- The kinds of token, numbered in the order of `Type`, the signs, the keyword table and the fixed
 -- spellings.
-use Rattle.std.specs.Prelude.{Bool, true, false, List, [], ◌∷◌, map, ℕ, eqb, get_or, Some, None}
+use Rattle.std.specs.Prelude.{◌≡◌, ◌<◌, Bool, true, false, List, [], ◌∷◌, map, ℕ, eqb, get_or, Some, None}
 use Rattle.lex.specs.Bytes.{find_byte}
 
 abbrev pub k_eof : ℕ
@@ -186,6 +186,11 @@ punctuator_kinds =
 -- the kind of a sign of one byte; 0 where the byte is none
 unfoldable pub punctuator_kind : ℕ → ℕ
 punctuator_kind b = elim (find_byte b punctuators) [ Some i ↦ get_or punctuator_kinds i 0 | None ↦ 0 ]
+
+-- the kind of a sign
+pub record IsKindOf (b kind : ℕ) : Type 0 where
+  pub same : kind ≡ punctuator_kind b
+  pub some : 0 < kind
 
 -- the fixed spelling of each kind from 0 on; empty for S, D, I, Ident and Doc, whose tokens have
 -- their own

@@ -1,7 +1,7 @@
 // Tokens: their kinds, the keyword table and their spellings.
-ghost use Rattle.std.specs.Prelude.{◌≡◌, [], ◌∷◌, length};
+ghost use Rattle.std.specs.Prelude.{◌≡◌, [], ◌∷◌, length, MatchOption};
 ghost use Rattle.lex.specs.Kind.{same_bytes, keywords, name_kind};
-ghost use Rattle.lex.specs.Kind.{punctuator_kind, fixed_spelling};
+ghost use Rattle.lex.specs.Kind.{punctuator_kind, IsKindOf, fixed_spelling};
 ghost use Rattle.lex.specs.Spelling.{spelling_offset, spelling as spelling_of};
 ghost use Rattle.lex.specs.Spelling.{well_formed, as_str_length};
 
@@ -58,7 +58,8 @@ pub struct Next {
     pub next: usize,
 }
 
-// The kinds of token are numbers, in the order of the Rust enum.
+// The kinds of token are numbers, in the order of the Rust enum: cells of lent arrays, so that an enum
+// as a parameter would ask more.
 #[derive(Clone, Copy)]
 pub struct Type(pub u32);
 
@@ -200,30 +201,30 @@ impl Type {
         }
     }
 
-    // The kind of a sign of one byte; 0 where the byte is none.
-    pub(crate) fn from_punctuator(b: u8) -> u32
-        ensures { result ≡ punctuator_kind b }
+    // The kind of a sign of one byte.
+    pub(crate) fn from_punctuator(b: u8) -> Option<u32>
+        ensures { MatchOption result (punctuator_kind b ≡ 0) (IsKindOf b) }
     {
         match b {
-            b'(' => Type::BRACE_LEFT,
-            b')' => Type::BRACE_RIGHT,
-            b'+' => Type::PLUS,
-            b'-' => Type::MINUS,
-            b'*' => Type::ASTERIKS,
-            b'/' => Type::SLASH,
-            b'%' => Type::PERCENT,
-            b'=' => Type::EQUAL,
-            b'<' => Type::LESS_THAN,
-            b'>' => Type::GREATER_THAN,
-            b'!' => Type::EXCLAIM,
-            b'?' => Type::QUESTION,
-            b':' => Type::COLON,
-            b'.' => Type::DOT,
-            b'[' => Type::BRAKET_LEFT,
-            b']' => Type::BRAKET_RIGHT,
-            b'{' => Type::CURLY_LEFT,
-            b'}' => Type::CURLY_RIGHT,
-            _ => 0,
+            b'(' => Some(Type::BRACE_LEFT),
+            b')' => Some(Type::BRACE_RIGHT),
+            b'+' => Some(Type::PLUS),
+            b'-' => Some(Type::MINUS),
+            b'*' => Some(Type::ASTERIKS),
+            b'/' => Some(Type::SLASH),
+            b'%' => Some(Type::PERCENT),
+            b'=' => Some(Type::EQUAL),
+            b'<' => Some(Type::LESS_THAN),
+            b'>' => Some(Type::GREATER_THAN),
+            b'!' => Some(Type::EXCLAIM),
+            b'?' => Some(Type::QUESTION),
+            b':' => Some(Type::COLON),
+            b'.' => Some(Type::DOT),
+            b'[' => Some(Type::BRAKET_LEFT),
+            b']' => Some(Type::BRAKET_RIGHT),
+            b'{' => Some(Type::CURLY_LEFT),
+            b'}' => Some(Type::CURLY_RIGHT),
+            _ => None,
         }
     }
 
@@ -263,17 +264,7 @@ fn kind_if(spelling: &[u8], kind: u32, name: &[u8]) -> u32
 pub fn same_bytes(a: &[u8], b: &[u8]) -> bool
     ensures { result ≡ same_bytes a.now b.now }
 {
-    if a.len() != b.len() {
-        return false;
-    }
-    let mut i = 0;
-    while i < a.len() {
-        if a[i] != b[i] {
-            return false;
-        }
-        i += 1;
-    }
-    true
+    a == b
 }
 
 // How many bytes of a token stand before its spelling, `rest` being what begins with it.

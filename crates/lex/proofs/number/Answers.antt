@@ -23,7 +23,7 @@ pub overflow_add-first-2 : goal.overflow_add-first-2
 overflow_add-first-2 c = omega (arith, c.skip_digits-first.ensures, run_le is_digit c.args.rest.now)
 
 pub double-requires : goal.double-requires
-double-requires c = (c.requires, omega (arith, nonzero_inside c.args.rest.now c.skip_digits-first.result (omega (arith, c.peek.ensures, c.if-peek-ne46.false))))
+double-requires c = omega (arith, nonzero_inside c.args.rest.now c.skip_digits-first.result (omega (arith, c.peek.ensures, c.if-peek-ne46.false)))
 
 pub returns : goal.returns
 returns c =

@@ -11,11 +11,11 @@ use Rattle.lex.proofs.symbol.Goals as goal
 
 pub returns-then-b-ne35 : goal.returns-then-b-ne35
 unfolding symbol
-returns-then-b-ne35 c = rw (ne_eqb _ _ c.if-b-ne35.true, symbol) (c.unknown_character.ensures ∙ sym (no-punctuation _ _ c.requires.2))
+returns-then-b-ne35 c = rw (ne_eqb _ _ c.if-b-ne35.true, symbol) (c.unknown_character.ensures ∙ sym (no-punctuation _ _ c.requires.1))
 
 pub returns-then-peek-ne33 : goal.returns-then-peek-ne33
 unfolding symbol
-returns-then-peek-ne33 c = rw (eq-eqb _ _ c.if-b-ne35.false, ne_eqb _ _ (λ e. c.if-peek-ne33.true (c.peek.ensures ∙ e)), symbol) (c.unknown_character-then-peek-ne33.ensures ∙ sym (no_sign _ c.requires.2))
+returns-then-peek-ne33 c = rw (eq-eqb _ _ c.if-b-ne35.false, ne_eqb _ _ (λ e. c.if-peek-ne33.true (c.peek.ensures ∙ e)), symbol) (c.unknown_character-then-peek-ne33.ensures ∙ sym (no_sign _ c.requires.1))
 
 pub slice_bounds-doc-count : goal.slice_bounds-doc-count
 slice_bounds-doc-count c = nonzero_inside c.args.rest.now 1 (omega (arith, c.peek.ensures, c.if-peek-ne33.false))

@@ -3,13 +3,11 @@
 use mathlib.Core.Path.{◌∙◌, sym}
 use native.Mathlib.Omega.{arith}
 use borrow.Author.Rules.{rules}
-use Rattle.lex.specs.Bytes.{in_set}
-use Rattle.lex.proofs.Characters.{plain-front, lead_asks, lead_two, char_single, char_invalid, char_whole, char_cut, char_end}
+use Rattle.lex.proofs.Characters.{is_ascii, ascii-front, lead_asks, lead_two, char_single, char_invalid, char_whole, char_cut, char_end}
 use Rattle.lex.proofs.utf8.is_utf8.Goals as goal
 
 pub loop-i-init : goal.loop-i-init
-unfolding in_set
-loop-i-init c = plain-front 0x80 c.args.bytes.now _ c.skip_set-i.ensures
+loop-i-init c = ascii-front c.args.bytes.now _ (c.count_run-i.ensures.run is_ascii (λ b r e. search rules))
 
 pub returns-then-not-completes : goal.returns-then-not-completes
 returns-then-not-completes c =

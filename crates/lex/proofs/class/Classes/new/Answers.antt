@@ -1,12 +1,8 @@
--- `step` meets its contract.
--- Assumes nothing.
+-- `Classes::new` makes the table of the specification.
 use mathlib.Core.Path.{refl}
 use Rattle.lex.specs.Bytes.{class_table, class_of, bit, is_ident_cont, is_ident_start, is_digit, is_num_cont, is_ws, or, between}
-use Rattle.lex.proofs.step.Goals as goal
+use Rattle.lex.proofs.class.Classes.new.Goals as goal
 
-pub step_with-requires : goal.step_with-requires
+pub invariant_of-result : goal.invariant_of-result
 unfolding class_table class_of bit is_ident_cont is_ident_start is_digit is_num_cont is_ws or between
-step_with-requires c = refl
-
-pub returns : goal.returns
-returns c = c.step_with.ensures
+invariant_of-result c = record { is_table = refl }

@@ -3,7 +3,7 @@
 use mathlib.Core.Path.{◌∙◌}
 use borrow.Author.Rules.{rules}
 use Rattle.lex.proofs.Bits.{looked, class_bits}
-use Rattle.lex.proofs.class.separates.Goals as goal
+use Rattle.lex.proofs.class.Classes.separates.Goals as goal
 
 pub returns : goal.returns
-returns c = looked 16 c.args.classes.now c.args.b c.requires (search rules) ∙ (class_bits c.args.b).4
+returns c = looked 16 c.args.self.now.bits c.args.b c.args.self.now.is_table (search rules) ∙ (class_bits c.args.b).4
