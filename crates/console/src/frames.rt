@@ -91,7 +91,28 @@ pub fn read_frame(input: &mut impl Read, buf: &mut [u8]) -> Result<Option<usize>
     Ok(Some(n))
 }
 
-// ---- for cases that a tool writes: what is missing or malformed is taken for 0
+// ---- cases that a tool writes
+
+// Shows case after case, until one answers that there was none. What is malformed ends them, and is
+// said. Nothing says that the input ends, so the cases are counted.
+pub fn each_case<F: FnMut(u64) -> Result<bool, ReadError>>(
+    rt: &impl Print,
+    mut show: F,
+) -> io::Result<()>
+    requires { F.IsAlwaysCallable show }
+{
+    for i in 0..u64::MAX {
+        match show(i) {
+            Ok(true) => {}
+            Ok(false) => return Ok(()),
+            Err(ReadError::Malformed) => return rt.write_all(b"(malformed)\n"),
+            Err(ReadError::Io(error)) => return Err(error),
+        }
+    }
+    Ok(())
+}
+
+// ---- numbers and scripts of a case: what is missing or malformed is taken for 0
 
 // What was read, if anything was.
 fn read_or_none(read: Result<Option<usize>, ReadError>) -> io::Result<Option<usize>>

@@ -1,11 +1,7 @@
-// Texts and numbers on standard output.
+// What the programs print alike.
+use lex::Refusal;
 use std::io;
 
-pub fn write(rt: &impl Print, text: &[u8]) -> io::Result<()> {
-    rt.write_all(text)
-}
-
-// In decimal.
-pub fn write_number(rt: &impl Print, n: u64) -> io::Result<()> {
-    rt.print(n)
+pub fn print_refusal(rt: &impl Print, refusal: Refusal) -> io::Result<()> {
+    print!(rt; "refused {}", u32::from(refusal))
 }

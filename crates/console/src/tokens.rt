@@ -17,47 +17,35 @@ fn print_kind(rt: &impl Print, kind: u32) -> io::Result<()> {
     rt.write_all(&Type::NAMES[from..to])
 }
 
-fn print_number(rt: &impl Print, n: u64) -> io::Result<()> {
-    print!(rt; " {n}")
-}
-
 // Kind, start and length in round brackets.
 pub fn print_token(rt: &impl Print, t: Token) -> io::Result<()> {
     rt.write_all(b"(")?;
     print_kind(rt, t.kind)?;
-    print_number(rt, t.start as u64)?;
-    print_number(rt, t.len as u64)?;
-    rt.write_all(b")")
+    print!(rt; " {} {})", t.start, t.len)
 }
 
 fn print_token_line(rt: &impl Print, t: Token) -> io::Result<()> {
     print_token(rt, t)?;
-    rt.write_all(b"\n")
+    println!(rt;)
 }
 
 // A fault as an error of five numbers; a fault wants nothing.
 fn print_fault(rt: &impl Print, e: Fault) -> io::Result<()> {
-    rt.write_all(b"(diag")?;
-    print_number(rt, e.number as u64)?;
-    print_number(rt, e.start as u64)?;
-    print_number(rt, e.len as u64)?;
-    print_number(rt, 0)?;
-    print_number(rt, e.seen as u64)?;
-    rt.write_all(b")\n")
+    println!(rt; "(diag {} {} {} 0 {})", e.number, e.start, e.len, e.seen)
 }
 
 // Every token and fault of a script, in order, Eof last.
 pub fn print_script(rt: &impl Print, script: &[u8]) -> io::Result<()> {
-    let mut p: usize = 0;
+    let mut at = 0;
     loop {
-        match lex::step(script, p) {
+        match lex::step(script, at) {
             Step::Token { token, next } => {
                 print_token_line(rt, token)?;
-                p = next;
+                at = next;
             }
             Step::Fault { fault, next } => {
                 print_fault(rt, fault)?;
-                p = next;
+                at = next;
             }
             Step::End { at } => {
                 return print_token_line(
