@@ -2,7 +2,7 @@
 // is refused. `tools/words` holds the file `stdout` to the tables of docs/WORDS.md.
 #![tactic(auto)]
 
-use console::output::print_refusal;
+use console::output::print_answer;
 use lex::Diagnostic;
 use std::io;
 use words::describe;
@@ -18,14 +18,11 @@ fn show(rt: &impl Print, number: u32, wanted: u32, seen: u32) -> io::Result<()> 
     };
     let mut line = [b'.'; 160];
     print!(rt; "{number} {wanted} {seen} ")?;
-    match describe(error, &mut line) {
-        Err(refusal) => print_refusal(rt, refusal)?,
-        Ok(n) => {
-            if let Some(words) = line.get(..n) {
-                rt.write_all(words)?;
-            }
-        }
-    }
+    let answer = describe(error, &mut line);
+    print_answer(rt, answer, |n| match line.get(..n) {
+        Some(words) => rt.write_all(words),
+        None => Ok(()),
+    })?;
     println!(rt;)
 }
 
@@ -46,10 +43,7 @@ fn show_buffer(rt: &impl Print, number: u32, line: &mut [u8]) -> io::Result<()> 
         wanted: 0,
         seen: 0,
     };
-    match describe(error, line) {
-        Err(refusal) => print_refusal(rt, refusal)?,
-        Ok(n) => print!(rt; "written {n}")?,
-    }
+    print_answer(rt, describe(error, line), |n| print!(rt; "written {n}"))?;
     println!(rt;)?;
     rt.write_all(line)?;
     println!(rt;)
