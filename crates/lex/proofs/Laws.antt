@@ -11,11 +11,12 @@ use lib.ListN.{length, get_or, take, drop, length-take, length-drop, drop_of_len
 use lib.Seq.{drop-cons}
 use lib.Dec.{leb, ltb, eqb, leb-zero, leb-suc-zero, leb-suc-suc}
 use borrow.Author.Tests.{lt-ltb, le-ltb, ltb-true, leb-true, eq-eqb, ne_eqb, eqb-false}
-use Rattle.std.specs.Prelude.{Option, Some, None}
+use Rattle.std.specs.Prelude.{Option, Some, None, MatchOption}
+use Rattle.std.specs.Borrow.{Bor}
 use Rattle.std.specs.Cmp.Lexicographic.{pointwise}
 use Rattle.lex.specs.declared.utf8.Utf8State.{Utf8State}
 use Rattle.lex.specs.Bytes.{Computes, count_while, differs_from, is_plain, before, find_byte}
-use Rattle.lex.specs.Kind.{Keyword, k_ident, same_bytes, name_kind}
+use Rattle.lex.specs.Kind.{Keyword, k_ident, same_bytes, name_kind, text_at}
 use Rattle.lex.specs.Utf8.{next_state, state_after}
 use Rattle.lex.specs.Lex.{leading_space}
 
@@ -238,6 +239,18 @@ module _ (p : Utf8State) (s : List ℕ) (i : ℕ) (q : Utf8State) (reached : sta
   pub place_end : length s ≤ i → p ≡ q
   unfolding state_after
   place_end h = rw (drop_of_length-le s h) at reached
+
+-- ---- tables of texts
+
+pub text_inside : (xs : List (Bor (List ℕ))) (k : ℕ) (t d : Bor (List ℕ)) → k < length xs → t ≡ get_or xs k d → t.now ≡ text_at xs k
+text_inside [] k t d h e = absurd (not-suc-le-zero h)
+text_inside (x ∷ xs) zero t d h e = ap (λ (b : Bor (List ℕ)). b.now) e
+text_inside (x ∷ xs) (suc k) t d h e = text_inside xs k t d (le_of_suc-le-suc h) e
+
+-- what each case says is weakened
+pub match_weaker : {A : Type 0} {P P' : Type 0} {Q Q' : A → Type 0} (o : Option A) → (P → P') → ((a : A) → Q a → Q' a) → MatchOption o P Q → MatchOption o P' Q'
+match_weaker None f g h = f h
+match_weaker (Some a) f g h = g a h
 
 -- ---- two spellings
 

@@ -1,7 +1,8 @@
 // Tokens: their kinds, the keyword table and their spellings.
-ghost use Rattle.std.specs.Prelude.{◌≡◌, [], ◌∷◌, length, MatchOption};
+ghost use Rattle.std.specs.Prelude.{◌≡◌, true, false, [], ◌∷◌, ◌<◌, ◌≤◌, length, MatchOption};
+ghost use Rattle.lex.specs.Bytes.{between};
 ghost use Rattle.lex.specs.Kind.{same_bytes, keywords, name_kind};
-ghost use Rattle.lex.specs.Kind.{punctuator_kind, IsKindOf, fixed_spelling};
+ghost use Rattle.lex.specs.Kind.{punctuator_kind, IsKindOf, text_at, kind_name, fixed_spelling};
 ghost use Rattle.lex.specs.Spelling.{spelling_offset, spelling as spelling_of};
 ghost use Rattle.lex.specs.Spelling.{well_formed, as_str_length};
 
@@ -154,20 +155,6 @@ impl Type {
 
     pub const RECORD: u32 = 43;
 
-    // The names of the kinds, one after the other.
-    pub const NAMES: [u8; 245] =
-        *b"EofBraceLeftBraceRightPlusMinusAsteriksSlashPercentEqualDoubleEqualLessThan\
-        GreaterThanExclaimNotEqualQuestionColonDotBraketLeftBraketRightCurlyLeftCurlyRight\
-        SDIIdentDocImportExternLetFnMatchAsTrueFalseStrIntDoubleBoolVoidOptionArrayForeign\
-        Record";
-
-    // Where each kind's name ends; the first begins at 0.
-    pub const NAME_ENDS: [usize; 44] = [
-        0, 3, 12, 22, 26, 31, 39, 44, 51, 56, 67, 75, 86, 93, 101, 109, 114, 117, 127, 138, 147,
-        157, 158, 159, 160, 165, 168, 174, 180, 183, 185, 190, 192, 196, 201, 204, 207, 213, 217,
-        221, 227, 232, 239, 245,
-    ];
-
     // The kind of a name: its keyword's, or IDENT.
     pub fn from_keyword(name: &[u8]) -> u32
         ensures { result ≡ name_kind keywords name.now }
@@ -228,24 +215,91 @@ impl Type {
         }
     }
 
+    // The name of a kind in the Rust enum; none for a number that is no kind.
+    pub fn name(kind: u32) -> Option<&'static str>
+        ensures { MatchOption result (between 1 43 kind ≡ false) (λ n. (between 1 43 kind ≡ true) × (n.now ≡ kind_name kind)) }
+    {
+        if kind < Type::EOF {
+            return None;
+        }
+        text_at(&KIND_NAMES, kind as usize)
+    }
+
     // The length of `as_str`; 0 for a kind whose tokens have spellings of their own, and for a
     // number that is no kind.
     pub fn spelling_len(kind: u32) -> usize
         ensures { result ≡ length (fixed_spelling kind) }
     {
-        if kind < 44 {
-            let k = kind as usize;
-            SPELLING_LENS[k]
-        } else {
-            0
+        match text_at(&SPELLINGS, kind as usize) {
+            Some(text) => text.len(),
+            None => 0,
         }
     }
 }
 
-// The length of each kind's fixed spelling.
-const SPELLING_LENS: [usize; 44] = [
-    0, 3, 1, 1, 1, 1, 1, 1, 1, 1, 2, 1, 1, 1, 2, 1, 1, 1, 1, 1, 1, 1, 0, 0, 0, 0, 0, 6, 6, 3, 2, 5,
-    2, 4, 5, 3, 3, 6, 4, 4, 6, 5, 7, 6,
+// The text at a number, where the table has one.
+fn text_at(table: &[&'static str], n: usize) -> Option<&'static str>
+    ensures { MatchOption result (length table.now ≤ n) (λ t. (n < length table.now) × (t.now ≡ text_at table.now n)) }
+{
+    match table.get(n) {
+        Some(text) => Some(*text),
+        None => None,
+    }
+}
+
+// The name of each kind; 0 is none.
+const KIND_NAMES: [&str; 44] = [
+    "",
+    "Eof",
+    "BraceLeft",
+    "BraceRight",
+    "Plus",
+    "Minus",
+    "Asteriks",
+    "Slash",
+    "Percent",
+    "Equal",
+    "DoubleEqual",
+    "LessThan",
+    "GreaterThan",
+    "Exclaim",
+    "NotEqual",
+    "Question",
+    "Colon",
+    "Dot",
+    "BraketLeft",
+    "BraketRight",
+    "CurlyLeft",
+    "CurlyRight",
+    "S",
+    "D",
+    "I",
+    "Ident",
+    "Doc",
+    "Import",
+    "Extern",
+    "Let",
+    "Fn",
+    "Match",
+    "As",
+    "True",
+    "False",
+    "Str",
+    "Int",
+    "Double",
+    "Bool",
+    "Void",
+    "Option",
+    "Array",
+    "Foreign",
+    "Record",
+];
+
+// The fixed spelling of each number from 0 on; empty where there is none.
+const SPELLINGS: [&str; 44] = [
+    "", "eof", "(", ")", "+", "-", "*", "/", "%", "=", "==", "<", ">", "!", "!=", "?", ":", ".",
+    "[", "]", "{", "}", "", "", "", "", "", "import", "extern", "let", "fn", "match", "as", "true",
+    "false", "Str", "Int", "Double", "Bool", "Void", "Option", "Array", "Foreign", "Record",
 ];
 
 // The kind, where the name has the spelling; else IDENT.
