@@ -5,16 +5,7 @@ use std::io;
 
 // The name of a kind; nothing for a number that is no kind.
 fn print_kind(rt: &impl Print, kind: u32) -> io::Result<()> {
-    if kind < Type::EOF {
-        return Ok(());
-    }
-    if Type::RECORD < kind {
-        return Ok(());
-    }
-    let k = kind as usize;
-    let from = Type::NAME_ENDS[k - 1];
-    let to = Type::NAME_ENDS[k];
-    rt.write_all(&Type::NAMES[from..to])
+    print!(rt; "{}", Type::name(kind).unwrap_or(""))
 }
 
 // Kind, start and length in round brackets.

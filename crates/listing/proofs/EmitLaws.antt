@@ -9,7 +9,10 @@ use native.Mathlib.Omega.{arith}
 use lib.Dec.{leb, ltb}
 use lib.ListN.{length, get_or, take, drop, get_or-eq_default}
 use borrow.Author.Tests.{le-leb, lt-leb, leb-true, leb-false}
-use Rattle.lex.proofs.Laws.{agree}
+use Rattle.lex.specs.Bytes.{between}
+use Rattle.lex.specs.Kind as L
+use Rattle.lex.proofs.Bits.{to_high}
+use Rattle.lex.proofs.Laws.{table, agree}
 use Rattle.ast.specs.declared.Run.{Run}
 use Rattle.text.proofs.EmitLaws.{and_then, writes_nothing, writes_by}
 use Rattle.text.specs.Text.{bytes}
@@ -143,32 +146,31 @@ module _ {A : Type 0} (text : A → List ℕ) (xs : List A) (i : ℕ) where
 
 -- ---- the names of the kinds
 
--- the table of the code: the names, and where each ends
-abbrev names : List ℕ
-names = bytes "EofBraceLeftBraceRightPlusMinusAsteriksSlashPercentEqualDoubleEqualLessThanGreaterThanExclaimNotEqualQuestionColonDotBraketLeftBraketRightCurlyLeftCurlyRightSDIIdentDocImportExternLetFnMatchAsTrueFalseStrIntDoubleBoolVoidOptionArrayForeignRecord"
-
-abbrev ends : List ℕ
-ends = 0 ∷ 3 ∷ 12 ∷ 22 ∷ 26 ∷ 31 ∷ 39 ∷ 44 ∷ 51 ∷ 56 ∷ 67 ∷ 75 ∷ 86 ∷ 93 ∷ 101 ∷ 109 ∷ 114 ∷ 117 ∷ 127 ∷ 138 ∷ 147 ∷ 157 ∷ 158 ∷ 159 ∷ 160 ∷ 165 ∷ 168 ∷ 174 ∷ 180 ∷ 183 ∷ 185 ∷ 190 ∷ 192 ∷ 196 ∷ 201 ∷ 204 ∷ 207 ∷ 213 ∷ 217 ∷ 221 ∷ 227 ∷ 232 ∷ 239 ∷ 245 ∷ []
-
-pub ends_in_order : (k : ℕ) → k < 44 → get_or ends (k - 1) 0 ≤ get_or ends k 0
-ends_in_order k h = leb-true _ _ (agree (λ (n : ℕ). leb (get_or ends (n - 1) 0) (get_or ends n 0)) (λ (n : ℕ). true) true 44 k refl h)
-
-pub ends-inside : (k : ℕ) → k < 44 → get_or ends k 0 ≤ 245
-ends-inside k h = leb-true _ _ (agree (λ (n : ℕ). leb (get_or ends n 0) 245) (λ (n : ℕ). true) true 44 k refl h)
-
-pub kind_low : (k : ℕ) → k < 1 → malformed ≡ kind_name k
+kind_low : (k : ℕ) → k < 1 → malformed ≡ kind_name k
 unfolding kind_name kind_names
 kind_low k h = let e : k ≡ 0 = omega arith in rw e
 
-pub kind_high : (k : ℕ) → 43 < k → malformed ≡ kind_name k
+kind_high : (k : ℕ) → 43 < k → malformed ≡ kind_name k
 unfolding kind_name kind_names
 kind_high k h = sym (get_or-eq_default kind_names malformed {n = k} h)
 
--- antt computes it for every kind
-pub kind_at : (k : ℕ) → 0 < k → k < 44 → take (get_or ends k 0 - get_or ends (k - 1) 0) (drop (get_or ends (k - 1) 0) names) ≡ kind_name k
-unfolding kind_name kind_names bytes
-kind_at k l h =
-    let e : k - 1 + 1 ≡ k = omega arith in
-    ap (λ (m : ℕ). take (get_or ends m 0 - get_or ends (k - 1) 0) (drop (get_or ends (k - 1) 0) names)) (sym e)
-    ∙ agree (λ (n : ℕ). take (get_or ends (n + 1) 0 - get_or ends n 0) (drop (get_or ends n 0) names)) (λ (n : ℕ). kind_name (n + 1)) [] 43 (k - 1) refl (omega arith)
-    ∙ ap kind_name e
+pub kind_none : (k : ℕ) → between 1 43 k ≡ false → malformed ≡ kind_name k
+unfolding between
+kind_none k = go (leb 1 k) refl (leb k 43) refl
+  where
+    go : (s : Bool) → leb 1 k ≡ s → (t : Bool) → leb k 43 ≡ t → elim s as (λ (_ : Bool). Bool) [ true ↦ t | false ↦ false ] ≡ false → malformed ≡ kind_name k
+    go true e true f h = absurd (false≢true (sym h))
+    go true e false f h = kind_high k (leb-false k 43 f)
+    go false e t f h = kind_low k (leb-false 1 k e)
+
+-- functions that antt computes to the same at the numbers with a property
+same_at : (p : ℕ → Bool) (f g : ℕ → List ℕ) (n k : ℕ)
+    → table (λ (x : ℕ). elim (p x) as (λ (_ : Bool). List ℕ) [ true ↦ f x | false ↦ [] ]) 0 n ≡ table (λ (x : ℕ). elim (p x) as (λ (_ : Bool). List ℕ) [ true ↦ g x | false ↦ [] ]) 0 n
+    → k < n → p k ≡ true → f k ≡ g k
+same_at p f g n k e h q =
+    rw q at (agree (λ (x : ℕ). elim (p x) as (λ (_ : Bool). List ℕ) [ true ↦ f x | false ↦ [] ]) (λ (x : ℕ). elim (p x) as (λ (_ : Bool). List ℕ) [ true ↦ g x | false ↦ [] ]) [] n k e h)
+
+-- the name that the lexer has for it
+pub kind_named : (k : ℕ) → between 1 43 k ≡ true → L.kind_name k ≡ kind_name k
+unfolding kind_name kind_names bytes L.kind_name L.kind_names between
+kind_named k e = same_at (between 1 43) L.kind_name kind_name 44 k refl (omega (arith, to_high 1 43 k e)) e

@@ -15,13 +15,10 @@ use text::Writer;
 fn write_kind(kind: u32, w: &mut Writer) -> Listed
     ensures { Lists (kind_name kind) w.old w.new result }
 {
-    if kind < Type::EOF || Type::RECORD < kind {
+    let Some(name) = Type::name(kind) else {
         return Err(Malformed);
-    }
-    let k = kind as usize;
-    let from = Type::NAME_ENDS[k - 1];
-    let to = Type::NAME_ENDS[k];
-    w.write_text(&Type::NAMES[from..to]);
+    };
+    w.write_text(name.as_bytes());
     Ok(())
 }
 
