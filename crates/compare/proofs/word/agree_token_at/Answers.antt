@@ -2,4 +2,4 @@
 use Rattle.compare.proofs.word.agree_token_at.Goals as goal
 
 pub returns : goal.returns
-returns c = rw (c.token_at-t.ensures, c.token_at-t2.ensures) at c.agree_token.ensures
+returns c = rw (c.token_at.ensures, c.token_at-2.ensures) at c.agree_token.ensures
