@@ -1,23 +1,20 @@
 -- Records, and cells of lists under construction.
-use Rattle.std.proofs.Common.{◌≡◌, ℕ, suc, ◌+◌, ◌-◌, ◌*◌, ◌<◌, ◌≤◌, true, false, ◌&&◌, ltb, leb, List, [], ◌∷◌, ◌++◌, map, reverse, length, get_or, take, drop, set, sym, refl, ap, ◌∙◌, subst, append_assoc, append-nil, arith, length-append, length-drop, take-append-drop, drop_of_length-le, length-take-le, get_or-drop, take_all, get_or-take, drop-drop, take_at, drop_at, ltb-false, ltb-true, lt-ltb, le-leb, leb-true}
+use Rattle.std.proofs.Common.{◌≡◌, ℕ, suc, ◌+◌, ◌-◌, ◌*◌, ◌<◌, ◌≤◌, true, ltb, List, [], ◌∷◌, ◌++◌, map, reverse, length, get_or, take, drop, set, sym, refl, ap, ◌∙◌, subst, append_assoc, append-nil, arith, length-append, length-drop, take-append-drop, drop_of_length-le, length-take-le, get_or-drop, get_or-take, take_all, take_at, drop_at, ltb-false, ltb-true}
 use mathlib.Core.List.{flatten, reverse-cons, reverse-append, reverse-reverse}
 use lib.ListN.{length-reverse, get_or-append}
 use borrow.Rule.Slice.PartMut.{mid_of, put_mid}
-use lib.Seq.{paste, length-paste, drop-append-add, drop-append-le, take-paste, drop-paste, paste-suc, get_or_at}
-use Rattle.lex.specs.Answer.{max_bytes}
+use lib.Seq.{paste, length-paste, drop-append-add, drop-append-le, drop-paste, paste-suc, get_or_at}
 use Rattle.lex.specs.declared.tok.Token.{Token}
 use Rattle.rules.specs.Combinators.{pure, push_node_and, push_type, with_arena, alloc_slice}
 use Rattle.ast.specs.Layout.{token_cells, run_cells, node_width, type_width, node_cells, type_cells}
 use Rattle.ast.specs.declared.Node.{Node}
-use Rattle.ast.specs.declared.NodeId.{NodeId}
 use Rattle.ast.specs.declared.Node.TheVariants as N
 use Rattle.ast.specs.declared.TypeExpr.{TypeExpr}
 use Rattle.ast.specs.declared.TypeExpr.TheVariants as TE
-use Rattle.parser_state.specs.Represents.{Code, Reading, with_used, with_nodes, with_types, with_lists, going, is_going, doc_cells, NodesLaid, TypesLaid, ListsLaid}
-use Rattle.parser_state.specs.Refines.{stack_unchanged, Refines, Pushes, Lists, has_room}
+use Rattle.parser_state.specs.Represents.{Code, with_used, with_nodes, with_types, with_lists, going, doc_cells, NodesLaid, TypesLaid, ListsLaid}
+use Rattle.parser_state.specs.Refines.{stack_unchanged, Refines, Pushes, Lists}
 use Rattle.parser_state.specs.declared.Used.{Used}
-use Rattle.parser_state.proofs.Leaves.{idle, full}
-use Rattle.parser_state.proofs.Steps.{either, true≢false, and_both, left-some}
+use Rattle.parser_state.proofs.Steps.{either, true≢false, left-some}
 
 -- ---- lists
 
@@ -220,33 +217,6 @@ node_making tokens cells {nodes'} s f more rooms few g w e = record {
       );
 }
 
--- ---- room for a node
-
-pub record Room (len : ℕ) (p : Reading) : Type 0 where
-  pub going : is_going p.error ≡ true
-  pub records : p.used.nodes < max_bytes
-  pub cells : node_width * p.used.nodes + node_width ≤ len
-  pub values : p.used.values < 4000000000
-
-pub room : (len : ℕ) (p : Reading) → has_room len p ≡ true → Room len p
-unfolding has_room
-room len p e =
-    let a = and_both (is_going p.error) (ltb p.used.nodes max_bytes && (leb (node_width * p.used.nodes + node_width) len && ltb p.used.values 4000000000)) e in
-    let b = and_both (ltb p.used.nodes max_bytes) (leb (node_width * p.used.nodes + node_width) len && ltb p.used.values 4000000000) a.1 in
-    let c = and_both (leb (node_width * p.used.nodes + node_width) len) (ltb p.used.values 4000000000) b.1 in
-    record { going = a.0; records = ltb-true _ _ b.0; cells = leb-true _ _ c.0; values = ltb-true _ _ c.1 }
-
--- where the arrays hold a state there is room, unless the reading has failed
-pub no_room : (tokens : List ℕ) (s : Code) (f : ℕ → Node) (more rooms : ℕ) {Q : NodeId → Type 0} → 1 + more ≤ 40000 * rooms → has_room (length s.nodes) s.parser ≡ false → Refines tokens rooms 0 (push_node_and more f) Q stack_unchanged 0 0 0 s s
-unfolding has_room
-no_room tokens s f more rooms few e = either (going s)
-    (λ g. full (λ R L stack m h.
-    let a : s.parser.used.nodes < max_bytes = omega (arith, h.credit.records, h.lent.small, left-some h) in
-    let b : node_width * s.parser.used.nodes + node_width ≤ length s.nodes = omega (arith, h.credit.records, h.lent.nodes, left-some h) in
-    let c : s.parser.used.values < 4000000000 = omega (arith, h.credit.numbers, h.lent.small, left-some h) in
-    true≢false (rw (g, lt-ltb _ _ a, le-leb _ _ b, lt-ltb _ _ c) refl) e))
-    idle
-
 -- ---- cells under construction
 
 abbrev pub pushed : Used → ℕ → Used
@@ -384,19 +354,6 @@ pub tail_put : (a : ℕ) (xs ys zs : List ℕ) → ys ≡ zs → put_mid a (leng
 tail_put a xs ys zs e = let none : drop (length xs - a) (drop a xs) ≡ [] = drop_of_length-le (drop a xs) {i = length xs - a} (omega (arith, length-drop a xs)) in ap (λ (l : List ℕ). take a xs ++ (ys ++ l)) none ∙ ap (λ (l : List ℕ). take a xs ++ l) (append-nil ys ∙ e)
 
 -- ---- cells that are copied
-
--- cells behind cells
-pub both-put : (dst xs ys : List ℕ) {d d' : List ℕ} (at : ℕ) → at + (length xs + length ys) ≤ length dst → d ≡ paste dst at xs (length xs) → d' ≡ paste d (at + length xs) ys (length ys) → d' ≡ paste dst at (xs ++ ys) (length (xs ++ ys))
-both-put dst xs ys {d} at h e f =
-    let n : ℕ = length xs in
-    let k : ℕ = length ys in
-    let a : take (at + n) (paste dst at xs n) ≡ take at dst ++ take n xs = take-paste dst at xs n (omega arith) (omega arith) in
-    let b : drop (at + n + k) (paste dst at xs n) ≡ drop (at + (n + k)) dst =
-    sym (drop-drop k (at + n) (paste dst at xs n)) ∙ ap (drop k) (drop-paste dst at xs n (omega arith) (omega arith)) ∙ drop-drop k (at + n) dst ∙ ap (λ (j : ℕ). drop j dst) {x = at + n + k} {y = at + (n + k)} (omega arith) in
-    let c : take n xs ≡ xs = take_all n xs (omega arith) in
-    let c' : take k ys ≡ ys = take_all k ys (omega arith) in
-    let all : take (length (xs ++ ys)) (xs ++ ys) ≡ xs ++ ys = take_all (length (xs ++ ys)) (xs ++ ys) (omega arith) in
-    f ∙ ap (λ (l : List ℕ). paste l (at + n) ys k) e ∙ rw (a, b, c, c', all, length-append xs ys) (simp append_assoc)
 
 -- a cell of a list in reverse
 get_d_reverse : (l : List ℕ) (i : ℕ) → i < length l → get_or (reverse l) i 0 ≡ get_or l (length l - 1 - i) 0

@@ -38,6 +38,11 @@ full f = record {
   simulates = λ R L stack m h. absurd (f R L stack m h.related);
 }
 
+-- there is no place, which happens only where the reading has failed
+pub no_place : {A : Type 0} {tokens : List ℕ} {x : Rule A} {Q : A → Type 0} {grow : A → List ℕ → List ℕ} {r l r' l' : ℕ} {s : Code} {Few Fits : Type 0}
+    → (going s ≡ true → Few → Fits → ⊥) → ((R L : ℕ) (stack : List ℕ) (m : State) → Related tokens s (R + r) (L + l) stack m → Few × Fits) → Refines tokens r l x Q grow 0 r' l' s s
+no_place {s = s} none f = either (going s) (λ g. full (λ R L stack m h. let room = f R L stack m h in none g room.0 room.1)) idle
+
 pub lists_idle : {A : Type 0} {tokens : List ℕ} {x : List (List ℕ) → Rule A} {run : A} {d r' l' mark n : ℕ} {s : Code} → going s ≡ false → Lists tokens x run d r' l' mark n s s
 lists_idle g = record {
   sticky = λ e. refl;

@@ -1,5 +1,5 @@
 -- A run of code from `s` to `s'` does what a rule does.
-use Rattle.std.specs.Prelude.{◌≡◌, ℕ, ◌+◌, ◌*◌, ◌%◌, ◌≤◌, Bool, true, false, not, ◌&&◌, List, ◌++◌, length, ◌==◌, nat_le, nat_lt, slice_index}
+use Rattle.std.specs.Prelude.{◌≡◌, ℕ, ◌+◌, ◌%◌, ◌≤◌, Bool, true, false, not, ◌&&◌, List, ◌++◌, length, ◌==◌, slice_index}
 use Rattle.std.proofs.Math.Option.{Option}
 use mathlib.Core.List.{flatten}
 use Rattle.lex.specs.Kind.{k_eof, k_doc, k_s}
@@ -9,7 +9,6 @@ use Rattle.lex.specs.declared.tok.Token.{Token}
 use Rattle.rules.specs.Tree.{State, Result, ok, err}
 use Rattle.tokens.specs.Table.{token_of}
 use Rattle.tokens.specs.declared.Entry.{Entry}
-use Rattle.ast.specs.Layout.{node_width}
 use Rattle.rules.specs.Combinators.{Rule, Readers, ◌>>◌, current, at_token, expect, alloc_slice, pure, ControlFlow, continue}
 use Rattle.rules.specs.Rules.{readers, stage_one, require_no_docs}
 use Rattle.ast.specs.declared.Run.{Run}
@@ -127,10 +126,6 @@ at_entry number wanted t =
 -- a pending doc, whose cells lie the last first
 abbrev pub doc_at : List ℕ → ℕ → Entry
 doc_at types at = record { kind = slice_index types (at + 2); start = slice_index types (at + 1); len = slice_index types at }
-
--- a node of a reading that has not failed has room in so many cells, and its value numbers fit
-unfoldable pub has_room : ℕ → Reading → Bool
-has_room len p = is_going p.error && (nat_lt p.used.nodes max_bytes && (nat_le (node_width * p.used.nodes + node_width) len && nat_lt p.used.values 4000000000))
 
 -- a loop over members goes on
 abbrev pub follows_by : Bool → Bool → Bool → Bool

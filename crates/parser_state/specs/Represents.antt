@@ -1,5 +1,5 @@
 -- The lent arrays and the parser hold a state of the rules.
-use Rattle.std.specs.Prelude.{Option, None, Some, is_none, ◌≡◌, ℕ, suc, ◌+◌, ◌*◌, ◌≤◌, Bool, true, false, List, [], ◌∷◌, ◌++◌, map, reverse, length, ◌==◌}
+use Rattle.std.specs.Prelude.{Option, None, Some, is_none, ◌≡◌, ℕ, suc, ◌+◌, ◌*◌, ◌<◌, ◌≤◌, Bool, true, false, List, [], ◌∷◌, ◌++◌, map, reverse, length, ◌==◌}
 use Rattle.std.specs.Borrow.{GName}
 use mathlib.Core.List.{flatten}
 use Rattle.lex.specs.Kind.{k_eof}
@@ -79,6 +79,12 @@ with_lists s xs = record s { lists = xs }
 
 abbrev pub going : Code → Bool
 going s = is_going s.parser.error
+
+-- where a record of so many cells goes that has `made` before it: nowhere, if the reading has failed
+-- or there is no room among `len` cells
+abbrev pub IsPlace : Code → ℕ → ℕ → ℕ → Option ℕ → Type 0
+IsPlace s made width len None = going s ≡ true → made < max_bytes → width * made + width ≤ len → ⊥
+IsPlace s made width len (Some at) = (going s ≡ true) × (made < max_bytes) × (at ≡ width * made) × (at + width ≤ len)
 
 -- a token and those behind record `at` of the table
 unfoldable pub from : List ℕ → Token → ℕ → List Token

@@ -7,10 +7,13 @@ ghost use Rattle.lex.specs.Answer.{max_bytes};
 ghost use Rattle.lex.specs.Kind.{k_curly_right};
 ghost use Rattle.tokens.specs.Table.{token_of};
 ghost use Rattle.rules.specs.Combinators.{list_until};
-ghost use Rattle.ast.specs.Layout.{token_cells, run_cells};
-ghost use Rattle.rules.specs.Rules.{open_angle, atom_type, foreign_type, option_type, array_type, record_type, typed_name, supplied_void, fn_return, extern_return, parse_args, import_path, bracketed_paths, one_path, import_paths, parse_import, extern_fn, parse_extern, extern_name};
+ghost use Rattle.ast.specs.Layout.{token_cells, run_cells, type_cells, type_width, padded};
+ghost use Rattle.ast.specs.declared.TypeExpr.{TypeExpr};
+ghost use Rattle.ast.specs.declared.TypeExprId.{TypeExprId};
+ghost use Rattle.rules.specs.Rules.{open_angle, atom_type, foreign_type, record_type, typed_name, supplied_void, fn_return, extern_return, parse_args, import_path, bracketed_paths, one_path, import_paths, parse_import, extern_fn, parse_extern, extern_name};
 ghost use Rattle.parser_state.specs.Represents.{code_of};
 ghost use Rattle.parser_state.specs.Refines.{Refines, stack_unchanged, Takes, ReadsType, ReadsNode, ReadsList, ReadsMember, Pushes, Rules, deeper};
+ghost use Rattle.parser_types.specs.Inner.{inner_type};
 ghost use Rattle.parser_types.specs.Paths.{ReadsPaths};
 
 use ast::{NodeId, NodeKind, Run, TypeExprId, TypeExprKind};
@@ -62,32 +65,19 @@ fn foreign_type(p: &mut Parser, tokens: &[u32]) -> TypeExprId
     ])
 }
 
-// A type = "Option" "<" type ">"
+// A type with one inside = word "<" type ">", `number` being the error where there is none.
 #[cycle(types)]
-fn option_type(p: &mut Parser, tokens: &[u32], levels: usize) -> TypeExprId
+fn inner_type(p: &mut Parser, tokens: &[u32], kind: u32, number: u32, levels: usize) -> TypeExprId
     requires { 1 < p.old.cur.kind }
-    ensures { (rules : Rules) →
-        ReadsType tokens.now (option_type (deeper rules levels))
+    ensures { (rules : Rules) (make : TypeExprId → TypeExpr) →
+        ((id : TypeExprId) → type_cells (make id) ≡ padded type_width (kind ∷ id.0 ∷ []))
+        → ReadsType tokens.now (inner_type number make (deeper rules levels))
         (code_of p.old) (code_of p.new) result }
 {
-    open_angle(p, tokens, Diagnostic::EMPTY_OPTION);
+    open_angle(p, tokens, number);
     let id = parse_type(p, tokens, levels);
     p.expect(tokens, Type::GREATER_THAN);
-    p.push_type([TypeExprKind::OPTION, id.0, 0, 0, 0, 0, 0, 0])
-}
-
-// A type = "Array" "<" type ">"
-#[cycle(types)]
-fn array_type(p: &mut Parser, tokens: &[u32], levels: usize) -> TypeExprId
-    requires { 1 < p.old.cur.kind }
-    ensures { (rules : Rules) →
-        ReadsType tokens.now (array_type (deeper rules levels))
-        (code_of p.old) (code_of p.new) result }
-{
-    open_angle(p, tokens, Diagnostic::EMPTY_ARRAY);
-    let id = parse_type(p, tokens, levels);
-    p.expect(tokens, Type::GREATER_THAN);
-    p.push_type([TypeExprKind::ARRAY, id.0, 0, 0, 0, 0, 0, 0])
+    p.push_type([kind, id.0, 0, 0, 0, 0, 0, 0])
 }
 
 // A name and its type = ident ":" type
@@ -116,7 +106,7 @@ fn typed_names(p: &mut Parser, tokens: &[u32], stop: u32, levels: usize) -> Run
     let mut members: u32 = 0;
     while p.member_follows(stop) {
         typed_name(p, tokens, levels);
-        members = std::num::wrapping_add_u32(members, 1);
+        members = members.wrapping_add(1);
     }
     p.close(tokens, stop, mark, members)
 }
@@ -156,12 +146,19 @@ pub fn parse_type(p: &mut Parser, tokens: &[u32], levels: usize) -> TypeExprId
         p.fail_expecting(Diagnostic::TOO_DEEP, 0);
         return TypeExprId(0);
     }
+    let below = levels - 1;
     match p.kind() {
         Type::STR | Type::INT | Type::DOUBLE | Type::BOOL | Type::VOID => atom_type(p, tokens),
         Type::FOREIGN => foreign_type(p, tokens),
-        Type::OPTION => option_type(p, tokens, levels - 1),
-        Type::ARRAY => array_type(p, tokens, levels - 1),
-        Type::RECORD => record_type(p, tokens, levels - 1),
+        Type::OPTION => {
+            let number = Diagnostic::EMPTY_OPTION;
+            inner_type(p, tokens, TypeExprKind::OPTION, number, below)
+        }
+        Type::ARRAY => {
+            let number = Diagnostic::EMPTY_ARRAY;
+            inner_type(p, tokens, TypeExprKind::ARRAY, number, below)
+        }
+        Type::RECORD => record_type(p, tokens, below),
         _ => {
             p.fail_expecting(Diagnostic::BAD_TYPE, 0);
             TypeExprId(0)
@@ -242,7 +239,7 @@ fn bracketed_paths(p: &mut Parser, tokens: &[u32]) -> u32
     let mut members: u32 = 0;
     while p.member_follows(Type::BRACE_RIGHT) {
         import_path(p, tokens);
-        members = std::num::wrapping_add_u32(members, 1);
+        members = members.wrapping_add(1);
     }
     p.expect(tokens, Type::BRACE_RIGHT);
     members
@@ -323,7 +320,7 @@ fn extern_fns(p: &mut Parser, tokens: &[u32], levels: usize) -> Run
     let mut members: u32 = 0;
     while p.member_follows(Type::CURLY_RIGHT) {
         extern_fn(p, tokens, levels);
-        members = std::num::wrapping_add_u32(members, 1);
+        members = members.wrapping_add(1);
     }
     p.close(tokens, Type::CURLY_RIGHT, mark, members)
 }

@@ -2,22 +2,20 @@
 use Rattle.std.proofs.Common.{◌<◌, ◌⊎◌, inl, inr, [], sym, refl, ◌∙◌, arith}
 use Rattle.lex.specs.Kind.{k_str, k_void, k_option, k_array, k_foreign, k_record}
 use Rattle.ast.specs.Layout.{type_cells, token_cells, run_cells}
+use Rattle.ast.specs.declared.TypeExpr.TheVariants as T
 use Rattle.rules.specs.Combinators.{choose}
 use Rattle.rules.specs.Rules.{array_type, option_type, record_type, typed_name, type_by_kind}
 use Rattle.parser_state.specs.Refines.{rules_of}
 use Rattle.parser_state.proofs.Steps.{read, seq, then, enough}
 use Rattle.parser_state.proofs.Loops.{midway_start, midway_turn, midway_end, falls}
+use Rattle.parser_types.specs.Inner.{inner_type}
 use Rattle.parser_types.proofs.TypeKinds.{too_deep, type_at, type-atom, type-none}
 use Rattle.parser_types.proofs.+types.Goals as goal
 use Rattle.parser_types.proofs.+types.Goals.{parse_type-in_default-via-then-this-lt35, parse_type-in_default-via-else-this-lt35+else-this-lt40}
 
-pub array_type-returns : goal.array_type-returns
-unfolding array_type type_cells token_cells run_cells
-array_type-returns t c = λ rules. enough (then c.open_angle.ensures (seq _ (c.parse_type-id.ensures rules) (then c.expect.ensures (c.push_type.ensures _ _ refl)))) tt
-
-pub option_type-returns : goal.option_type-returns
-unfolding option_type type_cells token_cells run_cells
-option_type-returns t c = λ rules. enough (then c.open_angle.ensures (seq _ (c.parse_type-id.ensures rules) (then c.expect.ensures (c.push_type.ensures _ _ refl)))) tt
+pub inner_type-returns : goal.inner_type-returns
+unfolding inner_type
+inner_type-returns t c = λ rules make w. enough (then c.open_angle.ensures (seq _ (c.parse_type-id.ensures rules) (then c.expect.ensures (c.push_type.ensures _ _ (sym (w _)))))) tt
 
 pub record_type-returns : goal.record_type-returns
 unfolding record_type type_cells token_cells run_cells
@@ -34,7 +32,7 @@ pub typed_names-loop-p-smaller : goal.typed_names-loop-p-smaller
 typed_names-loop-p-smaller t c = falls _ (sym c.member_follows.ensures ∙ c.loop-p-test.true) (c.typed_name.ensures (rules_of []))
 
 pub typed_names-loop-p-preserved : goal.typed_names-loop-p-preserved
-typed_names-loop-p-preserved t c = λ rules. midway_turn (c.loop-p.invariant rules) (sym c.member_follows.ensures ∙ c.loop-p-test.true) (c.typed_name.ensures rules) c.wrapping_add_u32-members.ensures.value
+typed_names-loop-p-preserved t c = λ rules. midway_turn (c.loop-p.invariant rules) (sym c.member_follows.ensures ∙ c.loop-p-test.true) (c.typed_name.ensures rules) refl
 
 pub typed_names-returns : goal.typed_names-returns
 typed_names-returns t c = ((λ rules. midway_end (c.loop-p.invariant rules) (sym c.member_follows.ensures ∙ c.loop-p-test.false) refl c.close.ensures.0), c.close.ensures.1)
@@ -47,12 +45,12 @@ unfolding type_by_kind choose
 parse_type-returns-in-42 t c = λ rules. type_at rules _ k_foreign c.if-levels-eq0.false c.foreign_type.ensures (sym c.kind.ensures ∙ c.in-42.is)
 
 pub parse_type-returns-in-40 : goal.parse_type-returns-in-40
-unfolding type_by_kind choose
-parse_type-returns-in-40 t c = λ rules. type_at rules _ k_option c.if-levels-eq0.false (c.option_type.ensures rules) (sym c.kind.ensures ∙ c.in-40.is)
+unfolding type_by_kind choose option_type inner_type type_cells
+parse_type-returns-in-40 t c = λ rules. type_at rules _ k_option c.if-levels-eq0.false (c.inner_type.ensures rules T.Option (λ id. refl)) (sym c.kind.ensures ∙ c.in-40.is)
 
 pub parse_type-returns-in-41 : goal.parse_type-returns-in-41
-unfolding type_by_kind choose
-parse_type-returns-in-41 t c = λ rules. type_at rules _ k_array c.if-levels-eq0.false (c.array_type.ensures rules) (sym c.kind.ensures ∙ c.in-41.is)
+unfolding type_by_kind choose array_type inner_type type_cells
+parse_type-returns-in-41 t c = λ rules. type_at rules _ k_array c.if-levels-eq0.false (c.inner_type-in-41.ensures rules T.Array (λ id. refl)) (sym c.kind.ensures ∙ c.in-41.is)
 
 pub parse_type-returns-in-43 : goal.parse_type-returns-in-43
 unfolding type_by_kind choose

@@ -8,11 +8,8 @@ use Rattle.parser_state.proofs.Loops.{MembersInvariant}
 use Rattle.parser_state.proofs.Rounds.{weight}
 use Rattle.parser_types.proofs.+types.Given as goal
 
-abbrev pub decreases-array_type : goal.decreases-array_type
-decreases-array_type l = 4 * l.levels + 1
-
-abbrev pub decreases-option_type : goal.decreases-option_type
-decreases-option_type l = 4 * l.levels + 1
+abbrev pub decreases-inner_type : goal.decreases-inner_type
+decreases-inner_type l = 4 * l.levels + 1
 
 abbrev pub decreases-parse_type : goal.decreases-parse_type
 decreases-parse_type l = 4 * l.levels

@@ -1,5 +1,5 @@
 -- `parser_types::bracketed_paths` meets its contract.
-use Rattle.std.proofs.Common.{sym, ◌∙◌}
+use Rattle.std.proofs.Common.{sym, ◌∙◌, refl}
 use Rattle.rules.specs.Rules.{bracketed_paths}
 use Rattle.parser_state.proofs.Steps.{then, collected_then, enough}
 use Rattle.parser_state.proofs.Loops.{midway_start, midway_turn, members_end, falls}
@@ -12,7 +12,7 @@ pub loop-p-smaller : goal.loop-p-smaller
 loop-p-smaller c = falls _ (sym c.member_follows.ensures ∙ c.loop-p-test.true) c.import_path.ensures
 
 pub loop-p-preserved : goal.loop-p-preserved
-loop-p-preserved c = midway_turn c.loop-p.invariant (sym c.member_follows.ensures ∙ c.loop-p-test.true) c.import_path.ensures c.wrapping_add_u32-members.ensures.value
+loop-p-preserved c = midway_turn c.loop-p.invariant (sym c.member_follows.ensures ∙ c.loop-p-test.true) c.import_path.ensures refl
 
 pub returns : goal.returns
 unfolding bracketed_paths

@@ -11,7 +11,7 @@ pub loop-p-smaller : goal.loop-p-smaller
 loop-p-smaller c = falls _ (sym c.member_follows.ensures ∙ c.loop-p-test.true) (c.extern_fn.ensures (rules_of []))
 
 pub loop-p-preserved : goal.loop-p-preserved
-loop-p-preserved c = λ rules. midway_turn (c.loop-p.invariant rules) (sym c.member_follows.ensures ∙ c.loop-p-test.true) (c.extern_fn.ensures rules) c.wrapping_add_u32-members.ensures.value
+loop-p-preserved c = λ rules. midway_turn (c.loop-p.invariant rules) (sym c.member_follows.ensures ∙ c.loop-p-test.true) (c.extern_fn.ensures rules) refl
 
 pub returns : goal.returns
 returns c = λ rules. midway_end (c.loop-p.invariant rules) (sym c.member_follows.ensures ∙ c.loop-p-test.false) refl c.close.ensures.0

@@ -12,8 +12,7 @@ loop-i-preserved c =
     let n = c.args.n in
     let i = c.loop-i.i in
     let so_far : List ℕ = paste before.lists at (reverse (drop (length before.types - n) before.types)) i in (
-      omega arith,
       simp length-set (omega arith),
-      ap (λ (s : Code). with_lists s (set s.lists (at + i) (get_or s.types (length s.types - 1 - i) 0))) c.loop-i.invariant.2
+      ap (λ (s : Code). with_lists s (set s.lists (at + i) (get_or s.types (length s.types - 1 - i) 0))) c.loop-i.invariant.1
           ∙ ap (with_lists before) (docs_turn before.types before.lists so_far at n i (omega arith) (omega arith) c.loop-i-test.true refl),
     )

@@ -1,22 +1,21 @@
 -- `parser_state::Parser::push_node` meets its contract.
-use Rattle.std.proofs.Common.{sym, ◌∙◌, arith}
+use Rattle.std.proofs.Common.{ℕ, length, ap, ◌∙◌, arith}
+use Rattle.std.proofs.Math.Seq.{paste}
 use Rattle.parser_state.specs.Represents.{code_of}
-use Rattle.parser_state.proofs.Cells.{room, no_room, node_making}
+use Rattle.parser_state.proofs.Leaves.{full, no_place}
+use Rattle.parser_state.proofs.Steps.{left-some}
+use Rattle.parser_state.proofs.Cells.{node_making}
 use Rattle.parser_state.proofs.Parser.push_node.Goals as goal
 
-pub returns-then-not-has_room : goal.returns-then-not-has_room
-returns-then-not-has_room c = λ tokens f rooms few e. no_room tokens _ f _ rooms few (sym c.has_room.ensures ∙ c.if-not-has_room.true)
+pub returns-in_default : goal.returns-in_default
+returns-in_default c =
+    λ tokens f rooms few e. no_place (rw c.in_default.is at c.place.ensures) (λ R L stack m h. (omega (arith, h.credit.records, h.lent.small, left-some h), omega (arith, h.credit.records, h.lent.nodes, left-some h)))
 
-pub put-requires : goal.put-requires
-put-requires c = let fits = room _ _ (sym c.has_room.ensures ∙ c.if-not-has_room.false) in omega (arith, fits.cells)
-
-pub overflow_add-self : goal.overflow_add-self
-overflow_add-self c = let fits = room _ _ (sym c.has_room.ensures ∙ c.if-not-has_room.false) in omega (arith, fits.records)
-
-pub overflow_add-self-3 : goal.overflow_add-self-3
-overflow_add-self-3 c = let fits = room _ _ (sym c.has_room.ensures ∙ c.if-not-has_room.false) in omega (arith, fits.values)
+pub returns-then-values-ge-MAX_VALUES : goal.returns-then-values-ge-MAX_VALUES
+returns-then-values-ge-MAX_VALUES c = λ tokens f rooms few e. full (λ R L stack m h. omega (arith, h.credit.numbers, h.lent.small, left-some h))
 
 pub returns : goal.returns
 returns c =
-    let fits = room _ _ (sym c.has_room.ensures ∙ c.if-not-has_room.false) in
-    λ tokens f rooms few e. node_making tokens c.args.cells (code_of c.args.self.now) f _ rooms few fits.going e c.put.ensures
+    let cells = c.args.cells in
+    let place = rw c.in-Some.is at c.place.ensures in
+    λ tokens f rooms few e. node_making tokens cells (code_of c.args.self.now) f _ rooms few place.0 e (c.put.ensures ∙ ap (λ (at : ℕ). paste c.args.self.now.nodes.now at cells (length cells)) place.2)
