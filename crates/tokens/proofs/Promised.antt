@@ -12,6 +12,7 @@ use Rattle.lex.specs.Lex.{cut_at, cut, tokens_of, faults_of}
 use Rattle.lex.proofs.Steps.{cut_le}
 use Rattle.tokens.specs.declared.Stop.{Stop}
 use Rattle.tokens.specs.declared.TableCounts.{TableCounts}
+use Rattle.std.specs.Prelude.{Option, None}
 use Rattle.tokens.specs.Filling.{tokens_left, errors_left, Stops}
 use Rattle.lex.specs.Answer as A
 use Rattle.lex.specs.Cells.{zeros}
@@ -65,17 +66,17 @@ pub record Full (script ts es : List ℕ) (s : Stop) : Type 0 where
   pub tokens : take (4 * s.tokens) ts ≡ token_table script
   pub errors : take (6 * s.errors) es ≡ error_table script
 
-full : {script ts es : List ℕ} {s : Stop} → Stops script 0 0 ts es s → s.ended ≡ true → Full script ts es s
+full : {script ts es : List ℕ} {s : Stop} → Stops script 0 0 ts es s → s.next ≡ None → Full script ts es s
 unfolding cut counts_of token_table error_table token_records error_records flatten
 full {script} {ts} {es} {s} p e =
-    let n : s.tokens + 0 ≡ length (tokens_of (cut_at script 0)) = ap (λ (b : Bool). s.tokens + length (tokens_left b (cut_at script s.pos))) (sym e) ∙ made-left p in
-    let m : s.errors + 0 ≡ length (faults_of 0 (cut_at script 0)) = ap (λ (b : Bool). s.errors + length (errors_left b (0 + s.tokens) (cut_at script s.pos))) (sym e) ∙ met-left p in
+    let n : s.tokens + 0 ≡ length (tokens_of (cut_at script 0)) = ap (λ (b : Option ℕ). s.tokens + length (tokens_left script b)) (sym e) ∙ made-left p in
+    let m : s.errors + 0 ≡ length (faults_of 0 (cut_at script 0)) = ap (λ (b : Option ℕ). s.errors + length (errors_left script b (0 + s.tokens))) (sym e) ∙ met-left p in
     let n' : s.tokens ≡ length (tokens_of (cut_at script 0)) = omega arith in
     let m' : s.errors ≡ length (faults_of 0 (cut_at script 0)) = omega arith in
     record {
       counts = λ i. record { tokens = n' i; errors = m' i };
-      tokens = sym (append-nil (take (4 * s.tokens) ts)) ∙ ap (λ (b : Bool). take (4 * s.tokens) ts ++ token_records script (tokens_left b (cut_at script s.pos))) (sym e) ∙ p.made;
-      errors = sym (append-nil (take (6 * s.errors) es)) ∙ ap (λ (b : Bool). take (6 * s.errors) es ++ error_records (errors_left b (0 + s.tokens) (cut_at script s.pos))) (sym e) ∙ p.met;
+      tokens = sym (append-nil (take (4 * s.tokens) ts)) ∙ ap (λ (b : Option ℕ). take (4 * s.tokens) ts ++ token_records script (tokens_left script b)) (sym e) ∙ p.made;
+      errors = sym (append-nil (take (6 * s.errors) es)) ∙ ap (λ (b : Option ℕ). take (6 * s.errors) es ++ error_records (errors_left script b (0 + s.tokens))) (sym e) ∙ p.met;
     }
 
 -- there is room for all

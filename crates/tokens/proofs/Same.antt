@@ -15,6 +15,7 @@ use Rattle.lex.specs.Lex.{cut_at, cut, tokens_of, Occurrence, faults_of}
 use Rattle.lex.specs.declared.tok.Token.{Token}
 use Rattle.lex.proofs.Steps.{cut_le}
 use Rattle.tokens.specs.declared.Stop.{Stop}
+use Rattle.std.specs.Prelude.{Some, None}
 use Rattle.tokens.specs.Filling.{tokens_left, errors_left, Stops}
 use Rattle.lex.specs.Cells.{zeros, padded}
 use Rattle.tokens.specs.Tables.{token_records, error_records, token_table, error_table, too_short, is_cut}
@@ -111,10 +112,10 @@ module _ {script ts es : List ℕ} {n m pos : ℕ} (g : Agreeing script ts es n 
   ez = zeros (length es - length (error_table script))
 
   abbrev tl : List Token
-  tl = tokens_left s.ended (cut_at script s.pos)
+  tl = tokens_left script s.next
 
   abbrev el : List Occurrence
-  el = errors_left s.ended (n + s.tokens) (cut_at script s.pos)
+  el = errors_left script s.next (n + s.tokens)
 
   -- there is room in both
   pub part_fits : (n + s.tokens + length tl ≡ length (tokens_of (cut script))) × (m + s.errors + length el ≡ length (faults_of 0 (cut script)))
@@ -153,15 +154,15 @@ module _ {script ts es : List ℕ} {n m pos : ℕ} (g : Agreeing script ts es n 
     rest-same : same_bytes (drop (4 * (n + s.tokens)) ts) (token_records script tl ++ tz) && same_bytes (drop (6 * (m + s.errors)) es) (error_records el ++ ez) ≡ wholly script ts es
     rest-same = sym (pair_up _ _ _ _ (sym a ∙ yes q b) (sym c ∙ yes r d)) ∙ part_same h k
 
-    pub agreeing_part : s.ended ≡ false → Agreeing script ts es (n + s.tokens) (m + s.errors) s.pos
-    agreeing_part f = record {
+    pub agreeing_part : (to : ℕ) → s.next ≡ Some to → Agreeing script ts es (n + s.tokens) (m + s.errors) to
+    agreeing_part to f = record {
       tokens = rw f at part_fits.0;
       errors = rw f at part_fits.1;
-      inside = p.inside;
+      inside = p.inside to f;
       same = rw f at rest-same;
     }
 
-    end_same : s.ended ≡ true → same_bytes (drop (4 * (n + s.tokens)) ts) (zeros (length ts - 4 * (n + s.tokens))) && same_bytes (drop (6 * (m + s.errors)) es) (zeros (length es - 6 * (m + s.errors))) ≡ wholly script ts es
+    end_same : s.next ≡ None → same_bytes (drop (4 * (n + s.tokens)) ts) (zeros (length ts - 4 * (n + s.tokens))) && same_bytes (drop (6 * (m + s.errors)) es) (zeros (length es - 6 * (m + s.errors))) ≡ wholly script ts es
     unfolding token_records error_records flatten
     end_same f =
         let i : n + s.tokens + 0 ≡ length (tokens_of (cut script)) = rw f at part_fits.0 in
@@ -170,10 +171,10 @@ module _ {script ts es : List ℕ} {n m pos : ℕ} (g : Agreeing script ts es n 
         let v : length es - 6 * (m + s.errors) ≡ length es - length (error_table script) = omega (arith, errors-length script) in
         rw (u, v) (rw f at rest-same)
 
-    pub differs_behind : {o : Bool} → s.ended ≡ true → o ≡ same_bytes (drop (4 * (n + s.tokens)) ts) (zeros (length ts - 4 * (n + s.tokens))) → not o ≡ true → false ≡ wholly script ts es
+    pub differs_behind : {o : Bool} → s.next ≡ None → o ≡ same_bytes (drop (4 * (n + s.tokens)) ts) (zeros (length ts - 4 * (n + s.tokens))) → not o ≡ true → false ≡ wholly script ts es
     differs_behind {o} f x y = rw (sym x ∙ no o y) at (end_same f)
 
-    pub agrees_end : {o w : Bool} → s.ended ≡ true → o ≡ same_bytes (drop (4 * (n + s.tokens)) ts) (zeros (length ts - 4 * (n + s.tokens))) → not o ≡ false
+    pub agrees_end : {o w : Bool} → s.next ≡ None → o ≡ same_bytes (drop (4 * (n + s.tokens)) ts) (zeros (length ts - 4 * (n + s.tokens))) → not o ≡ false
         → w ≡ same_bytes (drop (6 * (m + s.errors)) es) (zeros (length es - 6 * (m + s.errors))) → w ≡ wholly script ts es
     agrees_end {o} f x y z = z ∙ (rw (sym x ∙ yes o y) at (end_same f))
 

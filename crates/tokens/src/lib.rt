@@ -157,14 +157,13 @@ fn step_at(classes: &Classes, script: &[u8], pos: usize) -> Step
     step_of(classes, Lexer { input: script, pos })
 }
 
-// Where filling stopped: how many records it made, where it would go on, and whether the script has
+// Where filling stopped: how many records it made, and where it would go on if the script has not
 // ended.
 #[derive(Clone, Copy)]
 struct Stop {
     tokens: usize,
     errors: usize,
-    pos: usize,
-    ended: bool,
+    next: Option<usize>,
 }
 
 // The records from a position on, which has so many tokens before it, at the front of both arrays,
@@ -192,8 +191,7 @@ fn fill(
                     return Stop {
                         tokens: n,
                         errors: m,
-                        pos,
-                        ended: false,
+                        next: Some(pos),
                     };
                 }
                 put_token(script, tokens, n, token);
@@ -205,8 +203,7 @@ fn fill(
                     return Stop {
                         tokens: n,
                         errors: m,
-                        pos,
-                        ended: false,
+                        next: Some(pos),
                     };
                 }
                 put_error(errors, m, fault, before + n);
@@ -218,8 +215,7 @@ fn fill(
                     return Stop {
                         tokens: n,
                         errors: m,
-                        pos,
-                        ended: false,
+                        next: Some(pos),
                     };
                 }
                 let eof = Token {
@@ -231,8 +227,7 @@ fn fill(
                 return Stop {
                     tokens: n + 1,
                     errors: m,
-                    pos,
-                    ended: true,
+                    next: None,
                 };
             }
         }
@@ -315,13 +310,13 @@ fn agrees(
         }
         n += s.tokens;
         m += s.errors;
-        if s.ended {
+        let Some(next) = s.next else {
             if !is_zero_from(tokens, TOKEN_WIDTH * n) {
                 return false;
             }
             return is_zero_from(errors, ERROR_WIDTH * m);
-        }
-        pos = s.pos;
+        };
+        pos = next;
     }
 }
 
