@@ -17,7 +17,7 @@ pub struct Token {
 }
 
 // A fault: its number, where its span starts and how long it is, and the byte that is seen; 0 but
-// for an unknown character.
+// for an unknown character. Who takes a fault writes both numbers: an enum would be turned back.
 #[derive(Clone, Copy)]
 pub struct Fault {
     pub number: u32,
@@ -27,7 +27,7 @@ pub struct Fault {
 }
 
 // What stands where no blank or comment begins: a token or a fault, its length, and how many bytes
-// are taken.
+// are taken. A fault is no failure: both go on behind what is taken, so this is no Result.
 #[derive(Clone, Copy)]
 pub enum Piece {
     Token {

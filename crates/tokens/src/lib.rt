@@ -5,15 +5,14 @@ ghost use Rattle.std.specs.Prelude.{◌≡◌, true, ◌&&◌, ◌==◌, fold, �
 ghost use Rattle.lex.specs.Answer.{max_bytes, answered};
 ghost use Rattle.lex.specs.Cells.{zeros, padded};
 ghost use Rattle.lex.specs.Kind.{same_bytes};
-ghost use Rattle.lex.specs.Lex.{step_at, cut_at, tokens_of, diagnostic_of};
+ghost use Rattle.lex.specs.Lex.{cut_at, tokens_of, diagnostic_of};
 ghost use Rattle.tokens.specs.Tables.{token_width, error_width, token_record, error_record};
 ghost use Rattle.tokens.specs.Tables.{token_table, error_table, promised, is_cut};
 ghost use Rattle.tokens.specs.Table.{token_at, token_of, error_at, occurrence_of};
 ghost use Rattle.tokens.specs.Filling.{Stops};
 
 use lex::{
-    Classes, Diagnostic, Fault, Lexer, MAX_BYTES, Refusal, Step, Token, Type, spelling_offset,
-    step_with,
+    Classes, Diagnostic, Fault, MAX_BYTES, Refusal, Step, Token, Type, spelling_offset, step_with,
 };
 
 // How many records each table has.
@@ -98,7 +97,7 @@ pub fn token_at(tokens: &[u32], i: usize) -> Entry
 }
 
 // What record `n` says of an error, and how many tokens were cut before it.
-#[derive(Clone, Copy)]
+#[derive(Clone, Copy, Default)]
 pub struct ErrorEntry {
     pub error: Diagnostic,
     pub after: u32,
@@ -121,16 +120,7 @@ pub fn error_at(errors: &[u32], i: usize) -> ErrorEntry
             after: errors[at + 5],
         };
     }
-    ErrorEntry {
-        error: Diagnostic {
-            number: 0,
-            start: 0,
-            len: 0,
-            wanted: 0,
-            seen: 0,
-        },
-        after: 0,
-    }
+    ErrorEntry::default()
 }
 
 // ---- the tables
@@ -141,20 +131,6 @@ fn clear_from(a: &mut [u32], from: usize)
     ensures { a.new ≡ take from a.old ++ zeros (length a.old - from) }
 {
     a[from..].fill(0);
-}
-
-// What stands at the position of a lexer: it is taken apart, and the reader of one piece is called.
-fn step_of(classes: &Classes, lexer: Lexer) -> Step
-    ensures { result ≡ step_at lexer.entry.input.now lexer.entry.pos }
-{
-    step_with(classes, lexer.input, lexer.pos)
-}
-
-// What stands at a position of the script: a lexer there is stepped.
-fn step_at(classes: &Classes, script: &[u8], pos: usize) -> Step
-    ensures { result ≡ step_at script.now pos }
-{
-    step_of(classes, Lexer { input: script, pos })
 }
 
 // Where filling stopped: how many records it made, and where it would go on if the script has not
@@ -185,7 +161,7 @@ fn fill(
     let mut m: usize = 0;
     let mut pos: usize = from;
     loop {
-        match step_at(classes, script, pos) {
+        match step_with(classes, script, pos) {
             Step::Token { token, next } => {
                 if tokens.len() < TOKEN_WIDTH * n + TOKEN_WIDTH {
                     return Stop {
