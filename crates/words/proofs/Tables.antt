@@ -1,27 +1,22 @@
--- Tables of texts: the entry at a number; which entry a text begins with.
+-- Tables of texts: none behind it; which entry a text begins with.
 -- Assumes nothing.
-use mathlib.Core.Path.{◌≡◌, refl, ap}
+use mathlib.Core.Path.{◌≡◌, refl}
 use mathlib.Core.Bool.{Bool, true, false}
 use mathlib.Core.List.{List, [], ◌∷◌}
 use Prim.Native.Nat.{ℕ, zero, suc, ◌<◌, ◌≤◌}
 use native.Mathlib.Nat.{le_of_suc-le-suc, not-suc-le-zero}
 use lib.Dec.{eqb}
-use lib.ListN.{length, get_or}
+use lib.ListN.{length}
 use Rattle.std.specs.Borrow.{Bor}
 use Rattle.lex.proofs.Laws.{table, agree}
-use Rattle.words.specs.Tables.{entry}
+use Rattle.lex.specs.Kind.{text_at}
 
--- ---- the entry at a number
+-- ---- behind a table
 
-pub entry_inside : (xs : List (Bor (List ℕ))) (n : ℕ) (t d : Bor (List ℕ)) → n < length xs → t ≡ get_or xs n d → t.now ≡ entry xs n
-entry_inside [] n t d h e = absurd (not-suc-le-zero h)
-entry_inside (x ∷ xs) zero t d h e = ap (λ (b : Bor (List ℕ)). b.now) e
-entry_inside (x ∷ xs) (suc n) t d h e = entry_inside xs n t d (le_of_suc-le-suc h) e
-
-pub entry_behind : (xs : List (Bor (List ℕ))) (n : ℕ) → length xs ≤ n → [] ≡ entry xs n
-entry_behind [] n h = refl
-entry_behind (x ∷ xs) zero h = absurd (not-suc-le-zero h)
-entry_behind (x ∷ xs) (suc n) h = entry_behind xs n (le_of_suc-le-suc h)
+pub text_behind : (xs : List (Bor (List ℕ))) (n : ℕ) → length xs ≤ n → [] ≡ text_at xs n
+text_behind [] n h = refl
+text_behind (x ∷ xs) zero h = absurd (not-suc-le-zero h)
+text_behind (x ∷ xs) (suc n) h = text_behind xs n (le_of_suc-le-suc h)
 
 -- ---- which entry a text begins with
 

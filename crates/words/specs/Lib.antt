@@ -1,3 +1,2 @@
 -- An error in words.
-pub mod Tables
 pub mod Words

@@ -4,7 +4,7 @@
 ghost use Rattle.std.specs.Prelude.{◌≡◌, ◌<◌};
 ghost use Rattle.text.specs.Answer.{result as result_of, answer_of};
 ghost use Rattle.text.specs.Emit.{Writes};
-ghost use Rattle.words.specs.Tables.{entry};
+ghost use Rattle.lex.specs.Kind.{text_at};
 ghost use Rattle.words.specs.Words.{phrase, kind_name, hex_digit, hex, details, line, is_kind};
 ghost use Rattle.words.specs.Words.{is_script_error, is_wanted, is_seen, has_words, described};
 
@@ -103,7 +103,7 @@ const KIND_NAMES: [&str; 44] = [
 
 // The entry at a number; nothing where the table has none.
 fn write_entry(table: &[&str], n: u32, w: &mut Writer)
-    ensures { Writes (entry table.now n) w.old w.new }
+    ensures { Writes (text_at table.now n) w.old w.new }
 {
     if let Some(text) = table.get(n as usize) {
         w.write_text(text.as_bytes());
