@@ -5,10 +5,10 @@ use mathlib.Core.List.{List, [], ◌∷◌, ◌++◌}
 use Prim.Native.Nat.{ℕ, ◌+◌, ◌<◌, ◌≤◌, min}
 use native.Mathlib.Nat.{zero-add}
 use native.Mathlib.Omega.{arith}
-use lib.Dec.{leb, ltb}
+use lib.Dec.{ltb}
 use lib.ListN.{length, set, drop}
 use lib.Seq.{sets-eq}
-use borrow.Author.Tests.{lt-ltb, le-ltb, le-leb, lt-leb, leb-true, ltb-true}
+use borrow.Author.Tests.{lt-ltb, le-ltb, le-leb, lt-leb, ltb-true}
 use Rattle.std.specs.Prelude.{Result as Outcome, Ok, Err, IsErr, IsErrAnd}
 use Rattle.listing.specs.declared.emit.Malformed.{Malformed}
 use Rattle.listing.specs.declared.ListingError.{ListingError}
@@ -102,15 +102,3 @@ module _ (text x : List ℕ) {n : ℕ} (long : (fits text ≡ true) × (n ≡ le
       let o : Output = record { buffer = x; at = 0 } in
       let out : z ≡ text ++ drop (length text) x = ap (λ (o : Output). o.buffer) f.emitted ∙ bytes_in text o p (omega arith) ∙ sets-eq text x 0 (omega arith) ∙ ap (λ (i : ℕ). text ++ drop i x) (zero-add (length text)) in
       rw (long.0, le-leb (length text) (length x) (omega arith), e, out, into_buffer)
-
--- a text that was written lies in its buffer
-pub inside-buffer : (text buffer : List ℕ) (n : ℕ) {r : Outcome ℕ ListingError} {out : List ℕ} → ◌≡◌ {A = Result} (record { answer = listing_answer r; buffer = out }) (into_buffer text buffer) → r ≡ Ok n → n ≤ length buffer
-unfolding into_buffer listing_answer
-inside-buffer text buffer n h k = go (fits text) (leb (length text) (length buffer)) refl (ap listing_answer (sym k) ∙ ap (λ (x : Result). x.answer) h)
-  where
-    go : (t u : Bool) → leb (length text) (length buffer) ≡ u
-        → T.written n ≡ (elim t as (λ (_ : Bool). Result) [ true ↦ elim u as (λ (_ : Bool). Result) [ true ↦ in_front text buffer | false ↦ refuse 2 buffer ] | false ↦ refuse 4 buffer ]).answer
-        → n ≤ length buffer
-    go true true e h = let z : n ≡ length text = cc in omega (arith, leb-true (length text) (length buffer) e)
-    go true false e h = absurd (let z : ◌≡◌ {A = ℕ} 0 1 = cc in omega arith)
-    go false u e h = absurd (let z : ◌≡◌ {A = ℕ} 0 1 = cc in omega arith)

@@ -6,7 +6,7 @@ mod forms;
 mod lines;
 mod records;
 
-ghost use Rattle.std.specs.Prelude.{◌≡◌};
+ghost use Rattle.std.specs.Prelude.{◌≡◌, ◌≤◌, length, IfOk};
 ghost use Rattle.text.specs.Answer.{Result as Left};
 ghost use Rattle.rules.specs.Parsed.{parsed_of};
 ghost use Rattle.listing.specs.Listing.{held, within, text_of, into_buffer, Measures};
@@ -79,8 +79,9 @@ fn text_length(answer: Parsed, arrays: &Arrays) -> Result<usize, Malformed>
 // How many bytes were written. They are counted first, so that a buffer that is too short stays as
 // it is.
 pub fn write_listing(answer: Parsed, arrays: &Arrays, out: &mut [u8]) -> Result<usize, ListingError>
-    ensures { let left : Left = record { answer = listing_answer result; buffer = out.new } in
+    ensures listed { let left : Left = record { answer = listing_answer result; buffer = out.new } in
         left ≡ into_buffer (text_of (parsed_of answer) (held arrays.now)) out.old }
+    ensures inside { IfOk result (λ n. n ≤ length out.new) }
 {
     let length = text_length(answer, arrays)?;
     if out.len() < length {
