@@ -21,8 +21,8 @@ pub fn print(rt: &impl Print, answer: Parsed, arrays: &Arrays) -> io::Result<()>
     let mut out = [0u8; ROOM];
     match listing::write_listing(answer, arrays, &mut out) {
         Ok(n) => rt.write_all(&out[..n]),
-        Err(ListingError::Short) => rt.write_all(b"(short)\n"),
-        Err(ListingError::Malformed) => rt.write_all(b"(malformed)\n"),
+        Err(ListingError::Short) => println!(rt; "(short)"),
+        Err(ListingError::Malformed) => println!(rt; "(malformed)"),
     }
 }
 
@@ -42,7 +42,7 @@ where
     requires { R.IsAlwaysCallable read }
 {
     if MAX_SCRIPT < script.len() {
-        return rt.write_all(b"(long)\n");
+        return println!(rt; "(long)");
     }
     let mut tokens = [0u32; TOKEN_WIDTH * (MAX_SCRIPT + 1)];
     let mut errors = [0u32; ERROR_WIDTH * MAX_SCRIPT];

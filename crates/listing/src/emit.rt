@@ -26,7 +26,7 @@ pub(crate) fn write_gap(before: usize, w: &mut Writer)
 pub(crate) fn write_next_number(n: usize, w: &mut Writer)
     ensures { Writes (gap 1 ++ number n) w.old w.new }
 {
-    w.write_byte(b' ');
+    write_gap(1, w);
     w.write_number(n);
 }
 

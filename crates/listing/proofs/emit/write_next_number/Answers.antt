@@ -1,8 +1,6 @@
 -- `listing::emit::write_next_number` meets its contract.
 use Rattle.text.proofs.EmitLaws.{and_then}
-use Rattle.listing.specs.Text.{gap}
 use Rattle.listing.proofs.emit.write_next_number.Goals as goal
 
 pub returns : goal.returns
-unfolding gap
-returns c = and_then c.write_byte.ensures c.write_number.ensures
+returns c = and_then c.write_gap.ensures c.write_number.ensures
