@@ -2,6 +2,7 @@
 use Rattle.std.specs.Prelude.{◌≡◌, List, ℕ, Bool, ◌+◌, ◌*◌, ◌<◌, get_or}
 use Rattle.rules.specs.Shape.{Env}
 use Rattle.lex.specs.Bytes.{if}
+use Rattle.ast.specs.Schema.{member_width, fields, nodes}
 use Rattle.compare.specs.Parts.{PartAgrees, part_of, sort_at, cell_at}
 use Rattle.compare.specs.declared.node.Order.{Order}
 use Rattle.compare.specs.declared.node.Order.TheVariants as O
@@ -54,11 +55,13 @@ place (P.Node o) = o
 
 -- the part of two records from the cells `p` and `p'` on agrees
 abbrev pub FieldAgrees : Env → Env → List ℕ → ℕ → List ℕ → ℕ → Part → Type 0
-FieldAgrees e e' xs p xs' p' part = PartAgrees e e' (part_of (sort part)) xs (p + place part) xs' (p' + place part)
+FieldAgrees e e' xs p xs' p' part =
+    PartAgrees e e' (part_of (sort part)) xs (p + place part) xs' (p' + place part)
 
 -- the part stands at place `x` of an order
 abbrev pub IsPlaced : Order → ℕ → Part → Type 0
-IsPlaced order x part = (sort part ≡ sort_at (6 * number order + x)) × (place part ≡ cell_at (6 * number order + x))
+IsPlaced order x part =
+    (sort part ≡ sort_at (6 * number order + x)) × (place part ≡ cell_at (6 * number order + x))
 
 -- the parts are the first four of an order
 abbrev pub AreFirst : Order → List Part → Type 0
@@ -67,9 +70,11 @@ AreFirst order parts = (x : ℕ) → x < 4 → IsPlaced order x (get_or parts x 
 -- the part that stands last in an order
 abbrev pub IsLast : Order → Last → Type 0
 IsLast order L.Nothing = sort_at (6 * number order + 5) ≡ 0
-IsLast order (L.Node o) = (sort_at (6 * number order + 5) ≡ 9) × (cell_at (6 * number order + 5) ≡ o)
-IsLast order (L.Nodes o named) = (sort_at (6 * number order + 5) ≡ if named 7 6) × (cell_at (6 * number order + 5) ≡ o)
+IsLast order (L.Node o) =
+    (sort_at (6 * number order + 5) ≡ 9) × (cell_at (6 * number order + 5) ≡ o)
+IsLast order (L.Nodes o named) =
+    (sort_at (6 * number order + 5) ≡ if named 7 6) × (cell_at (6 * number order + 5) ≡ o)
 
 -- the cells of a member of a list of nodes, each behind a name or not
 abbrev pub member_cells : Bool → ℕ
-member_cells named = if named 4 1
+member_cells named = if named (member_width fields) (member_width nodes)

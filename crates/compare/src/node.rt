@@ -7,8 +7,7 @@ ghost use Rattle.ast.specs.Decode.{token_at};
 ghost use Rattle.compare.specs.Agree.{Agree, Decides};
 ghost use Rattle.compare.specs.Shapes.{seen, nodes_below, env_below};
 ghost use Rattle.compare.specs.Parts.{PartsAgree, Ordered};
-ghost use Rattle.compare.specs.Orders.{number, FieldAgrees, AreFirst, IsLast};
-ghost use Rattle.compare.specs.Orders.{member_cells};
+ghost use Rattle.compare.specs.Orders.{number, FieldAgrees, AreFirst, IsLast, member_cells};
 
 use crate::kind::kind_at;
 use crate::pairs::Pairs;
@@ -235,7 +234,7 @@ fn member_cells(named: bool) -> usize
 
 // The last part of two nodes in one order: nothing, a node, or a list of fields or of nodes. Only
 // `agree_node` calls this, and as the last thing done: so it is put into its frame, and the last
-// node or member is a turn of its loop.
+// node or member is a turn of its loop. A call of `agree_nodes` would take stack at each level.
 #[cycle(agreement)]
 fn agree_last(a: &View, i: u32, b: &View, j: u32, order: Order) -> bool
     ensures { let agrees =

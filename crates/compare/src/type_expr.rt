@@ -13,7 +13,8 @@ use ast::schema::{FN_WIDTH, PARAM_WIDTH};
 use ast::{Run, TypeExpr, TypeExprId, TypeExprKind};
 
 // Type `i`, below `n`, and type `j`, below `m`. What a type holds, or the last field of a record, is
-// the last thing done, so that a long chain takes no stack.
+// the last thing done, so that a long chain takes no stack. The loop over a record's fields is not
+// that of `agree_params`: a call of it would take stack at each level.
 pub(crate) fn agree_type(a: &View, n: u32, i: TypeExprId, b: &View, m: u32, j: TypeExprId) -> bool
     ensures { let left =
         types_below a.now.script.now a.now.cells.now a.now.types.now in
