@@ -1,12 +1,19 @@
 // Draws from a seed.
-ghost use Rattle.std.specs.Prelude.{◌≡◌, ◌<◌};
+ghost use Rattle.std.specs.Prelude.{◌≡◌, ◌<◌, ◌*◌, ◌%◌, ◌^◌};
 ghost use Rattle.practice.specs.Practice as P;
+
+// The product modulo 2 to the 32: that a helper has it is a form that is prescribed.
+fn wrapping_mul32(a: u32, b: u32) -> u32
+    ensures { result ≡ (a * b) % 2 ^ 32 }
+{
+    a.wrapping_mul(b)
+}
 
 #[tactic(auto, unfolding(crate::specs::Practice::next))]
 fn next(seed: u32) -> u32
     ensures { result ≡ P.next seed }
 {
-    seed.wrapping_mul(1664525).wrapping_add(1013904223)
+    wrapping_mul32(seed, 1664525).wrapping_add(1013904223)
 }
 
 // One of the numbers below `count`. The seed goes on.
