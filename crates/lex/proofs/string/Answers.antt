@@ -8,9 +8,6 @@ use Rattle.lex.proofs.Characters.{plain-utf8}
 use Rattle.lex.proofs.Laws.{found, find_hit, before_le, nonzero_inside, plain-before}
 use Rattle.lex.proofs.string.Goals as goal
 
-pub overflow_add-result : goal.overflow_add-result
-overflow_add-result c = omega (arith, nonzero_inside c.args.rest.now c.skip_plain-plain.result (omega (arith, c.peek.ensures, c.if-peek-eq34.true)))
-
 pub returns-then-peek-eq34 : goal.returns-then-peek-eq34
 unfolding string
 returns-then-peek-eq34 c =

@@ -10,8 +10,3 @@ loop-window-preserved g c = (
   λ p computes. run_window p _ _ _ _ 16 (c.loop-window.invariant.1 p computes) c.in-Some.ensures.cases.0 c.in-Some.ensures.cases.1
       (leb-true 16 _ (sym (c.all_have.ensures p computes) ∙ c.if-not-all_have.false)),
 )
-
-pub returns-clause-run : goal.returns-clause-run
-returns-clause-run g c =
-    λ p computes.
-    omega (arith, c.loop-window.invariant.1 p computes, c.count_each.ensures.run p computes)

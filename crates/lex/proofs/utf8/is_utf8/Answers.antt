@@ -14,16 +14,6 @@ returns-then-not-completes c =
     char_cut c.args.bytes.now _ _ c.loop-i.invariant.1 c.loop-i-test.true _ _ _ (lead_two _ (sym c.is_between.ensures ∙ c.if-is_between.true))
     (sym c.if-not-completes.true ∙ c.completes.ensures.result_value)
 
-pub overflow_add-i-then-is_between : goal.overflow_add-i-then-is_between
-overflow_add-i-then-is_between c =
-    let inside = c.completes.ensures.more_in_bounds c.if-not-completes.false in
-    omega arith
-
-pub loop-i-smaller-then-is_between : goal.loop-i-smaller-then-is_between
-loop-i-smaller-then-is_between c =
-    let inside = c.completes.ensures.more_in_bounds c.if-not-completes.false in
-    omega arith
-
 pub loop-i-preserved-then-is_between : goal.loop-i-preserved-then-is_between
 loop-i-preserved-then-is_between c =
     let inside = c.completes.ensures.more_in_bounds c.if-not-completes.false in (
@@ -42,26 +32,6 @@ pub returns-then-not-completes-2 : goal.returns-then-not-completes-2
 returns-then-not-completes-2 c =
     char_cut c.args.bytes.now _ _ c.loop-i.invariant.1 c.loop-i-test.true _ _ _ (sym c.after_lead.ensures ∙ c.in-Expecting.is)
     (sym c.if-not-completes-2.true ∙ c.completes-in-Expecting.ensures.result_value)
-
-pub overflow_cast-i : goal.overflow_cast-i
-overflow_cast-i c =
-    let few = (lead_asks _ _ _ _ (sym c.after_lead.ensures ∙ c.in-Expecting.is)).1 in
-    omega arith
-
-pub overflow_add-i-in-Expecting-2 : goal.overflow_add-i-in-Expecting-2
-overflow_add-i-in-Expecting-2 c =
-    let few = (lead_asks _ _ _ _ (sym c.after_lead.ensures ∙ c.in-Expecting.is)).1 in
-    omega arith
-
-pub overflow_add-i-in-Expecting-3 : goal.overflow_add-i-in-Expecting-3
-overflow_add-i-in-Expecting-3 c =
-    let inside = c.completes-in-Expecting.ensures.more_in_bounds c.if-not-completes-2.false in
-    omega arith
-
-pub loop-i-smaller : goal.loop-i-smaller
-loop-i-smaller c =
-    let inside = c.completes-in-Expecting.ensures.more_in_bounds c.if-not-completes-2.false in
-    omega arith
 
 pub loop-i-preserved : goal.loop-i-preserved
 loop-i-preserved c =
