@@ -2,8 +2,7 @@
 use mathlib.Core.Path.{◌≡◌, refl, sym, ◌∙◌}
 use mathlib.Core.Bool.{Bool, true, false, false≢true}
 use mathlib.Core.List.{List}
-use Prim.Native.Nat.{ℕ, ◌+◌, ◌*◌, ◌-◌, ◌≤◌}
-use native.Mathlib.Omega.{arith}
+use Prim.Native.Nat.{ℕ, ◌+◌, ◌*◌, ◌-◌}
 use lib.ListN.{get_or}
 use Rattle.rules.specs.Shape as S
 use Rattle.rules.specs.Shape.{Word, Shape, Shapes, FieldShapes, Env}
@@ -36,14 +35,6 @@ lists false = node_lists
 pub width_is : (b : Bool) → member_cells b ≡ (lists b).sort.size
 width_is true = refl
 width_is false = refl
-
-pub has_cell_lem : (b : Bool) {width : ℕ} → width ≡ member_cells b → 1 ≤ width
-has_cell_lem true w = omega (arith, w)
-has_cell_lem false w = omega (arith, w)
-
-pub few : (b : Bool) {width : ℕ} → width ≡ member_cells b → width ≤ 8
-few true w = omega (arith, w)
-few false w = omega (arith, w)
 
 module _ (b : Bool) (e e' : Env) (at at' : ℕ) {width : ℕ} (w : width ≡ member_cells b) where
   abbrev Names : Type 0

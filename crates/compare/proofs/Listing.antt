@@ -15,7 +15,7 @@ use Rattle.rules.specs.Shape.{Word, TypeShape, Params, FnShape, Shape, Shapes, F
 use Rattle.ast.specs.declared.Run.{Run}
 use Rattle.compare.specs.Agree.{Agree, Decides}
 use Rattle.compare.proofs.Agree.{decides_yes, decides_no, decides_by}
-use Rattle.compare.specs.Pairs.{InStep, ArePairs, Room, GivesPlaces, TakesLast}
+use Rattle.compare.specs.Pairs.{InStep, ArePairs, GivesPlaces, TakesLast}
 use Rattle.compare.specs.declared.pairs.Pairs.{Pairs}
 use Rattle.compare.proofs.Walk as W
 use Rattle.compare.proofs.Walk.{Sort, IsList, Walk, run_of, as_runs, FnParts}
@@ -168,12 +168,6 @@ module _ {A L : Type 0} (k : Listing A L) {e e' : Env} {r r' : Run} where
   }
 
   module _ {at at' : ℕ} {p : Pairs} (w : Before k e e' r r' at at' p) where
-    -- what is left fits a word
-    pub room : Room p
-    room =
-        let m : (p.left + 1) * k.sort.size ≡ p.left * k.sort.size + 1 * k.sort.size = add-mul p.left 1 k.sort.size in
-        rw w.width (omega (arith, w.walk.small), omega (arith, w.walk.small'))
-
     -- the last pair decides
     pub last-pair : {b : Bool} → p.left ≡ 0 → Decides b (Agree (k.place e at) (k.place e' at')) → Decides b (Agree (k.list e r) (k.list e' r'))
     last-pair z d =

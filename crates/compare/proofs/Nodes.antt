@@ -5,8 +5,7 @@ use mathlib.Core.Option.{Option, none, some}
 use mathlib.Core.List.{List, [], ◌∷◌}
 use Prim.Native.Nat.{ℕ, zero, suc, ◌+◌, ◌*◌, ◌<◌, ◌≤◌}
 use native.Mathlib.Omega.{arith}
-use mathlib.Core.Logic.{⊎_elim}
-use native.Mathlib.Nat.{add-zero, zero-add, eq-or-lt_of_le}
+use native.Mathlib.Nat.{add-zero, zero-add}
 use lib.Dec.{ltb, leb}
 use lib.ListN.{length, get_or, get_or-eq_default}
 use borrow.Author.Tests.{leb-true, leb-false, ltb-true, ltb-false}
@@ -147,13 +146,6 @@ up_to14 P p₀ p₁ p₂ p₃ p₄ p₅ p₆ p₇ p₈ p₉ p₁₀ p₁₁ p₁
 up_to14 P p₀ p₁ p₂ p₃ p₄ p₅ p₆ p₇ p₈ p₉ p₁₀ p₁₁ p₁₂ p₁₃ p₁₄ (suc (suc (suc (suc (suc (suc (suc (suc (suc (suc (suc (suc (suc zero))))))))))))) l = p₁₃
 up_to14 P p₀ p₁ p₂ p₃ p₄ p₅ p₆ p₇ p₈ p₉ p₁₀ p₁₁ p₁₂ p₁₃ p₁₄ (suc (suc (suc (suc (suc (suc (suc (suc (suc (suc (suc (suc (suc (suc zero)))))))))))))) l = p₁₄
 up_to14 P p₀ p₁ p₂ p₃ p₄ p₅ p₆ p₇ p₈ p₉ p₁₀ p₁₁ p₁₂ p₁₃ p₁₄ (suc (suc (suc (suc (suc (suc (suc (suc (suc (suc (suc (suc (suc (suc (suc g))))))))))))))) l = absurd (omega arith)
-
--- and of every order
-up_to16 : (P : ℕ → Type 0) → P 0 → P 1 → P 2 → P 3 → P 4 → P 5 → P 6 → P 7 → P 8 → P 9 → P 10 → P 11 → P 12 → P 13 → P 14 → P 15 → P 16 → (g : ℕ) → g < 17 → P g
-up_to16 P p₀ p₁ p₂ p₃ p₄ p₅ p₆ p₇ p₈ p₉ p₁₀ p₁₁ p₁₂ p₁₃ p₁₄ p₁₅ p₁₆ g l =
-    ⊎_elim (λ (e : g ≡ 16). subst P (sym e) p₁₆) (λ (h : g < 16).
-    ⊎_elim (λ (e : g ≡ 15). subst P (sym e) p₁₅) (λ (h : g < 15). up_to14 P p₀ p₁ p₂ p₃ p₄ p₅ p₆ p₇ p₈ p₉ p₁₀ p₁₁ p₁₂ p₁₃ p₁₄ g (omega arith))
-    (eq-or-lt_of_le (let z : g ≤ 15 = omega arith in z))) (eq-or-lt_of_le (let z : g ≤ 16 = omega arith in z))
 
 by_kind_lem : (e : Env) (cs : List ℕ) (g : ℕ) → get_or cs 0 0 ≡ g → g ≤ 14 → and_then (node_of cs) (node_shape e) ≡ node_by_parts e cs g
 unfolding node_of nodes_by_kind node_by_parts nodes_by_parts node_shape and_then

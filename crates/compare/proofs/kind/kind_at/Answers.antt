@@ -3,19 +3,9 @@ use mathlib.Core.Path.{◌∙◌, sym}
 use borrow.Author.Tests.{le-leb, lt-leb}
 use Rattle.compare.proofs.RecordCells.{kind-known, kind_unknown}
 use Rattle.compare.specs.Shapes.{kind_at}
-use Prim.Native.Nat.{ℕ, ◌*◌, ◌+◌, ◌<◌, ◌≤◌}
-use native.Mathlib.Nat.{mul-le-mul, le_of_lt}
+use Prim.Native.Nat.{◌*◌}
 use native.Mathlib.Omega.{arith}
 use Rattle.compare.proofs.kind.kind_at.Goals as goal
-
-small : {width i : ℕ} → width ≤ 16 → i < 4294967296 → width * i + width < 18446744073709551616
-small w l = omega (arith, mul-le-mul w (le_of_lt l))
-
-pub overflow_mul-at : goal.overflow_mul-at
-overflow_mul-at c = let l : c.args.i < 4294967296 = omega (arith, c.ranges.i) in let h = small c.requires l in omega arith
-
-pub overflow_add-at : goal.overflow_add-at
-overflow_add-at c = let l : c.args.i < 4294967296 = omega (arith, c.ranges.i) in let h = small c.requires l in omega arith
 
 pub returns-then-records-at : goal.returns-then-records-at
 unfolding kind_at
