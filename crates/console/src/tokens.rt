@@ -1,28 +1,36 @@
 // What the lexer yields, as text on standard output: one form a line, tokens by the names of the
 // Rust enum.
 use lex::{Fault, Step, Token, Type};
-use std::io;
+use std::fmt::{Display, Formatter, Write};
+use std::{fmt, io};
 
-// The name of a kind; nothing for a number that is no kind.
-fn print_kind(rt: &impl Print, kind: u32) -> io::Result<()> {
-    print!(rt; "{}", Type::name(kind).unwrap_or(""))
-}
+// A token as the name of its kind, its start and its length in round brackets. A number that is no
+// kind has no name.
+#[derive(Clone, Copy)]
+pub struct TokenForm(pub Token);
 
-// Kind, start and length in round brackets.
-pub fn print_token(rt: &impl Print, t: Token) -> io::Result<()> {
-    rt.write_all(b"(")?;
-    print_kind(rt, t.kind)?;
-    print!(rt; " {} {})", t.start, t.len)
-}
-
-fn print_token_line(rt: &impl Print, t: Token) -> io::Result<()> {
-    print_token(rt, t)?;
-    println!(rt;)
+impl Display for TokenForm {
+    fn fmt<W: Write>(&self, f: &mut Formatter<W>) -> fmt::Result {
+        let Token { kind, start, len } = self.0;
+        let name = Type::name(kind).unwrap_or("");
+        write!(f, "({name} {start} {len})")
+    }
 }
 
 // A fault as an error of five numbers; a fault wants nothing.
-fn print_fault(rt: &impl Print, e: Fault) -> io::Result<()> {
-    println!(rt; "(diag {} {} {} 0 {})", e.number, e.start, e.len, e.seen)
+#[derive(Clone, Copy)]
+struct FaultForm(Fault);
+
+impl Display for FaultForm {
+    fn fmt<W: Write>(&self, f: &mut Formatter<W>) -> fmt::Result {
+        let Fault {
+            number,
+            start,
+            len,
+            seen,
+        } = self.0;
+        write!(f, "(diag {number} {start} {len} 0 {seen})")
+    }
 }
 
 // Every token and fault of a script, in order, Eof last.
@@ -31,22 +39,20 @@ pub fn print_script(rt: &impl Print, script: &[u8]) -> io::Result<()> {
     loop {
         match lex::step(script, at) {
             Step::Token { token, next } => {
-                print_token_line(rt, token)?;
+                println!(rt; "{}", TokenForm(token))?;
                 at = next;
             }
             Step::Fault { fault, next } => {
-                print_fault(rt, fault)?;
+                println!(rt; "{}", FaultForm(fault))?;
                 at = next;
             }
             Step::End { at } => {
-                return print_token_line(
-                    rt,
-                    Token {
-                        kind: Type::EOF,
-                        start: at,
-                        len: Type::spelling_len(Type::EOF),
-                    },
-                );
+                let eof = Token {
+                    kind: Type::EOF,
+                    start: at,
+                    len: Type::spelling_len(Type::EOF),
+                };
+                return println!(rt; "{}", TokenForm(eof));
             }
         }
     }
