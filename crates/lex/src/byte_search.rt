@@ -18,7 +18,8 @@ pub(crate) fn count_each<F: Fn(u8) -> bool>(bytes: &[u8], has: F) -> usize
 // code compares all of them in one step.
 fn all_have<F: Fn(u8) -> bool>(window: &[u8; 16], has: &F) -> bool
     requires { F.IsAlwaysCallable has.now }
-    ensures { (p : ℕ → Bool) → Computes (F.post has.now) p → result ≡ leb 16 (count_while p window.now) }
+    ensures { (p : ℕ → Bool) → Computes (F.post has.now) p
+        → result ≡ leb 16 (count_while p window.now) }
 {
     let mut all = true;
     for b in window {
@@ -59,13 +60,14 @@ pub(crate) fn line_end(haystack: &[u8]) -> usize
     count_run(haystack, |b| b != b'\n')
 }
 
-// How many bytes in front have the property, which both tests compute. The first 8 are tested one by
-// one: most runs end there.
+// How many bytes in front have the property, which both tests compute. The first 8 are tested one
+// by one: most runs end there.
 fn count_front<N: Fn(u8) -> bool, F: Fn(u8) -> bool>(bytes: &[u8], near: N, far: F) -> usize
     requires near_callable { N.IsAlwaysCallable near }
     requires far_callable { F.IsAlwaysCallable far }
     ensures within { result ≤ length bytes.now }
-    ensures run { (p : ℕ → Bool) → Computes (N.post near) p → Computes (F.post far) p → result ≡ count_while p bytes.now }
+    ensures run { (p : ℕ → Bool) → Computes (N.post near) p → Computes (F.post far) p
+        → result ≡ count_while p bytes.now }
 {
     match bytes.split_first_chunk::<8>() {
         Some((front, rest)) => {

@@ -2,8 +2,8 @@
 ghost use Rattle.std.specs.Prelude.{◌≡◌};
 ghost use Rattle.lex.specs.Refusals.{number};
 
-// The numbers stay numbers: cells of lent arrays have them, and an enum as a parameter would ask more.
-// An error: its number, where its span starts and how long it is, the wanted kind (0 but for 11)
+// The numbers stay numbers: cells of lent arrays have them, and an enum as a parameter would ask
+// more. An error: its number, where its span starts and how long it is, the wanted kind (0 but for 11)
 // and the seen kind (for 33 the byte).
 #[derive(Clone, Copy, Default)]
 pub struct Diagnostic {

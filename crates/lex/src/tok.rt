@@ -59,8 +59,8 @@ pub struct Next {
     pub next: usize,
 }
 
-// The kinds of token are numbers, in the order of the Rust enum: cells of lent arrays, so that an enum
-// as a parameter would ask more.
+// The kinds of token are numbers, in the order of the Rust enum: cells of lent arrays have them, and
+// an enum as a parameter would ask more.
 #[derive(Clone, Copy)]
 pub struct Type(pub u32);
 
@@ -217,7 +217,9 @@ impl Type {
 
     // The name of a kind in the Rust enum; none for a number that is no kind.
     pub fn name(kind: u32) -> Option<&'static str>
-        ensures { MatchOption result (between 1 43 kind ≡ false) (λ n. (between 1 43 kind ≡ true) × (n.now ≡ kind_name kind)) }
+        ensures { MatchOption result
+            (between 1 43 kind ≡ false)
+            (λ n. (between 1 43 kind ≡ true) × (n.now ≡ kind_name kind)) }
     {
         if kind < Type::EOF {
             return None;
@@ -239,7 +241,9 @@ impl Type {
 
 // The text at a number, where the table has one.
 fn text_at(table: &[&'static str], n: usize) -> Option<&'static str>
-    ensures { MatchOption result (length table.now ≤ n) (λ t. (n < length table.now) × (t.now ≡ text_at table.now n)) }
+    ensures { MatchOption result
+        (length table.now ≤ n)
+        (λ t. (n < length table.now) × (t.now ≡ text_at table.now n)) }
 {
     match table.get(n) {
         Some(text) => Some(*text),

@@ -1,7 +1,8 @@
 // Cutting a script into a lent table of tokens and a lent table of the lexer's errors.
 #![tactic(auto)]
 
-ghost use Rattle.std.specs.Prelude.{◌≡◌, true, ◌&&◌, ◌==◌, fold, ◌++◌, ℕ, ◌+◌, ◌*◌, ◌-◌, ◌≤◌, length, take, drop};
+ghost use Rattle.std.specs.Prelude.{◌≡◌, true, ◌&&◌, ◌==◌, fold, ◌++◌, ℕ};
+ghost use Rattle.std.specs.Prelude.{◌+◌, ◌*◌, ◌-◌, ◌≤◌, length, take, drop};
 ghost use Rattle.lex.specs.Answer.{max_bytes, answered};
 ghost use Rattle.lex.specs.Cells.{zeros, padded};
 ghost use Rattle.lex.specs.Kind.{same_bytes};
