@@ -7,8 +7,7 @@
 ghost use Rattle.std.specs.Prelude.{◌≤◌, length};
 
 use ast::Parsed;
-use console::frames::{Frame, read_script, read_up_to};
-use console::output::{write, write_number};
+use console::frames::{ReadError, each_case, read_frame, read_script, read_up_to};
 use std::io;
 use std::io::Read;
 
@@ -33,70 +32,48 @@ const DIAGNOSTICS: usize = 640;
 // What every cell holds before a reading.
 const RUBBISH: u32 = 4294967295;
 
-// A number behind a blank.
-fn write_next(rt: &impl Print, n: u32) -> io::Result<()> {
-    write(rt, b" ")?;
-    write_number(rt, n as u64)
-}
-
-fn write_answer(rt: &impl Print, answer: Parsed) -> io::Result<()> {
+fn print_answer(rt: &impl Print, answer: Parsed) -> io::Result<()> {
     match answer {
-        Parsed::Tree(c) => {
-            write(rt, b"tree")?;
-            write_next(rt, c.nodes)?;
-            write_next(rt, c.types)?;
-            write_next(rt, c.cells)?;
-            write_next(rt, c.roots)?;
-            write_next(rt, c.values)?;
-            write_next(rt, c.diagnostics)?;
+        Ok(c) => {
+            print!(rt; "tree {} {} {}", c.nodes, c.types, c.cells)?;
+            println!(rt; " {} {} {}", c.roots, c.values, c.diagnostics)
         }
-        Parsed::Error(d) => {
-            write(rt, b"error")?;
-            write_next(rt, d.number)?;
-            write_next(rt, d.start)?;
-            write_next(rt, d.len)?;
-            write_next(rt, d.wanted)?;
-            write_next(rt, d.seen)?;
+        Err(ast::ReadError::Script(d)) => {
+            print!(rt; "error {} {} {}", d.number, d.start, d.len)?;
+            println!(rt; " {} {}", d.wanted, d.seen)
         }
-        Parsed::Refused(n) => {
-            write(rt, b"refused")?;
-            write_next(rt, n)?;
-        }
+        Err(ast::ReadError::Refused(refusal)) => println!(rt; "refused {}", u32::from(refusal)),
     }
-    write(rt, b"\n")
 }
 
 // How many cells there are without those at the end that hold `cell`.
 fn length_without(cells: &[u32], cell: u32) -> usize
     ensures { result ≤ length cells.now }
 {
-    let mut n = cells.len();
-    while 0 < n {
-        if cells[n - 1] != cell {
-            return n;
+    let mut n = 0;
+    for i in 0..cells.len() {
+        if cells[i] != cell {
+            n = i + 1;
         }
-        n -= 1;
     }
-    0
+    n
 }
 
 // The cells up to the last that is not zero, and how many zeros follow; or that all are as they
 // were.
-fn write_cells(rt: &impl Print, name: &[u8], cells: &[u32]) -> io::Result<()> {
-    write(rt, name)?;
+fn print_cells(rt: &impl Print, name: &str, cells: &[u32]) -> io::Result<()> {
+    print!(rt; "{name}")?;
     if length_without(cells, RUBBISH) == 0 {
-        return write(rt, b": as it was\n");
+        return println!(rt; ": as it was");
     }
     let n = length_without(cells, 0);
     for cell in &cells[..n] {
-        write_next(rt, *cell)?;
+        print!(rt; " {cell}")?;
     }
-    write(rt, b", zeros ")?;
-    write_number(rt, (cells.len() - n) as u64)?;
-    write(rt, b"\n")
+    println!(rt; ", zeros {}", cells.len() - n)
 }
 
-fn write_reading(
+fn print_reading(
     rt: &impl Print,
     answer: Parsed,
     nodes: &[u32],
@@ -105,12 +82,12 @@ fn write_reading(
     roots: &[u32],
     diagnostics: &[u32],
 ) -> io::Result<()> {
-    write_answer(rt, answer)?;
-    write_cells(rt, b"nodes", nodes)?;
-    write_cells(rt, b"types", types)?;
-    write_cells(rt, b"lists", lists)?;
-    write_cells(rt, b"roots", roots)?;
-    write_cells(rt, b"diagnostics", diagnostics)
+    print_answer(rt, answer)?;
+    print_cells(rt, "nodes", nodes)?;
+    print_cells(rt, "types", types)?;
+    print_cells(rt, "lists", lists)?;
+    print_cells(rt, "roots", roots)?;
+    print_cells(rt, "diagnostics", diagnostics)
 }
 
 fn read(
@@ -136,7 +113,7 @@ fn read(
             roots,
             diagnostics,
         );
-        write_reading(rt, answer, nodes, types, lists, roots, diagnostics)
+        print_reading(rt, answer, nodes, types, lists, roots, diagnostics)
     } else {
         let answer = parser::parse(
             script,
@@ -148,7 +125,7 @@ fn read(
             roots,
             diagnostics,
         );
-        write_reading(rt, answer, nodes, types, lists, roots, diagnostics)
+        print_reading(rt, answer, nodes, types, lists, roots, diagnostics)
     }
 }
 
@@ -179,30 +156,18 @@ fn reading(rt: &impl Print, input: &mut impl Read) -> io::Result<()> {
 }
 
 // The next case. Answers whether there was one.
-fn next_case(rt: &impl Print, input: &mut impl Read) -> io::Result<bool> {
+fn next_case(rt: &impl Print, input: &mut impl Read) -> Result<bool, ReadError> {
     let mut name = [0u8; 4096];
-    match console::frames::read_frame(input, &mut name)? {
-        Frame::Bytes(n) => {
-            write(rt, &name[..n])?;
-            write(rt, b": ")?;
-            reading(rt, input)?;
-            Ok(true)
-        }
-        Frame::Malformed => {
-            write(rt, b"(malformed)\n")?;
-            Ok(false)
-        }
-        Frame::End => Ok(false),
-    }
+    let Some(n) = read_frame(input, &mut name)? else {
+        return Ok(false);
+    };
+    rt.write_all(&name[..n])?;
+    print!(rt; ": ")?;
+    reading(rt, input)?;
+    Ok(true)
 }
 
-// Nothing says that the input ends, so the cases are counted.
 fn main(rt: HostRuntime) -> io::Result<()> {
     let mut input = rt.stdin();
-    for _ in 0..1000000 {
-        if !next_case(&rt, &mut input)? {
-            break;
-        }
-    }
-    Ok(())
+    each_case(&rt, |_| next_case(&rt, &mut input))
 }
