@@ -615,6 +615,7 @@ impl Parser<'_> {
             let cells = reverse (drop (length before.types - n) before.types) in
             code_of self.new ≡ with_lists before (paste before.lists at cells n) }
     {
+        // tried with slices of both arrays, which are lent at once: that gets no proof
         for i in 0..n {
             self.lists[at + i] = self.types[self.types.len() - 1 - i];
         }
