@@ -139,7 +139,8 @@ fn all_inside(script: &[u8], positions: &[u32]) -> bool
 }
 
 // The pairs of all positions. Each place is found from the one before it, so that the script is
-// gone through once.
+// gone through once. Pairs are written by index: of parts that `chunks_exact_mut` lends, a proof
+// knows no cell afterwards.
 fn fill(script: &[u8], positions: &[u32], places: &mut [u32])
     requires { Fillable script.now positions.now places.old }
     ensures { let cells = cells_of script.now positions.now in
