@@ -35,6 +35,8 @@ use parser::{parse, parse_collect, read, read_collect};
 use positions::{Span, line_column};
 
 // ---- readings
+// C calls each by its own name and lends each array by itself: so the four stand side by side, and
+// no struct holds what they are lent.
 
 // The numbers of a reading: its number, the five numbers of an error and the six counts. What is
 // lent for them stays as it is where the call was refused.
