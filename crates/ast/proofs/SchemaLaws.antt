@@ -4,11 +4,11 @@ use mathlib.Core.Option.{some}
 use mathlib.Core.List.{List, [], ◌∷◌, map, flatten}
 use Prim.Native.Nat.{ℕ}
 use lib.ListN.{get_or, drop}
-use borrow.Author.Tests.{ne_eqb}
+use native.Mathlib.Omega.{arith}
 use Rattle.ast.specs.Layout.{token_cells, run_cells, node_width, type_width, padded, node_cells, type_cells}
 use Rattle.ast.specs.Lists.{map₁}
 use Rattle.ast.specs.Schema as S
-use Rattle.ast.specs.Schema.{Field, Part, node_schema, type_schema, field_of, cells_of, parts_of, type_parts_of, parts_at, sort_of, members_of}
+use Rattle.ast.specs.Schema.{Field, Part, node_schema, type_schema, field_of, cells_of, parts_of, type_parts_of, parts_at, sort_of, sort_at, members_of}
 use Rattle.ast.specs.declared.Node.{Node}
 use Rattle.ast.specs.declared.Node.TheVariants as N
 use Rattle.ast.specs.declared.TypeExpr.{TypeExpr}
@@ -68,6 +68,21 @@ members_are S.nodes = refl
 members_are S.fields = refl
 members_are S.cases = refl
 
-pub tokens_are : (k : ℕ) → (k ≡ 3 → ⊥) → (k ≡ 5 → ⊥) → (k ≡ 6 → ⊥) → (k ≡ 7 → ⊥) → (k ≡ 8 → ⊥) → members_of k ≡ S.tokens
-unfolding members_of
-tokens_are k a b c d e = rw (ne_eqb k 3 a, ne_eqb k 5 b, ne_eqb k 6 c, ne_eqb k 7 d, ne_eqb k 8 e)
+-- the number of each sort of field is that of its sort
+pub sorts_are : (f : Field) → S.field_at (sort_at (sort_of f)) ≡ f
+unfolding sort_at
+sorts_are S.value = refl
+sorts_are S.token = refl
+sorts_are S.node = refl
+sorts_are S.type = refl
+sorts_are (S.list S.tokens) = refl
+sorts_are (S.list S.params) = refl
+sorts_are (S.list S.fns) = refl
+sorts_are (S.list S.nodes) = refl
+sorts_are (S.list S.fields) = refl
+sorts_are (S.list S.cases) = refl
+
+-- the sort of any number has the members of that number
+pub members-at : (k : ℕ) → S.members (sort_at k) ≡ members_of k
+unfolding sort_at members_of
+members-at k = grind arith

@@ -1,9 +1,11 @@
 -- What is lent, and when a call is refused for it.
-use Rattle.std.specs.Prelude.{List, ℕ, zero, suc, ◌*◌, ltb, length, take}
+use Rattle.std.specs.Prelude.{List, ℕ, zero, suc, ◌*◌, ltb, length, take, Result, Ok, Err}
 use Rattle.ast.specs.Layout.{node_width, type_width, cells_per_byte}
 use Rattle.lex.specs.Answer.{max_bytes, Answer, refused}
-use Rattle.lex.specs.Refusals.{r_too_long, r_too_short}
+use Rattle.lex.specs.Refusals.{r_too_long, r_too_short, number}
+use Rattle.lex.specs.declared.diagnostic.Refusal.{Refusal}
 use Rattle.ast.specs.declared.Counts.{Counts}
+use Rattle.ast.specs.declared.lent.Tree.{Tree}
 use Rattle.lex.specs.Bytes.{if}
 
 -- a number other than 0 refuses
@@ -32,6 +34,10 @@ lent script nodes types lists roots counts =
       counts = counts;
     }
 
+-- what a tree of the code is lent in
+abbrev pub lent_of : Tree → Lent
+lent_of t = lent t.script.now t.nodes.now t.types.now t.lists.now t.roots.now t.counts
+
 -- 1: the script is too long; 2: an array has fewer cells than each byte of it needs; 0: neither
 unfoldable pub refusal : Lent → ℕ
 refusal l =
@@ -45,3 +51,8 @@ refusal l =
 -- the list cells in use
 abbrev pub cells_of : Lent → List ℕ
 cells_of l = take l.counts.cells l.lists
+
+-- the number of a refusal, 0 where nothing is refused
+abbrev pub refusal_number : Result Unit Refusal → ℕ
+refusal_number (Ok u) = 0
+refusal_number (Err r) = number r

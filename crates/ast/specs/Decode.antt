@@ -2,18 +2,17 @@
 -- what was laid out.
 use Rattle.std.specs.Prelude.{Bool, List, [], ◌∷◌, ℕ, ◌+◌, ◌*◌, ◌%◌, leb, length, get_or, take, drop}
 use Rattle.std.proofs.Math.Option.{Option, none, some}
+use Rattle.std.specs.Prelude as R
 use Rattle.lex.specs.Bytes.{if}
 use Rattle.ast.specs.Layout.{node_width, type_width}
+use Rattle.lex.specs.declared.diagnostic.Diagnostic.{Diagnostic}
 use Rattle.lex.specs.declared.tok.Token.{Token}
+use Rattle.ast.specs.declared.Counts.{Counts}
 use Rattle.ast.specs.declared.Run.{Run}
 use Rattle.ast.specs.declared.Node.{Node}
 use Rattle.ast.specs.declared.Node.TheVariants as N
 use Rattle.ast.specs.declared.TypeExpr.{TypeExpr}
 use Rattle.ast.specs.declared.TypeExpr.TheVariants as T
-use Rattle.ast.specs.declared.decode.NodeRead.{NodeRead}
-use Rattle.ast.specs.declared.decode.NodeRead.TheVariants as NR
-use Rattle.ast.specs.declared.decode.TypeRead.{TypeRead}
-use Rattle.ast.specs.declared.decode.TypeRead.TheVariants as TR
 
 -- ---- what cells say
 
@@ -22,6 +21,26 @@ token_at cs j = record { kind = get_or cs j 0; start = get_or cs (j + 1) 0; len 
 
 abbrev pub run_at : List ℕ → ℕ → Run
 run_at cs j = record { start = get_or cs j 0; len = get_or cs (j + 1) 0 }
+
+abbrev pub diagnostic_at : List ℕ → ℕ → Diagnostic
+diagnostic_at cs j = record {
+  number = get_or cs j 0;
+  start = get_or cs (j + 1) 0;
+  len = get_or cs (j + 2) 0;
+  wanted = get_or cs (j + 3) 0;
+  seen = get_or cs (j + 4) 0;
+}
+
+abbrev pub counts_at : List ℕ → Counts
+counts_at cs =
+    record {
+      nodes = get_or cs 0 0;
+      types = get_or cs 1 0;
+      cells = get_or cs 2 0;
+      roots = get_or cs 3 0;
+      values = get_or cs 4 0;
+      diagnostics = get_or cs 5 0;
+    }
 
 -- the record that cells hold, at each kind from 1 on
 unfoldable pub nodes_by_kind : List ℕ → List (Option Node)
@@ -67,6 +86,10 @@ type_of cs = get_or (none ∷ types_by_kind cs) (get_or cs 0 0) none
 abbrev pub fits : ℕ → List ℕ → ℕ → Bool
 fits size xs i = leb (size * i + size) (length xs)
 
+-- the cells of record `i`; none where it lies outside
+abbrev pub record_at : ℕ → List ℕ → ℕ → R.Option (List ℕ)
+record_at size xs i = if (fits size xs i) (R.Some (take size (drop (size * i) xs))) R.None
+
 -- record `i`; none where it lies outside or its kind is unknown
 unfoldable pub node_at : List ℕ → ℕ → Option Node
 node_at nodes i =
@@ -82,10 +105,6 @@ low32 n = n % 4294967296
 
 -- ---- what an answer of the code says
 
-unfoldable pub node_read : NodeRead → Option Node
-node_read (NR.Known n) = some n
-node_read NR.Unknown = none
-
-unfoldable pub type_read : TypeRead → Option TypeExpr
-type_read (TR.Known t) = some t
-type_read TR.Unknown = none
+abbrev pub option_of : {A : Type 0} → R.Option A → Option A
+option_of (R.Some a) = some a
+option_of R.None = none

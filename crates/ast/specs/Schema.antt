@@ -10,6 +10,8 @@ use Rattle.ast.specs.declared.Node.{Node}
 use Rattle.ast.specs.declared.Node.TheVariants as N
 use Rattle.ast.specs.declared.TypeExpr.{TypeExpr}
 use Rattle.ast.specs.declared.TypeExpr.TheVariants as T
+use Rattle.ast.specs.declared.schema.Sort.{Sort}
+use Rattle.ast.specs.declared.schema.Sort.TheVariants as So
 
 -- what the members of a list are
 pub data Members : Type 0 where
@@ -182,3 +184,42 @@ members_of k =
     (if (eqb k 6) nodes
     (if (eqb k 7) fields
     (if (eqb k 8) cases tokens))))
+
+-- the sort of a number; a list of tokens for any that is none
+unfoldable pub sort_at : ℕ → Sort
+sort_at k =
+    if (eqb k 0) So.Value
+    (if (eqb k 1) So.Token
+    (if (eqb k 3) So.Params
+    (if (eqb k 4) So.Type
+    (if (eqb k 5) So.Fns
+    (if (eqb k 6) So.Nodes
+    (if (eqb k 7) So.Fields
+    (if (eqb k 8) So.Cases
+    (if (eqb k 9) So.Node So.Tokens))))))))
+
+-- the members of a list of a sort; tokens where it is none of a list
+abbrev pub members : Sort → Members
+members So.Value = tokens
+members So.Token = tokens
+members So.Tokens = tokens
+members So.Params = params
+members So.Type = tokens
+members So.Fns = fns
+members So.Nodes = nodes
+members So.Fields = fields
+members So.Cases = cases
+members So.Node = tokens
+
+-- the field of a sort
+abbrev pub field_at : Sort → Field
+field_at So.Value = value
+field_at So.Token = token
+field_at So.Tokens = list tokens
+field_at So.Params = list params
+field_at So.Type = type
+field_at So.Fns = list fns
+field_at So.Nodes = list nodes
+field_at So.Fields = list fields
+field_at So.Cases = list cases
+field_at So.Node = node

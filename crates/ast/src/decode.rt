@@ -1,34 +1,20 @@
 // The records of the tree, read from the lent arrays.
-ghost use Rattle.std.specs.Prelude.{◌≡◌, ◌+◌, ◌≤◌, length, get_or, take, drop};
-ghost use Rattle.ast.specs.Layout.{node_width, type_width};
-ghost use Rattle.ast.specs.Decode.{token_at, run_at, node_of, type_of, node_at, type_at, node_read};
-ghost use Rattle.ast.specs.Decode.{type_read};
+ghost use Rattle.std.specs.Prelude.{◌≡◌, ◌+◌, ◌<◌, get_or, option_copied};
+ghost use Rattle.ast.specs.Decode.{token_at, run_at, diagnostic_at, record_at};
+ghost use Rattle.ast.specs.Decode.{node_of, type_of, node_at, type_at, option_of};
 
 use crate::{Node, NodeId, NodeKind, Run, TypeExpr, TypeExprId, TypeExprKind};
-use lex::Token;
+use lex::{Diagnostic, Token};
 
-#[derive(Clone, Copy)]
-pub enum NodeRead {
-    Known(Node),
-    Unknown,
-}
-
-#[derive(Clone, Copy)]
-pub enum TypeRead {
-    Known(TypeExpr),
-    Unknown,
-}
-
-// Cell `at + k`; 0 behind the end.
+// Cell `at + k`; 0 behind the end. By two tests: by `get`, names are compared more slowly by half.
 pub fn cell(a: &[u32], at: usize, k: usize) -> u32
     ensures { result ≡ get_or a.now (at + k) 0 }
 {
-    if at < a.len() {
-        if k < a.len() - at {
-            return a[at + k];
-        }
+    if at < a.len() && k < a.len() - at {
+        a[at + k]
+    } else {
+        0
     }
-    0
 }
 
 // The token whose cells begin at `at`.
@@ -54,247 +40,151 @@ pub fn run_at(a: &[u32], at: usize) -> Run
     Run { start, len }
 }
 
-// A node's cells, from `at` on.
-fn cells16(a: &[u32], at: usize) -> [u32; Node::WIDTH]
-    requires { at + node_width ≤ length a.now }
-    ensures { result ≡ take node_width (drop at a.now) }
+// The error whose cells begin at `at`.
+pub fn diagnostic_at(a: &[u32], at: usize) -> Diagnostic
+    ensures { result ≡ diagnostic_at a.now at }
 {
-    let mut cells = [0u32; Node::WIDTH];
-    let mut i = 0;
-    while i < Node::WIDTH {
-        cells[i] = a[at + i];
-        i += 1;
+    let number = cell(a, at, 0);
+    let start = cell(a, at, 1);
+    let len = cell(a, at, 2);
+    let wanted = cell(a, at, 3);
+    let seen = cell(a, at, 4);
+    Diagnostic {
+        number,
+        start,
+        len,
+        wanted,
+        seen,
     }
-    cells
 }
 
-// A type's cells, from `at` on.
-fn cells8(a: &[u32], at: usize) -> [u32; TypeExpr::WIDTH]
-    requires { at + type_width ≤ length a.now }
-    ensures { result ≡ take type_width (drop at a.now) }
+// The node that a record's cells hold; none where the kind is unknown.
+#[tactic(auto, unfolding(crate::specs::Decode::node_of, crate::specs::Decode::nodes_by_kind))]
+fn node_of(c: &[u32; Node::WIDTH]) -> Option<Node>
+    ensures { option_of result ≡ node_of c.now }
 {
-    let mut cells = [0u32; TypeExpr::WIDTH];
-    let mut i = 0;
-    while i < TypeExpr::WIDTH {
-        cells[i] = a[at + i];
-        i += 1;
-    }
-    cells
-}
-
-fn node_of(c: [u32; Node::WIDTH]) -> NodeRead
-    ensures { node_read result ≡ node_of c }
-{
-    let kind = c[0];
     let id = c[1];
-    let c2 = c[2];
-    let c3 = c[3];
-    let c4 = c[4];
-    let c5 = c[5];
-    let c6 = c[6];
-    let c7 = c[7];
-    let c8 = c[8];
-    let c9 = c[9];
-    let c10 = c[10];
-    let c11 = c[11];
-    match kind {
-        NodeKind::ATOM => NodeRead::Known(Node::Atom {
+    match c[0] {
+        NodeKind::ATOM => Some(Node::Atom {
             id,
-            raw: Token {
-                kind: c2,
-                start: c3 as usize,
-                len: c4 as usize,
-            },
+            raw: token_at(c, 2),
         }),
-        NodeKind::IDENT => NodeRead::Known(Node::Ident {
+        NodeKind::IDENT => Some(Node::Ident {
             id,
-            name: Token {
-                kind: c2,
-                start: c3 as usize,
-                len: c4 as usize,
-            },
+            name: token_at(c, 2),
         }),
-        NodeKind::BIN => NodeRead::Known(Node::Bin {
+        NodeKind::BIN => Some(Node::Bin {
             id,
-            op: Token {
-                kind: c2,
-                start: c3 as usize,
-                len: c4 as usize,
-            },
-            lhs: NodeId(c5),
-            rhs: NodeId(c6),
+            op: token_at(c, 2),
+            lhs: NodeId(c[5]),
+            rhs: NodeId(c[6]),
         }),
-        NodeKind::UNARY => NodeRead::Known(Node::Unary {
+        NodeKind::UNARY => Some(Node::Unary {
             id,
-            op: Token {
-                kind: c2,
-                start: c3 as usize,
-                len: c4 as usize,
-            },
-            rhs: NodeId(c5),
+            op: token_at(c, 2),
+            rhs: NodeId(c[5]),
         }),
-        NodeKind::LET => NodeRead::Known(Node::Let {
+        NodeKind::LET => Some(Node::Let {
             id,
-            docs: Run { start: c2, len: c3 },
-            name: Token {
-                kind: c4,
-                start: c5 as usize,
-                len: c6 as usize,
-            },
-            rhs: NodeId(c7),
+            docs: run_at(c, 2),
+            name: token_at(c, 4),
+            rhs: NodeId(c[7]),
         }),
-        NodeKind::FN => NodeRead::Known(Node::Fn {
+        NodeKind::FN => Some(Node::Fn {
             id,
-            docs: Run { start: c2, len: c3 },
-            name: Token {
-                kind: c4,
-                start: c5 as usize,
-                len: c6 as usize,
-            },
-            args: Run { start: c7, len: c8 },
-            return_type: TypeExprId(c9),
-            body: Run {
-                start: c10,
-                len: c11,
-            },
+            docs: run_at(c, 2),
+            name: token_at(c, 4),
+            args: run_at(c, 7),
+            return_type: TypeExprId(c[9]),
+            body: run_at(c, 10),
         }),
-        NodeKind::MATCH => NodeRead::Known(Node::Match {
+        NodeKind::MATCH => Some(Node::Match {
             id,
-            cases: Run { start: c2, len: c3 },
-            default_token: Token {
-                kind: c4,
-                start: c5 as usize,
-                len: c6 as usize,
-            },
-            default_body: Run { start: c7, len: c8 },
+            cases: run_at(c, 2),
+            default_token: token_at(c, 4),
+            default_body: run_at(c, 7),
         }),
-        NodeKind::CALL => NodeRead::Known(Node::Call {
+        NodeKind::CALL => Some(Node::Call {
             id,
-            target: NodeId(c2),
-            args: Run { start: c3, len: c4 },
+            target: NodeId(c[2]),
+            args: run_at(c, 3),
         }),
-        NodeKind::FIELD => NodeRead::Known(Node::Field {
+        NodeKind::FIELD => Some(Node::Field {
             id,
-            target: NodeId(c2),
-            name: Token {
-                kind: c3,
-                start: c4 as usize,
-                len: c5 as usize,
-            },
+            target: NodeId(c[2]),
+            name: token_at(c, 3),
         }),
-        NodeKind::CAST => NodeRead::Known(Node::Cast {
+        NodeKind::CAST => Some(Node::Cast {
             id,
-            src: Token {
-                kind: c2,
-                start: c3 as usize,
-                len: c4 as usize,
-            },
-            lhs: NodeId(c5),
-            rhs: TypeExprId(c6),
+            src: token_at(c, 2),
+            lhs: NodeId(c[5]),
+            rhs: TypeExprId(c[6]),
         }),
-        NodeKind::IMPORT => NodeRead::Known(Node::Import {
+        NodeKind::IMPORT => Some(Node::Import {
             id,
-            src: Token {
-                kind: c2,
-                start: c3 as usize,
-                len: c4 as usize,
-            },
-            pkgs: Run { start: c5, len: c6 },
+            src: token_at(c, 2),
+            pkgs: run_at(c, 5),
         }),
-        NodeKind::EXTERN => NodeRead::Known(Node::Extern {
+        NodeKind::EXTERN => Some(Node::Extern {
             id,
-            src: Token {
-                kind: c2,
-                start: c3 as usize,
-                len: c4 as usize,
-            },
-            docs: Run { start: c5, len: c6 },
-            name: Token {
-                kind: c7,
-                start: c8 as usize,
-                len: c9 as usize,
-            },
-            fns: Run {
-                start: c10,
-                len: c11,
-            },
+            src: token_at(c, 2),
+            docs: run_at(c, 5),
+            name: token_at(c, 7),
+            fns: run_at(c, 10),
         }),
-        NodeKind::RECORD => NodeRead::Known(Node::Record {
+        NodeKind::RECORD => Some(Node::Record {
             id,
-            src: Token {
-                kind: c2,
-                start: c3 as usize,
-                len: c4 as usize,
-            },
-            fields: Run { start: c5, len: c6 },
+            src: token_at(c, 2),
+            fields: run_at(c, 5),
         }),
-        NodeKind::ARRAY => NodeRead::Known(Node::Array {
+        NodeKind::ARRAY => Some(Node::Array {
             id,
-            src: Token {
-                kind: c2,
-                start: c3 as usize,
-                len: c4 as usize,
-            },
-            members: Run { start: c5, len: c6 },
+            src: token_at(c, 2),
+            members: run_at(c, 5),
         }),
-        _ => NodeRead::Unknown,
+        _ => None,
     }
 }
 
-fn type_of(c: [u32; TypeExpr::WIDTH]) -> TypeRead
-    ensures { type_read result ≡ type_of c }
+// The type that a record's cells hold; none where the kind is unknown.
+#[tactic(auto, unfolding(crate::specs::Decode::type_of, crate::specs::Decode::types_by_kind))]
+fn type_of(c: &[u32; TypeExpr::WIDTH]) -> Option<TypeExpr>
+    ensures { option_of result ≡ type_of c.now }
 {
-    let kind = c[0];
-    let c1 = c[1];
-    let c2 = c[2];
-    let c3 = c[3];
-    let c4 = c[4];
-    let c5 = c[5];
-    match kind {
-        TypeExprKind::ATOM => TypeRead::Known(TypeExpr::Atom(Token {
-            kind: c1,
-            start: c2 as usize,
-            len: c3 as usize,
-        })),
-        TypeExprKind::FOREIGN => TypeRead::Known(TypeExpr::Foreign(Token {
-            kind: c1,
-            start: c2 as usize,
-            len: c3 as usize,
-        })),
-        TypeExprKind::OPTION => TypeRead::Known(TypeExpr::Option(TypeExprId(c1))),
-        TypeExprKind::ARRAY => TypeRead::Known(TypeExpr::Array(TypeExprId(c1))),
-        TypeExprKind::RECORD => TypeRead::Known(TypeExpr::Record {
-            src: Token {
-                kind: c1,
-                start: c2 as usize,
-                len: c3 as usize,
-            },
-            fields: Run { start: c4, len: c5 },
+    match c[0] {
+        TypeExprKind::ATOM => Some(TypeExpr::Atom(token_at(c, 1))),
+        TypeExprKind::FOREIGN => Some(TypeExpr::Foreign(token_at(c, 1))),
+        TypeExprKind::OPTION => Some(TypeExpr::Option(TypeExprId(c[1]))),
+        TypeExprKind::ARRAY => Some(TypeExpr::Array(TypeExprId(c[1]))),
+        TypeExprKind::RECORD => Some(TypeExpr::Record {
+            src: token_at(c, 1),
+            fields: run_at(c, 4),
         }),
-        _ => TypeRead::Unknown,
+        _ => None,
     }
 }
 
-// The record of a node.
-pub fn node(nodes: &[u32], id: NodeId) -> NodeRead
-    ensures { node_read result ≡ node_at nodes.now id.0 }
+// The cells of record `i`, of `N` cells each; none where it lies outside.
+#[tactic(auto, using(crate::proofs::Records::record_is))]
+fn record<const N: usize>(cells: &[u32], i: u32) -> Option<&[u32; N]>
+    requires { 0 < N }
+    ensures { option_copied result ≡ record_at N cells.now i }
 {
-    let at = Node::WIDTH * id.0 as usize;
-    if at + Node::WIDTH <= nodes.len() {
-        node_of(cells16(nodes, at))
-    } else {
-        NodeRead::Unknown
-    }
+    cells.as_chunks().0.get(i as usize)
 }
 
-// The record of a type.
-pub fn type_expr(types: &[u32], id: TypeExprId) -> TypeRead
-    ensures { type_read result ≡ type_at types.now id.0 }
+// The record of a node; none where it lies outside or its kind is unknown.
+#[tactic(auto, unfolding(crate::specs::Decode::node_at))]
+pub fn node(nodes: &[u32], id: NodeId) -> Option<Node>
+    ensures { option_of result ≡ node_at nodes.now id.0 }
 {
-    let at = TypeExpr::WIDTH * id.0 as usize;
-    if at + TypeExpr::WIDTH <= types.len() {
-        type_of(cells8(types, at))
-    } else {
-        TypeRead::Unknown
-    }
+    node_of(record(nodes, id.0)?)
+}
+
+// The record of a type; none where it lies outside or its kind is unknown.
+#[tactic(auto, unfolding(crate::specs::Decode::type_at))]
+pub fn type_expr(types: &[u32], id: TypeExprId) -> Option<TypeExpr>
+    ensures { option_of result ≡ type_at types.now id.0 }
+{
+    type_of(record(types, id.0)?)
 }

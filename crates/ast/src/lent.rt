@@ -1,6 +1,6 @@
-// What is lent: when a call is refused for it, and the list cells in use.
-ghost use Rattle.std.specs.Prelude.{◌≡◌, take};
-ghost use Rattle.ast.specs.Answer.{lent, refusal as refusal_of};
+// What a tree is lent in: when a call is refused for it, and the list cells in use.
+ghost use Rattle.std.specs.Prelude.{◌≡◌};
+ghost use Rattle.ast.specs.Answer.{lent_of, cells_of, refusal as refusal_of, refusal_number};
 
 use crate::{Counts, Node, TypeExpr};
 use lex::{MAX_BYTES, Refusal};
@@ -8,44 +8,46 @@ use lex::{MAX_BYTES, Refusal};
 // The list cells that are lent at least for each byte of the script.
 pub const CELLS_PER_BYTE: usize = 8;
 
-// 1 or 2 where the call is refused for what is lent, else 0.
-pub fn refusal(
-    script: &[u8],
-    nodes: &[u32],
-    types: &[u32],
-    lists: &[u32],
-    roots: &[u32],
-    counts: Counts,
-) -> u32
-    ensures { let tree =
-        lent script.now nodes.now types.now
-        lists.now roots.now counts
-        in
-        result ≡ refusal_of tree }
-{
-    let n = script.len();
-    if MAX_BYTES < n {
-        return Refusal::TOO_LONG;
-    }
-    if nodes.len() < Node::WIDTH * n {
-        return Refusal::TOO_SHORT;
-    }
-    if types.len() < TypeExpr::WIDTH * n {
-        return Refusal::TOO_SHORT;
-    }
-    if lists.len() < CELLS_PER_BYTE * n {
-        return Refusal::TOO_SHORT;
-    }
-    if roots.len() < n {
-        return Refusal::TOO_SHORT;
-    }
-    0
+// A script, the arrays that hold its tree, and what counts them.
+#[derive(Clone, Copy)]
+pub struct Tree<'a> {
+    pub script: &'a [u8],
+    pub nodes: &'a [u32],
+    pub types: &'a [u32],
+    pub lists: &'a [u32],
+    pub roots: &'a [u32],
+    pub counts: Counts,
 }
 
-// The first `count` cells, or all where there are fewer.
-pub fn used(lists: &[u32], count: u32) -> &[u32]
-    ensures { result.now ≡ take count lists.now }
-{
-    let n = count as usize;
-    if n <= lists.len() { &lists[..n] } else { lists }
+impl Tree<'_> {
+    // Refused where the script is too long or an array too short for it.
+    #[tactic(auto, unfolding(crate::specs::Answer::refusal))]
+    pub fn refusal(&self) -> Result<(), Refusal>
+        ensures { refusal_number result ≡ refusal_of (lent_of self.now) }
+    {
+        let n = self.script.len();
+        if MAX_BYTES < n {
+            return Err(Refusal::TooLong);
+        }
+        if self.nodes.len() < Node::WIDTH * n
+            || self.types.len() < TypeExpr::WIDTH * n
+            || self.lists.len() < CELLS_PER_BYTE * n
+            || self.roots.len() < n
+        {
+            return Err(Refusal::TooShort);
+        }
+        Ok(())
+    }
+
+    // The list cells in use: the first that are counted, or all where there are fewer.
+    pub fn cells(&self) -> &[u32]
+        ensures { result.now ≡ cells_of (lent_of self.now) }
+    {
+        let n = self.counts.cells as usize;
+        if n <= self.lists.len() {
+            &self.lists[..n]
+        } else {
+            self.lists
+        }
+    }
 }

@@ -5,7 +5,11 @@ pub mod decode;
 pub mod lent;
 pub mod schema;
 
-use lex::{Diagnostic, Token};
+ghost use Rattle.std.specs.Prelude.{◌≡◌};
+ghost use Rattle.ast.specs.Decode.{counts_at};
+
+pub use lent::Tree;
+use lex::{Diagnostic, Refusal, Token};
 
 // A list: its first cell and how many members it has.
 #[derive(Clone, Copy)]
@@ -107,6 +111,7 @@ impl Node {
 }
 
 // The kinds of node are numbers, in the order of `Node`. A record's first cell is its kind.
+// No enum: a kind is a cell of a lent array, which may hold any number, and is answered for each.
 #[derive(Clone, Copy)]
 pub struct NodeKind(pub u32);
 
@@ -155,6 +160,7 @@ impl TypeExpr {
 }
 
 // The kinds of type are numbers, in the order of `TypeExpr`. A record's first cell is its kind.
+// No enum: a kind is a cell of a lent array, which may hold any number, and is answered for each.
 #[derive(Clone, Copy)]
 pub struct TypeExprKind(pub u32);
 
@@ -184,10 +190,31 @@ pub struct Counts {
     pub diagnostics: u32,
 }
 
-// What a reading answers.
-#[derive(Clone, Copy)]
-pub enum Parsed {
-    Tree(Counts),
-    Error(Diagnostic),
-    Refused(u32),
+// Six cells hold them, in this order.
+impl From<&[u32; 6]> for Counts {
+    ghost from_gives = { λ cells counts. counts ≡ counts_at cells.now };
+
+    fn from(cells: &[u32; 6]) -> Counts
+        ensures { result ≡ counts_at cells.now }
+    {
+        let [nodes, types, cells, roots, values, diagnostics] = *cells;
+        Counts {
+            nodes,
+            types,
+            cells,
+            roots,
+            values,
+            diagnostics,
+        }
+    }
 }
+
+// Why a reading has no tree: what was lent, or the script.
+#[derive(Clone, Copy)]
+pub enum ReadError {
+    Refused(Refusal),
+    Script(Diagnostic),
+}
+
+// What a reading answers.
+pub type Parsed = Result<Counts, ReadError>;

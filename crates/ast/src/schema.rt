@@ -1,30 +1,43 @@
-// The schema as numbers: the sorts of fields, and the cells of a list's members.
+// The schema: the sorts of fields, and the cells of a list's members.
 ghost use Rattle.std.specs.Prelude.{◌≡◌};
-ghost use Rattle.ast.specs.Schema.{member_width};
-ghost use Rattle.ast.specs.Schema.{members_of};
+ghost use Rattle.ast.specs.Schema.{member_width, members, sort_at};
 
 // What a field of a record, or of a member of a list, is.
-#[derive(Clone, Copy)]
-pub struct Sort(pub u64);
+#[derive(Clone, Copy, Debug, PartialEq, Eq)]
+pub enum Sort {
+    Value,
+    Token,
+    Tokens,
+    Params,
+    Type,
+    Fns,
+    Nodes,
+    Fields,
+    Cases,
+    Node,
+}
 
-impl Sort {
-    pub const TOKEN: u64 = 1;
+// The sort of a number: they count from 0. Any other number is taken for a list of tokens.
+impl From<u64> for Sort {
+    ghost from_gives = { λ number sort. sort ≡ sort_at number };
 
-    pub const TOKENS: u64 = 2;
-
-    pub const PARAMS: u64 = 3;
-
-    pub const TYPE: u64 = 4;
-
-    pub const FNS: u64 = 5;
-
-    pub const NODES: u64 = 6;
-
-    pub const FIELDS: u64 = 7;
-
-    pub const CASES: u64 = 8;
-
-    pub const NODE: u64 = 9;
+    #[tactic(auto, unfolding(crate::specs::Schema::sort_at))]
+    fn from(number: u64) -> Sort
+        ensures { result ≡ sort_at number }
+    {
+        match number {
+            0 => Sort::Value,
+            1 => Sort::Token,
+            3 => Sort::Params,
+            4 => Sort::Type,
+            5 => Sort::Fns,
+            6 => Sort::Nodes,
+            7 => Sort::Fields,
+            8 => Sort::Cases,
+            9 => Sort::Node,
+            _ => Sort::Tokens,
+        }
+    }
 }
 
 // The cells of a member of each list.
@@ -40,24 +53,18 @@ pub const FIELD_WIDTH: usize = 4;
 
 pub const CASE_WIDTH: usize = 6;
 
-// The cells of a member, by the sort of its list.
-pub fn member_width(sort: u64) -> usize
-    ensures { result ≡ member_width (members_of sort) }
-{
-    if sort == Sort::PARAMS {
-        return PARAM_WIDTH;
+impl Sort {
+    // The cells of a member of such a list; what is no list is taken for one of tokens.
+    pub fn width(self) -> usize
+        ensures { result ≡ member_width (members self) }
+    {
+        match self {
+            Sort::Params => PARAM_WIDTH,
+            Sort::Fns => FN_WIDTH,
+            Sort::Nodes => NODE_WIDTH,
+            Sort::Fields => FIELD_WIDTH,
+            Sort::Cases => CASE_WIDTH,
+            _ => TOKEN_WIDTH,
+        }
     }
-    if sort == Sort::FNS {
-        return FN_WIDTH;
-    }
-    if sort == Sort::NODES {
-        return NODE_WIDTH;
-    }
-    if sort == Sort::FIELDS {
-        return FIELD_WIDTH;
-    }
-    if sort == Sort::CASES {
-        return CASE_WIDTH;
-    }
-    TOKEN_WIDTH
 }

@@ -3,17 +3,29 @@
 use mathlib.Core.Path.{◌≡◌, ◌∙◌, sym, ap, subst}
 use mathlib.Core.List.{List}
 use Prim.Native.Nat.{ℕ}
+use Rattle.std.specs.Prelude.{Result, Ok, Err, MatchResult, IsOkAnd}
+use Rattle.lex.specs.Answer.{Answer, answer, refused, answered}
+use Rattle.lex.specs.Refusals.{number}
+use Rattle.lex.specs.declared.diagnostic.Refusal.{Refusal}
+use Rattle.rules.specs.Parsed.{Parsed}
 use Rattle.rules.specs.Promise.{Arrays, Outcome, numbers_of}
-use Rattle.ast.specs.declared.Parsed.{Parsed}
-use Rattle.lex.specs.Answer.{Answer}
 use Rattle.parser.specs.Steps.{WholeOutcome}
-use Rattle.c_api.specs.Numbers.{reading_cells, as_numbers, reading_of, both_numbers, number_of, answer_cells, Answers}
+use Rattle.c_api.specs.Numbers.{number_of, answer_cells, same_cells, Answers, reading_cells, as_numbers, reading_of, both_numbers}
 
-pub answers : {A : Type 0} (cells : A → List ℕ) (out : List ℕ) {a b : Answer A} → b ≡ a → Answers cells a (number_of b) out (answer_cells cells b out)
-answers cells out e = (ap number_of e, ap (λ x. answer_cells cells x out) e)
-
-pub answers-same : {A : Type 0} (cells : A → List ℕ) (out : List ℕ) {a b : Answer A} {r : ℕ} {out' : List ℕ} → a ≡ b → Answers cells a r out out' → Answers cells b r out out'
-answers-same {A} cells out {r = r} {out' = out'} e h = subst (λ (x : Answer A). Answers cells x r out out') e h
+-- the cells that `put` writes are those of what was asked, as `map` made them of the code's
+-- answer; `says` is what the code's answer says
+pub put_mapped : {A B : Type 0} (cells : A → List ℕ) (says : Result B Refusal → Answer A) {Made : B → List ℕ → Type 0}
+    → (makes : (x : B) (y : List ℕ) → Made x y → (a : A) × (says (Ok x) ≡ answer a) × (y ≡ cells a)) (refuses : (e : Refusal) → says (Err e) ≡ refused (number e))
+    → {r : Result B Refusal} (m : Result (List ℕ) Refusal) → MatchResult r (λ x. IsOkAnd m (Made x)) (λ e. m ≡ Err e)
+    → {due : Answer A} → says r ≡ due → (n : ℕ) (out out' : List ℕ) → Answers same_cells (answered m) n out out' → Answers cells due n out out'
+unfolding number_of answer_cells
+put_mapped {A} cells says makes refuses {r = Ok x} (Ok y) h e n out out' p =
+    let q = makes x y h in
+    subst (λ (d : Answer A). Answers cells d n out out') (sym q.1 ∙ e) (p.0, p.1 ∙ q.2)
+put_mapped cells says makes refuses {r = Ok x} (Err e) h d n out out' p = absurd h
+put_mapped {A} cells says makes refuses {r = Err e} m h d n out out' p =
+    let q : Answers same_cells (refused (number e)) n out out' = subst (λ (w : Result (List ℕ) Refusal). Answers same_cells (answered w) n out out') h p in
+    subst (λ (w : Answer A). Answers cells w n out out') (sym (refuses e) ∙ d) (q.0, q.1)
 
 pub answers-reading : (out : List ℕ) {o : Outcome} {p : Parsed} {l : Arrays} {r : ℕ} {out' : List ℕ} → o ≡ record { answer = p; arrays = l } → (r ≡ (numbers_of p).number) × (out' ≡ reading_cells p out)
     → as_numbers o out ≡ record { number = r; numbers = out'; arrays = l }

@@ -17,7 +17,7 @@ use Rattle.tokens.proofs.Whole.{tabled_is_cut}
 use Rattle.rules.specs.Tree.{Tree}
 use Rattle.rules.specs.Parse.{Reading, read, ended}
 use Rattle.rules.specs.Promise.{Arrays, Outcome, too_short, outcome, promised}
-use Rattle.ast.specs.declared.Parsed.TheVariants as P
+use Rattle.rules.specs.Parsed as P
 use Rattle.compare.proofs.Held.{or-false}
 use Rattle.parser.specs.Steps.{turned_away, any_too_short, read_promised, WholeOutcome, parse_promised}
 use Rattle.c_api.specs.Numbers.{reading_of}

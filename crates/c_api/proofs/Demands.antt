@@ -23,7 +23,7 @@ use Rattle.tokens.specs.Tables as T
 use Rattle.rules.specs.Shape.{Word}
 use Rattle.rules.specs.Strike.{no_doc_before_import_or_eof, notes_of, strike}
 use Rattle.ast.specs.declared.Counts.{Counts}
-use Rattle.ast.specs.declared.Parsed.TheVariants as P
+use Rattle.rules.specs.Parsed as P
 use Rattle.rules.proofs.Counting.Whole.{InBytes, in_bytes, parse_bounded}
 use Rattle.rules.proofs.Counting.Collect.{parse_collect_bounded, parse_collect-errors}
 use Rattle.rules.proofs.Counting.Cells.{parse-cells, parse_collect-cells}

@@ -14,8 +14,8 @@ use Rattle.rules.specs.Parse.{Reading, read, ended, parse, parse_collect}
 use Rattle.ast.specs.Layout.{diagnostic_cells}
 use Rattle.lex.specs.Answer.{max_bytes}
 use Rattle.rules.specs.Promise.{Arrays, Outcome, outcome, too_short, promised, numbers_of}
-use Rattle.ast.specs.declared.Parsed.{Parsed}
-use Rattle.ast.specs.declared.Parsed.TheVariants as P
+use Rattle.rules.specs.Parsed.{Parsed}
+use Rattle.rules.specs.Parsed as P
 use Rattle.text.specs.Emit.{plain}
 use Rattle.text.proofs.EmitLaws.{and_left}
 use Rattle.words.specs.Words.{is_script_error, is_wanted, is_seen, has_words, error_of}

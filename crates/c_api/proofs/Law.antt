@@ -13,7 +13,7 @@ use Rattle.rules.specs.Parse.{Reading, parse, parse_collect}
 use Rattle.ast.specs.Layout.{diagnostic_cells}
 use Rattle.rules.specs.Promise.{Arrays, holding, Outcome, promised, numbers_of}
 use Rattle.rules.specs.Law.{resynchronisings, Law}
-use Rattle.ast.specs.declared.Parsed.{Parsed}
+use Rattle.rules.specs.Parsed.{Parsed}
 use Rattle.rules.proofs.Law.Whole.{tree_law_stage_one, Delivered, strict_delivered, collecting_delivered}
 use Rattle.parser.specs.Steps.{read_promised, WholeOutcome, parse_promised}
 use Rattle.c_api.specs.Numbers.{number_cells, reading_cells, Returned, as_numbers, BothReturned, both_numbers}

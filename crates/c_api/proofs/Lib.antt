@@ -6,5 +6,3 @@ pub mod Described
 pub mod UniqueReading
 pub mod Demands
 pub mod Law
-pub mod LexerCells
-pub mod Tabled

@@ -14,13 +14,14 @@ use Rattle.rules.specs.Parse.{read}
 use Rattle.rules.specs.Promise.{Arrays, Outcome, promised}
 use Rattle.rules.specs.Strike.{no_doc_before_import, notes_of, strike, Plain}
 use Rattle.ast.specs.declared.Counts.{Counts}
-use Rattle.ast.specs.declared.Parsed.TheVariants as P
+use Rattle.rules.specs.Parsed as P
 use Rattle.rules.proofs.Unique.Whole.{unique_reading}
-use Rattle.lex.specs.Answer.{Answer, answer}
+use Rattle.std.specs.Prelude.{Result}
+use Rattle.lex.specs.Answer.{Answer, answer, answered}
+use Rattle.lex.specs.declared.diagnostic.Refusal.{Refusal}
 use Rattle.ast.specs.Answer.{Lent, lent}
-use Rattle.compare.specs.Compare.{compare, comparison_answer}
+use Rattle.compare.specs.Compare.{compare}
 use Rattle.compare.specs.Returned.{Mode, strict, reading, returned, YesOrNo, yes, no}
-use Rattle.compare.specs.declared.Comparison.{Comparison}
 use Rattle.compare.proofs.Held.{strict-read, compared}
 use Rattle.parser.specs.Steps.{turned_away}
 use Rattle.c_api.proofs.Calls.{Steps, due, of_all}
@@ -63,8 +64,8 @@ module _ (m₁ m₂ : Mode) (s₁ s₂ : List ℕ) (l₁ l₂ : Arrays) (c₁ c�
   compared_trees = rw as_returned (compared m₁ m₂ s₁ s₂ first.lent second.lent c₁ c₂ (ap (λ (o : Outcome). o.answer) first') (ap (λ (o : Outcome). o.answer) second'))
 
   -- and so is what `same_shape` answers
-  pub answers : (x : Comparison) → comparison_answer x ≡ compare (lent_by s₁ l₁ c₁) (lent_by s₂ l₂ c₂)
-      → (t₁ : Tree) × (t₂ : Tree) × (es₁ : List Diagnostic) × (es₂ : List Diagnostic) × (reading m₁ s₁ ≡ read t₁ es₁) × (reading m₂ s₂ ≡ read t₂ es₂) × YesOrNo s₁ t₁ s₂ t₂ (comparison_answer x)
+  pub answers : (x : Result Bool Refusal) → answered x ≡ compare (lent_by s₁ l₁ c₁) (lent_by s₂ l₂ c₂)
+      → (t₁ : Tree) × (t₂ : Tree) × (es₁ : List Diagnostic) × (es₂ : List Diagnostic) × (reading m₁ s₁ ≡ read t₁ es₁) × (reading m₂ s₂ ≡ read t₂ es₂) × YesOrNo s₁ t₁ s₂ t₂ (answered x)
   answers x compares = rw compares compared_trees
 
 -- of two strict readings

@@ -1,7 +1,5 @@
--- Steps and places as numbers.
-use Rattle.std.specs.Prelude.{Bool, true, false, List, [], ◌∷◌, ◌++◌, ℕ, leb, length, drop}
-use Rattle.lex.specs.declared.byte_search.Found.{Found}
-use Rattle.lex.specs.declared.byte_search.Found.TheVariants.{At, Nothing}
+-- Steps as numbers.
+use Rattle.std.specs.Prelude.{true, false, List, [], ◌∷◌, ◌++◌, ℕ, leb, length, drop}
 use Rattle.lex.specs.declared.tok.Step.{Step}
 
 -- 0 for a token, 1 for a fault, 2 for the end; its kind or number, start, length and seen byte; the
@@ -14,11 +12,3 @@ cells_of (Step.End at) = 2 ∷ 0 ∷ at ∷ 0 ∷ 0 ∷ at ∷ []
 -- six cells stored at the front, if there is room
 unfoldable pub put_cells : List ℕ → List ℕ → List ℕ
 put_cells cells out = elim (leb 6 (length out)) [ true ↦ cells ++ drop 6 out | false ↦ out ]
-
-abbrev pub is_at : Found → Bool
-is_at (At i) = true
-is_at Nothing = false
-
-abbrev pub place_or : ℕ → Found → ℕ
-place_or other (At i) = i
-place_or other Nothing = other

@@ -1,12 +1,13 @@
 -- Answers as numbers: what is returned, and the cells that are written.
-use Rattle.std.specs.Prelude.{◌≡◌, Bool, true, false, List, [], ◌∷◌, ◌++◌, ℕ, get_or}
+use Rattle.std.specs.Prelude.{◌≡◌, Bool, true, false, List, [], ◌∷◌, ◌++◌, ℕ}
 use Rattle.std.proofs.Math.Option.{Option, none, some}
 use Rattle.ast.specs.Layout.{diagnostic_cells}
 use Rattle.rules.specs.Promise.{Arrays, Outcome, Numbers, numbers_of}
-use Rattle.parser.specs.Steps.{WholeOutcome}
 use Rattle.ast.specs.declared.Counts.{Counts}
-use Rattle.ast.specs.declared.Parsed.{Parsed}
-use Rattle.ast.specs.declared.Parsed.TheVariants as P
+use Rattle.parser.specs.Steps.{WholeOutcome}
+use Rattle.rules.specs.Parsed.{Parsed}
+use Rattle.rules.specs.Parsed as P
+pub use Rattle.ast.specs.Decode.{counts_at}
 use Rattle.lex.specs.Answer.{Answer, refused, answer}
 use Rattle.positions.specs.declared.Span.{Span}
 use Rattle.positions.specs.declared.Place.{Place}
@@ -15,17 +16,6 @@ use Rattle.positions.specs.declared.Place.{Place}
 
 abbrev pub count_cells : Counts → List ℕ
 count_cells c = c.nodes ∷ c.types ∷ c.cells ∷ c.roots ∷ c.values ∷ c.diagnostics ∷ []
-
-abbrev pub counts_at : List ℕ → Counts
-counts_at cs =
-    record {
-      nodes = get_or cs 0 0;
-      types = get_or cs 1 0;
-      cells = get_or cs 2 0;
-      roots = get_or cs 3 0;
-      values = get_or cs 4 0;
-      diagnostics = get_or cs 5 0;
-    }
 
 -- the number, the five numbers of an error, the six counts
 unfoldable pub number_cells : Numbers → List ℕ
@@ -76,12 +66,12 @@ number_of (refused n) = n
 number_of (answer a) = 0
 
 -- the cells of the answer; a refusal changes nothing that is lent
-unfoldable pub answer_cells : {A : Type 0} → (A → List ℕ) → Answer A → List ℕ → List ℕ
+unfoldable pub answer_cells : {A C : Type 0} → (A → List C) → Answer A → List C → List C
 answer_cells cells (refused n) out = out
 answer_cells cells (answer a) out = cells a
 
 -- the number that is returned, and what is lent for the answer before and after
-abbrev pub Answers : {A : Type 0} → (A → List ℕ) → Answer A → ℕ → List ℕ → List ℕ → Type 0
+abbrev pub Answers : {A C : Type 0} → (A → List C) → Answer A → ℕ → List C → List C → Type 0
 Answers cells a r out out' = (r ≡ number_of a) × (out' ≡ answer_cells cells a out)
 
 -- whether there is a start, and the start
@@ -99,3 +89,7 @@ place_cells p = p.line ∷ p.column ∷ []
 unfoldable pub yes_cells : Bool → List ℕ
 yes_cells true = 1 ∷ []
 yes_cells false = 0 ∷ []
+
+-- cells that are themselves the answer
+abbrev pub same_cells : {C : Type 0} → List C → List C
+same_cells cells = cells

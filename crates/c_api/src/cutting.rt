@@ -3,7 +3,8 @@ ghost use Rattle.std.specs.Prelude.{◌≡◌};
 ghost use Rattle.tokens.specs.Tables.{promised, is_cut};
 ghost use Rattle.c_api.specs.Tables.{cut_numbers};
 
-use tokens::{Cutting, cut, is_cut};
+use crate::cells::{put, table_cells};
+use tokens::{cut, is_cut};
 
 // Cuts a script into a table of its tokens and one of its lexer errors, with zeros behind both, and
 // their counts into `counts`.
@@ -23,13 +24,7 @@ pub extern "C" fn purple_garden_cut(
           errors = errors.new;
         } }
 {
-    match cut(script, tokens, errors) {
-        Cutting::Done(made) => {
-            *counts = [made.tokens, made.errors];
-            0
-        }
-        Cutting::Refused(n) => n,
-    }
+    put(counts, cut(script, tokens, errors).map(table_cells))
 }
 
 // Whether both tables are exactly what cutting this script leaves in them.

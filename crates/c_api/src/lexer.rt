@@ -1,11 +1,11 @@
 // The lexer for programs in other languages, on numbers and slices.
-ghost use Rattle.std.specs.Prelude.{◌≡◌, [], ◌∷◌, ◌++◌, ◌≤◌, leb, length, drop};
+ghost use Rattle.std.specs.Prelude.{◌≡◌, leb, length, is_some, unwrap_or};
 ghost use Rattle.lex.specs.Utf8.{utf8};
 ghost use Rattle.lex.specs.Lex.{step_at};
 ghost use Rattle.lex.specs.Spelling.{spelling};
-ghost use Rattle.c_api.specs.LexerCells.{cells_of, put_cells, is_at, place_or};
+ghost use Rattle.c_api.specs.LexerCells.{cells_of, put_cells};
 
-use lex::{Found, Step, Token};
+use lex::{Step, Token};
 
 // Whether the bytes are well-formed UTF-8.
 #[unsafe(no_mangle)]
@@ -15,18 +15,29 @@ pub extern "C" fn lex_is_utf8(bytes: &[u8]) -> bool
     lex::is_utf8(bytes)
 }
 
-// Six cells at the front of `out`.
-fn put(out: &mut [u64], tag: u64, number: u64, start: u64, len: u64, seen: u64, next: u64)
-    requires { 6 ≤ length out.old }
-    ensures { let cells = tag ∷ number ∷ start ∷ len ∷ seen ∷ next ∷ [] in
-        out.new ≡ cells ++ drop 6 out.old }
+// A step as numbers.
+fn cells_of(step: Step) -> [u64; 6]
+    ensures { result ≡ cells_of step }
 {
-    out[0] = tag;
-    out[1] = number;
-    out[2] = start;
-    out[3] = len;
-    out[4] = seen;
-    out[5] = next;
+    match step {
+        Step::Token { token, next } => [
+            0,
+            token.kind as u64,
+            token.start as u64,
+            token.len as u64,
+            0,
+            next as u64,
+        ],
+        Step::Fault { fault, next } => [
+            1,
+            fault.number as u64,
+            fault.start as u64,
+            fault.len as u64,
+            fault.seen as u64,
+            next as u64,
+        ],
+        Step::End { at } => [2, 0, at as u64, 0, 0, at as u64],
+    }
 }
 
 // What stands at a position after blanks and comments, in the first six cells of `out`: 0 and a
@@ -34,6 +45,7 @@ fn put(out: &mut [u64], tag: u64, number: u64, start: u64, len: u64, seen: u64, 
 // next position; or 2 and where the script ends. Answers whether `out` has six cells; a shorter one
 // is left as it is.
 #[unsafe(no_mangle)]
+#[tactic(auto, unfolding(crate::specs::LexerCells::put_cells))]
 pub extern "C" fn lex_step(script: &[u8], pos: usize, out: &mut [u64]) -> bool
     ensures { let cells = cells_of (step_at script.now pos) in
         let before = out.old in
@@ -42,27 +54,7 @@ pub extern "C" fn lex_step(script: &[u8], pos: usize, out: &mut [u64]) -> bool
     if out.len() < 6 {
         return false;
     }
-    match lex::step(script, pos) {
-        Step::Token { token, next } => put(
-            out,
-            0,
-            token.kind as u64,
-            token.start as u64,
-            token.len as u64,
-            0,
-            next as u64,
-        ),
-        Step::Fault { fault, next } => put(
-            out,
-            1,
-            fault.number as u64,
-            fault.start as u64,
-            fault.len as u64,
-            fault.seen as u64,
-            next as u64,
-        ),
-        Step::End { at } => put(out, 2, 0, at as u64, 0, 0, at as u64),
-    }
+    out[..6].copy_from_slice(&cells_of(lex::step(script, pos)));
     true
 }
 
@@ -78,13 +70,13 @@ pub extern "C" fn lex_spelling(
 ) -> bool
     ensures { let bytes = script.now in
         let place = spelling bytes (record { kind = kind; start = start; len = len }) in
-        (result ≡ is_at place) × (out.new ≡ place_or out.old place) }
+        (result ≡ is_some place) × (out.new ≡ unwrap_or place out.old) }
 {
     match lex::spelling(script, Token { kind, start, len }) {
-        Found::At(i) => {
-            *out = i as u64;
+        Some(place) => {
+            *out = place as u64;
             true
         }
-        Found::Nothing => false,
+        None => false,
     }
 }

@@ -2,6 +2,7 @@
 // slices.
 #![tactic(auto)]
 
+mod cells;
 mod cutting;
 mod describe;
 mod lexer;
@@ -12,35 +13,40 @@ mod texts;
 
 ghost use Rattle.std.specs.Prelude.{◌≡◌};
 ghost use Rattle.rules.specs.Rules.{stage_one};
-ghost use Rattle.ast.specs.Layout.{token_cells};
 ghost use Rattle.rules.specs.Parse.{parse, parse_collect};
+ghost use Rattle.rules.specs.Parsed.{parsed_of};
 ghost use Rattle.rules.specs.Promise.{arrays_of, numbers_of};
 ghost use Rattle.parser.specs.Steps.{read_promised, parse_promised};
-ghost use Rattle.ast.specs.Answer.{lent};
-ghost use Rattle.lookups.specs.Lookup.{node_start, type_token, start_answer, type_token_answer};
+ghost use Rattle.ast.specs.Layout.{token_cells};
+ghost use Rattle.ast.specs.Answer.{lent, lent_of};
+ghost use Rattle.lookups.specs.Lookup.{node_start, type_token};
 ghost use Rattle.positions.specs.Span.{token_span};
 ghost use Rattle.positions.specs.Position.{place_at};
-ghost use Rattle.compare.specs.Compare.{compare, comparison_answer};
+ghost use Rattle.compare.specs.Compare.{compare};
 ghost use Rattle.c_api.specs.Numbers.{counts_at, reading_cells, as_numbers, both_numbers};
 ghost use Rattle.c_api.specs.Numbers.{start_cells, span_cells, place_cells, yes_cells, Answers};
 
-use ast::{Counts, NodeId, Parsed, TypeExprId};
-use compare::{Comparison, same_shape};
+use ast::{NodeId, Parsed, ReadError, Tree, TypeExprId};
+use cells::{place_cells, put, span_cells, start_cells, token_cells, yes_cells};
+use compare::same_shape;
 use lex::Token;
-use lookups::{Start, TypeToken, node_start, type_token};
+use lookups::{node_start, type_token};
 use parser::{parse, parse_collect, read, read_collect};
-use positions::{Position, Span, SpanRead, line_column};
+use positions::{Span, line_column};
 
 // ---- readings
+// C calls each by its own name and lends each array by itself: so the four stand side by side, and
+// no struct holds what they are lent.
 
 // The numbers of a reading: its number, the five numbers of an error and the six counts. What is
 // lent for them stays as it is where the call was refused.
+#[tactic(auto, unfolding(crate::specs::Numbers::reading_cells, crate::specs::Numbers::number_cells, rules::specs::Promise::numbers_of, ast::specs::Layout::diagnostic_cells))]
 fn put_numbers(numbers: &mut [u32; 12], answer: Parsed) -> u32
-    ensures { let after = reading_cells answer numbers.old in
-        (result ≡ (numbers_of answer).number) × (numbers.new ≡ after) }
+    ensures { let due = parsed_of answer in
+        (result ≡ (numbers_of due).number) × (numbers.new ≡ reading_cells due numbers.old) }
 {
     match answer {
-        Parsed::Tree(c) => {
+        Ok(c) => {
             *numbers = [
                 0,
                 0,
@@ -57,13 +63,13 @@ fn put_numbers(numbers: &mut [u32; 12], answer: Parsed) -> u32
             ];
             0
         }
-        Parsed::Error(d) => {
+        Err(ReadError::Script(e)) => {
             *numbers = [
-                d.number, d.number, d.start, d.len, d.wanted, d.seen, 0, 0, 0, 0, 0, 0,
+                e.number, e.number, e.start, e.len, e.wanted, e.seen, 0, 0, 0, 0, 0, 0,
             ];
-            d.number
+            e.number
         }
-        Parsed::Refused(n) => n,
+        Err(ReadError::Refused(refusal)) => refusal.into(),
     }
 }
 
@@ -241,34 +247,26 @@ pub extern "C" fn purple_garden_read_collect(
 
 // ---- lookups and comparison
 
-fn counts_of(counts: &[u32; 6]) -> Counts
-    ensures { result ≡ counts_at counts.now }
+// A tree from what is lent.
+fn tree_of<'a>(
+    script: &'a [u8],
+    nodes: &'a [u32],
+    types: &'a [u32],
+    lists: &'a [u32],
+    roots: &'a [u32],
+    counts: &[u32; 6],
+) -> Tree<'a>
+    ensures { let counted = counts_at counts.now in
+        lent_of result
+        ≡ lent script.now nodes.now types.now lists.now roots.now counted }
 {
-    Counts {
-        nodes: counts[0],
-        types: counts[1],
-        cells: counts[2],
-        roots: counts[3],
-        values: counts[4],
-        diagnostics: counts[5],
-    }
-}
-
-// 1 and a start, or 0 and 0.
-fn put_start(start: &mut [u64; 2], answer: Start) -> u32
-    ensures { let due = start_answer answer in
-        Answers start_cells due result start.old start.new }
-{
-    match answer {
-        Start::At(p) => {
-            *start = [1, p as u64];
-            0
-        }
-        Start::Nothing => {
-            *start = [0, 0];
-            0
-        }
-        Start::Refused(n) => n,
+    Tree {
+        script,
+        nodes,
+        types,
+        lists,
+        roots,
+        counts: counts.into(),
     }
 }
 
@@ -290,23 +288,8 @@ pub extern "C" fn purple_garden_node_start(
         in
         Answers start_cells (node_start tree node) result start.old start.new }
 {
-    let counts = counts_of(counts);
-    let answer = node_start(script, nodes, types, lists, roots, counts, NodeId(node));
-    put_start(start, answer)
-}
-
-// A token's kind, start and length.
-fn put_token(token: &mut [u64; 3], answer: TypeToken) -> u32
-    ensures { let due = type_token_answer answer in
-        Answers token_cells due result token.old token.new }
-{
-    match answer {
-        TypeToken::Found(t) => {
-            *token = [t.kind as u64, t.start as u64, t.len as u64];
-            0
-        }
-        TypeToken::Refused(n) => n,
-    }
+    let tree = tree_of(script, nodes, types, lists, roots, counts);
+    put(start, node_start(&tree, NodeId(node)).map(start_cells))
 }
 
 // The token of a type: `token` gets its kind, start and length.
@@ -327,9 +310,8 @@ pub extern "C" fn purple_garden_type_token(
         in
         Answers token_cells (type_token tree ty) result token.old token.new }
 {
-    let counts = counts_of(counts);
-    let answer = type_token(script, nodes, types, lists, roots, counts, TypeExprId(ty));
-    put_token(token, answer)
+    let tree = tree_of(script, nodes, types, lists, roots, counts);
+    put(token, type_token(&tree, TypeExprId(ty)).map(token_cells))
 }
 
 // The span of a token: `span` gets its start and length.
@@ -345,13 +327,8 @@ pub extern "C" fn purple_garden_token_span(
         let due = token_span bytes (record { kind = kind; start = start; len = len }) in
         Answers span_cells due result span.old span.new }
 {
-    match Span::from_token(script, Token { kind, start, len }) {
-        SpanRead::Found(s) => {
-            *span = [s.start as u64, s.len as u64];
-            0
-        }
-        SpanRead::Refused(n) => n,
-    }
+    let answer = Span::from_token(script, Token { kind, start, len });
+    put(span, answer.map(span_cells))
 }
 
 // The line and column of a byte position: `place` gets both.
@@ -360,31 +337,7 @@ pub extern "C" fn purple_garden_line_column(script: &[u8], at: u32, place: &mut 
     ensures { let due = place_at script.now at in
         Answers place_cells due result place.old place.new }
 {
-    match line_column(script, at) {
-        Position::At(p) => {
-            *place = [p.line as u64, p.column as u64];
-            0
-        }
-        Position::Refused(n) => n,
-    }
-}
-
-// 1 for yes, 0 for no.
-fn put_same(same: &mut [u64; 1], answer: Comparison) -> u32
-    ensures { let due = comparison_answer answer in
-        Answers yes_cells due result same.old same.new }
-{
-    match answer {
-        Comparison::Same => {
-            *same = [1];
-            0
-        }
-        Comparison::Different => {
-            *same = [0];
-            0
-        }
-        Comparison::Refused(n) => n,
-    }
+    put(place, line_column(script, at).map(place_cells))
 }
 
 // Two trees have the same shape: `same` gets 1 for yes and 0 for no.
@@ -414,10 +367,7 @@ pub extern "C" fn purple_garden_same_shape(
         in
         Answers yes_cells (compare first second) result same.old same.new }
 {
-    let left = counts_of(counts);
-    let right = counts_of(counts2);
-    let answer = same_shape(
-        script, nodes, types, lists, roots, left, script2, nodes2, types2, lists2, roots2, right,
-    );
-    put_same(same, answer)
+    let left = tree_of(script, nodes, types, lists, roots, counts);
+    let right = tree_of(script2, nodes2, types2, lists2, roots2, counts2);
+    put(same, same_shape(&left, &right).map(yes_cells))
 }

@@ -2,10 +2,11 @@
 ghost use Rattle.std.specs.Prelude.{◌≡◌};
 ghost use Rattle.positions.specs.LineColumns.{line_columns, number_of};
 
-use positions::{Filled, line_columns};
+use positions::line_columns;
 
 // The lines and columns of positions that never fall: two cells of `places` for each.
 #[unsafe(no_mangle)]
+#[tactic(auto, unfolding(positions::specs::LineColumns::number_of))]
 pub extern "C" fn purple_garden_line_columns(
     script: &[u8],
     positions: &[u32],
@@ -16,7 +17,7 @@ pub extern "C" fn purple_garden_line_columns(
         (result ≡ number_of due.answer) × (places.new ≡ due.places) }
 {
     match line_columns(script, positions, places) {
-        Filled::Done => 0,
-        Filled::Refused(n) => n,
+        Ok(()) => 0,
+        Err(refusal) => refusal.into(),
     }
 }

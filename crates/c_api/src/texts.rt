@@ -2,6 +2,7 @@
 ghost use Rattle.text.specs.Answer.{answer_of};
 ghost use Rattle.c_api.specs.Texts.{AnswersLength};
 
+use crate::cells::{length_cells, put};
 use text::Writing;
 
 // The text's length.
@@ -9,11 +10,5 @@ pub(crate) fn put_length(length: &mut [u64; 1], answer: Writing) -> u32
     ensures { let due = answer_of answer in
         AnswersLength due result length.old length.new }
 {
-    match answer {
-        Writing::Written(n) => {
-            *length = [n as u64];
-            0
-        }
-        Writing::Refused(n) => n,
-    }
+    put(length, answer.map(length_cells))
 }

@@ -1,6 +1,6 @@
 -- When what constructors and lists make of two things agrees.
 use mathlib.Core.Path.{◌≡◌, refl, sym, ◌∙◌, ap}
-use mathlib.Core.Bool.{Bool, true, false}
+use mathlib.Core.Bool.{Bool, true, false, false≢true}
 use mathlib.Core.Option.{Option, none, some}
 use mathlib.Core.List.{List, [], ◌∷◌}
 use Prim.Native.Nat.{ℕ, zero, suc, ◌+◌, ◌*◌, ◌<◌, ◌≤◌}
@@ -16,18 +16,15 @@ use Rattle.lex.specs.Bytes.{if}
 use Rattle.ast.specs.Decode.{token_at, run_at}
 use Rattle.compare.specs.Agree.{Agree, Decides}
 
-false≢true : {P : Type 0} → false ≡ true → P
-false≢true e = absurd (let z : ◌≡◌ {A = ℕ} 1 0 = ap (λ b. if b 0 1) e in omega arith)
-
 pub decides_yes : {P : Type 0} → P → Decides true P
 decides_yes p = record { holds = λ e. p; back = λ q. refl }
 
 pub decides_no : {P : Type 0} → (P → ⊥) → Decides false P
-decides_no n = record { holds = λ e. false≢true e; back = λ p. absurd (n p) }
+decides_no n = record { holds = λ e. absurd (false≢true e); back = λ p. absurd (n p) }
 
 -- a test that failed rules its claim out
 pub decides_not : {P : Type 0} (r : Bool) → r ≡ false → Decides r P → P → ⊥
-decides_not r e d p = let z : ◌≡◌ {A = ℕ} 1 0 = ap (λ b. if b 0 1) (sym e ∙ d.back p) in omega arith
+decides_not r e d p = false≢true (sym e ∙ d.back p)
 
 pub decides_by : {r : Bool} {P Q : Type 0} → (P → Q) → (Q → P) → Decides r P → Decides r Q
 decides_by f g d = record { holds = λ e. f (d.holds e); back = λ q. d.back (g q) }

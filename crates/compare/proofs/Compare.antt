@@ -2,13 +2,20 @@
 use mathlib.Core.Path.{◌≡◌, refl, sym, ◌∙◌, ap}
 use mathlib.Core.Bool.{Bool, true, false, decide}
 use mathlib.Core.Option.{Option, none, some}
-use Prim.Native.Nat.{ℕ, zero, suc}
-use lib.Dec.{eqb}
-use borrow.Author.Tests.{eq-eqb, ne_eqb}
+use Prim.Native.Nat.{ℕ, ◌*◌, ◌<◌, ◌≤◌}
+use lib.Dec.{eqb, ltb}
+use borrow.Author.Tests.{ne_eqb, lt-ltb, le-ltb}
 use Rattle.rules.specs.Shape.{Shapes}
 use Rattle.lex.specs.Bytes.{if}
 use Rattle.lex.specs.Answer.{refused, answer}
-use Rattle.ast.specs.Answer.{unless, Lent, refusal}
+use Rattle.ast.specs.Answer.{Lent, refusal}
+use Rattle.ast.proofs.AnswerLaws.{stops, goes_on}
+use Rattle.lex.specs.Refusals.{number}
+use Rattle.lex.specs.declared.diagnostic.Refusal.{Refusal}
+use Rattle.lex.specs.declared.diagnostic.Refusal.TheVariants as R
+use Rattle.lex.specs.Answer.{max_bytes}
+use native.Mathlib.Omega.{arith}
+use lib.ListN.{length}
 use Rattle.compare.specs.Agree.{Agree, Decides}
 use Rattle.compare.specs.Shapes.{shape_in}
 use Rattle.compare.specs.Same.{shapes_same, same_shapes}
@@ -37,36 +44,61 @@ differ σ τ n = go (same_shapes σ τ) (same_decides σ τ)
     go false d = refl
 
 module _ (a b : Lent) where
-  module _ {x y : ℕ} (p : x ≡ refusal a) (q : y ≡ refusal b) where
-    pub refused-left : x ≡ 1 → refusals a b ≡ 1
-    unfolding refusals
-    refused-left e = rw (← p, e)
+  pub too_long : max_bytes < length b.script → 1 ≡ refusals a b
+  unfolding refusals refusal
+  too_long h = rw (lt-ltb _ _ h) (either (eqb (refusal a) 1))
+    where
+      either : (c : Bool) → ◌≡◌ {A = ℕ} 1 (if c 1 1)
+      either true = refl
+      either false = refl
 
-    pub refused-right : y ≡ 1 → refusals a b ≡ 1
-    unfolding refusals
-    refused-right e = rw (← q, ← p, e) (go (eqb x 1))
+  module _ (h : length b.script ≤ max_bytes) where
+    not-too_long : refusal b ≡ 1 → ⊥
+    unfolding refusal
+    not-too_long = rw (le-ltb _ _ h) (let n = length b.script in go (ltb (length b.nodes) (16 * n)) (ltb (length b.types) (8 * n)) (ltb (length b.lists) (8 * n)) (ltb (length b.roots) n))
       where
-        go : (c : Bool) → ◌≡◌ {A = ℕ} (if c 1 1) 1
-        go true = refl
-        go false = refl
+        go : (c d e f : Bool) → ◌≡◌ {A = ℕ} (if c 2 (if d 2 (if e 2 (if f 2 0)))) 1 → ⊥
+        go true d e f q = omega arith
+        go false true e f q = omega arith
+        go false false true f q = omega arith
+        go false false false true q = omega arith
+        go false false false false q = omega arith
 
-    pub short-left : (x ≡ 1 → ⊥) → (y ≡ 1 → ⊥) → (x ≡ 0 → ⊥) → refusals a b ≡ x
+    -- the left tree is refused, or only the right one
+    pub refused-left : (r : Refusal) → number r ≡ refusal a → number r ≡ refusals a b
     unfolding refusals
-    short-left f g h = rw (← p, ← q, ne_eqb x 1 f, ne_eqb y 1 g, ne_eqb x 0 h)
+    refused-left r e = rw (← e, ne_eqb (refusal b) 1 not-too_long) (each r)
+      where
+        each : (r : Refusal) → number r ≡ if (eqb (number r) 1) 1 (if (eqb (number r) 0) (refusal b) (number r))
+        each R.TooLong = refl
+        each R.TooShort = refl
+        each R.Outside = refl
+        each R.Malformed = refl
+        each R.LineTooShort = refl
+        each R.NoWords = refl
+        each R.NotCut = refl
+        each R.SheetTooShort = refl
+        each R.TooManyLines = refl
+        each R.PracticeTooShort = refl
+        each R.PositionsFall = refl
+        each R.PlacesTooShort = refl
 
-    pub short-right : (x ≡ 1 → ⊥) → (y ≡ 1 → ⊥) → x ≡ 0 → refusals a b ≡ y
+    pub refused-right : {x : ℕ} → 0 ≡ refusal a → x ≡ refusal b → x ≡ refusals a b
     unfolding refusals
-    short-right f g h = rw (← p, ← q, ne_eqb x 1 f, ne_eqb y 1 g, eq-eqb x 0 h)
+    refused-right e f = rw (← e, ne_eqb (refusal b) 1 not-too_long) f
 
-  pub refused_with : (x : ℕ) → refusals a b ≡ x → (x ≡ 0 → ⊥) → refused x ≡ compare a b
-  unfolding compare unless
-  refused_with zero e h = absurd (h refl)
-  refused_with (suc n) e h = rw e refl
+  pub none-refused : refusal a ≡ 0 → refusal b ≡ 0 → 0 ≡ refusals a b
+  unfolding refusals
+  none-refused e f = rw (e, f)
 
-  module _ (r : refusals a b ≡ 0) where
+  pub refused_with : (r : Refusal) → number r ≡ refusals a b → refused (number r) ≡ compare a b
+  unfolding compare
+  refused_with r e = stops r (compare_shapes (shape_in a) (shape_in b)) e
+
+  module _ (r : 0 ≡ refusals a b) where
     pub compare_is : {x y : Option Shapes} → shape_in a ≡ x → shape_in b ≡ y → compare_shapes x y ≡ compare a b
-    unfolding compare unless
-    compare_is e f = rw (r, e, f) refl
+    unfolding compare
+    compare_is e f = rw (← e, ← f) (goes_on _ r)
 
     pub left-malformed : Decides false (Agree (shape_in a) (shape_in a)) → refused 4 ≡ compare a b
     unfolding compare_shapes
@@ -87,3 +119,8 @@ module _ (a b : Lent) where
     pub other_shapes : Agree (shape_in a) (shape_in a) → Agree (shape_in b) (shape_in b) → (Agree (shape_in a) (shape_in b) → ⊥) → answer false ≡ compare a b
     unfolding compare_shapes
     other_shapes s t f = ap answer (sym (differ s.it t.it (λ e. f (record { it = s.it; left = s.left; right = t.left ∙ ap some (sym e) })))) ∙ compare_is s.left t.left
+
+    -- the test of the two decides
+    pub shapes_answer : Agree (shape_in a) (shape_in a) → Agree (shape_in b) (shape_in b) → (c : Bool) → Decides c (Agree (shape_in a) (shape_in b)) → answer c ≡ compare a b
+    shapes_answer s t true d = same-shapes (d.holds refl)
+    shapes_answer s t false d = other_shapes s t (λ g. decides_not false refl d g)

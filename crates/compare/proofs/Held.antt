@@ -25,7 +25,7 @@ use Rattle.rules.specs.Shape.{Shapes, shape_of}
 use Rattle.ast.specs.Lists.{and_then}
 use Rattle.ast.specs.Tabulate.{tabulate, lookup, rows, entries_below}
 use Rattle.ast.specs.declared.Counts.{Counts}
-use Rattle.ast.specs.declared.Parsed.TheVariants as P
+use Rattle.rules.specs.Parsed as P
 use Rattle.rules.proofs.Unique.Whole.{shaped}
 use Rattle.rules.proofs.Unique.Collect.{shaped_collect}
 use Rattle.ast.specs.Decode.{fits, node_of, type_of, node_at, type_at}
@@ -33,9 +33,9 @@ use Rattle.ast.specs.Answer.{Lent, lent, refusal, cells_of}
 use Rattle.ast.proofs.LayoutLaws.{node-length, type-length, node_trip, type_trip}
 use Rattle.compare.specs.Agree.{Decides}
 use Rattle.compare.specs.Same.{same_shapes}
-use Rattle.compare.specs.Compare.{refusals, compare_shapes, compare}
+use Rattle.compare.specs.Compare.{compare_shapes, compare}
 use Rattle.compare.proofs.Agree.{decides_not}
-use Rattle.compare.proofs.Compare.{short-right, compare_is, same_decides}
+use Rattle.compare.proofs.Compare.{none-refused, compare_is, same_decides}
 use Rattle.compare.specs.Returned.{Mode, strict, collecting, reading, returned, Returns, YesOrNo, yes, no}
 use Rattle.compare.specs.Shapes.{types_below, nodes_below, view_of, types_in, root_shapes, shape_in}
 
@@ -245,12 +245,9 @@ module _ (m₁ m₂ : Mode) (s₁ s₂ : List ℕ) (l₁ l₂ : Arrays) (c₁ c�
       let r₂ = returned-tree m₂ s₂ l₂ c₂ e₂ in
       (r₁.tree, r₂.tree, r₁.errors, r₂.errors, r₁.accepted, r₂.accepted, go r₁ r₂ (has_shape m₁ s₁ r₁.tree r₁.errors r₁.accepted) (has_shape m₂ s₂ r₂.tree r₂.errors r₂.accepted))
     where
-      open_both : (r₁ : Returned m₁ s₁ l₁ c₁) (r₂ : Returned m₂ s₂ l₂ c₂) → refusals left right ≡ 0
-      open_both r₁ r₂ = short-right left right refl refl (λ a. let q = r₁.lent_enough in let z : ◌≡◌ {A = ℕ} 0 1 = cc in omega arith) (λ a. let q = r₂.lent_enough in let z : ◌≡◌ {A = ℕ} 0 1 = cc in omega arith) r₁.lent_enough ∙ r₂.lent_enough
-
       tell : (t₁ t₂ : Tree) (σ τ : Shapes) → shape_of s₁ t₁ ≡ some σ → shape_of s₂ t₂ ≡ some τ → (b : Bool) → Decides b (σ ≡ τ) → YesOrNo s₁ t₁ s₂ t₂ (answer b)
       tell t₁ t₂ σ τ p q true d = yes (p ∙ ap some (d.holds refl) ∙ sym q)
       tell t₁ t₂ σ τ p q false d = no (λ e. decides_not false refl d (let z : σ ≡ τ = cc in z))
 
       go : (r₁ : Returned m₁ s₁ l₁ c₁) (r₂ : Returned m₂ s₂ l₂ c₂) → (σs : Shapes) × (shape_of s₁ r₁.tree ≡ some σs) → (σs : Shapes) × (shape_of s₂ r₂.tree ≡ some σs) → YesOrNo s₁ r₁.tree s₂ r₂.tree (compare left right)
-      go r₁ r₂ u v = subst (YesOrNo s₁ r₁.tree s₂ r₂.tree) (compare_is left right (open_both r₁ r₂) (r₁.shape ∙ u.1) (r₂.shape ∙ v.1)) (tell r₁.tree r₂.tree u.0 v.0 u.1 v.1 (same_shapes u.0 v.0) (same_decides u.0 v.0))
+      go r₁ r₂ u v = subst (YesOrNo s₁ r₁.tree s₂ r₂.tree) (compare_is left right (none-refused left right r₁.lent_enough r₂.lent_enough) (r₁.shape ∙ u.1) (r₂.shape ∙ v.1)) (tell r₁.tree r₂.tree u.0 v.0 u.1 v.1 (same_shapes u.0 v.0) (same_decides u.0 v.0))

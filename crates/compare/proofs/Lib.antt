@@ -11,3 +11,4 @@ mod Last
 mod Roots
 pub mod Compare
 pub mod Held
+mod Orders

@@ -1,16 +1,22 @@
 -- The lists of runs, of every sort: when two of them agree, and what is known while they are walked.
-use mathlib.Core.Path.{◌≡◌}
+use mathlib.Core.Path.{◌≡◌, refl, sym, ◌∙◌, ap}
 use mathlib.Core.Bool.{Bool, true, false}
 use mathlib.Core.Option.{Option}
 use mathlib.Core.List.{List}
 use Prim.Native.Nat.{ℕ, ◌+◌, ◌*◌, ◌-◌, ◌<◌, ◌≤◌}
 use native.Mathlib.Omega.{arith}
+use native.Mathlib.Nat.{add-mul}
+use lib.Dec.{leb, eqb}
 use lib.ListN.{length}
+use borrow.Author.Tests.{leb-true, leb-false, eqb-true, eqb-false}
+use Rattle.std.specs.Prelude.{Some}
 use Rattle.rules.specs.Shape as S
 use Rattle.rules.specs.Shape.{Word, TypeShape, Params, FnShape, Shape, Shapes, FieldShapes, CaseShapes, Env}
 use Rattle.ast.specs.declared.Run.{Run}
 use Rattle.compare.specs.Agree.{Agree, Decides}
 use Rattle.compare.proofs.Agree.{decides_yes, decides_no, decides_by}
+use Rattle.compare.specs.Pairs.{InStep, ArePairs, GivesPlaces, TakesLast}
+use Rattle.compare.specs.declared.pairs.Pairs.{Pairs}
 use Rattle.compare.proofs.Walk as W
 use Rattle.compare.proofs.Walk.{Sort, IsList, Walk, run_of, as_runs, FnParts}
 
@@ -44,31 +50,127 @@ abbrev pub Walking : {A L : Type 0} → Listing A L → Env → Env → (start s
 Walking k e e' start start' len at at' left = Walk k.sort (k.place e) (k.place e') e.cells e'.cells (Agree (k.list e (run_of start len)) (k.list e' (run_of start' len))) at at' left
 
 module _ {A L : Type 0} (k : Listing A L) {e e' : Env} where
-  pub begin : {start start' len : ℕ} → start + len * k.sort.size ≤ length e.cells → start' + len * k.sort.size ≤ length e'.cells
+  begin : {start start' len : ℕ} → start + len * k.sort.size ≤ length e.cells → start' + len * k.sort.size ≤ length e'.cells
       → start + len * k.sort.size < 18446744073709551616 → start' + len * k.sort.size < 18446744073709551616 → Walking k e e' start start' len start start' len
   begin {start} {start'} {len} h h' b b' = W.begin k.sort _ _ _ _ (k.are e (run_of start len)) (k.are e' (run_of start' len)) h h' b b'
 
   module _ {r r' : Run} where
-    pub other_length : (r.len ≡ r'.len → ⊥) → Decides false (Agree (k.list e r) (k.list e' r'))
-    other_length h = decides_no (W.other_length k.sort (k.place e) (k.place e') e.cells e'.cells r r' (k.are e r) (k.are e' r') h)
+    -- lists that agree are in step
+    steps : Agree (k.list e r) (k.list e' r') → InStep k.sort.size e.cells r e'.cells r'
+    steps b = (same (eqb r.len r'.len) refl, inside (leb (r.start + r.len * k.sort.size) (length e.cells)) refl, inside' (leb (r'.start + r'.len * k.sort.size) (length e'.cells)) refl)
+      where
+        same : (c : Bool) → eqb r.len r'.len ≡ c → r.len ≡ r'.len
+        same true q = eqb-true _ _ q
+        same false q = absurd (W.other_length k.sort (k.place e) (k.place e') e.cells e'.cells r r' (k.are e r) (k.are e' r') (eqb-false _ _ q) b)
 
-    pub outside_left : length e.cells < r.start + r.len * k.sort.size → Decides false (Agree (k.list e r) (k.list e' r'))
-    outside_left h = decides_no (W.outside_left k.sort (k.place e) (k.place e') e.cells e'.cells r r' (k.are e r) (k.are e' r') h)
+        inside : (c : Bool) → leb (r.start + r.len * k.sort.size) (length e.cells) ≡ c → r.start + r.len * k.sort.size ≤ length e.cells
+        inside true q = leb-true _ _ q
+        inside false q = absurd (W.outside_left k.sort (k.place e) (k.place e') e.cells e'.cells r r' (k.are e r) (k.are e' r') (leb-false _ _ q) b)
 
-    module _ (m : r.len ≡ r'.len) where
-      pub outside_right : length e'.cells < r'.start + r.len * k.sort.size → Decides false (Agree (k.list e r) (k.list e' r'))
-      outside_right h = decides_no (W.outside_right k.sort (k.place e) (k.place e') e.cells e'.cells r r' (k.are e r) (k.are e' r') m h)
+        inside' : (c : Bool) → leb (r'.start + r'.len * k.sort.size) (length e'.cells) ≡ c → r'.start + r'.len * k.sort.size ≤ length e'.cells
+        inside' true q = leb-true _ _ q
+        inside' false q = absurd (W.outside_right k.sort (k.place e) (k.place e') e.cells e'.cells r r' (k.are e r) (k.are e' r') (leb-false _ _ q) b)
 
-      module _ {at at' left : ℕ} (w : Walking k e e' r.start r'.start r.len at at' left) where
-        pub step : 0 < left → Agree (k.place e at) (k.place e' at') → Walking k e e' r.start r'.start r.len (at + k.sort.size) (at' + k.sort.size) (left - 1)
-        step h b = W.step k.sort _ _ _ _ w h b
+    pub not-in_step : {width : ℕ} → width ≡ k.sort.size → (InStep width e.cells r e'.cells r' → ⊥) → Decides false (Agree (k.list e r) (k.list e' r'))
+    not-in_step z f = decides_no (λ b. f (rw z (steps b)))
 
-        pub stop : 0 < left → (Agree (k.place e at) (k.place e' at') → ⊥) → Decides false (Agree (k.list e r) (k.list e' r'))
-        stop h f = as_runs (k.list e) (k.list e') r r' m (decides_no (W.stop k.sort _ _ _ _ w h f))
+    module _ (m : r.len ≡ r'.len) {at at' left : ℕ} (w : Walking k e e' r.start r'.start r.len at at' left) where
+      step : 0 < left → Agree (k.place e at) (k.place e' at') → Walking k e e' r.start r'.start r.len (at + k.sort.size) (at' + k.sort.size) (left - 1)
+      step h b = W.step k.sort _ _ _ _ w h b
 
-        pub done : left ≡ 0 → Decides true (Agree (k.list e r) (k.list e' r'))
-        done z = as_runs (k.list e) (k.list e') r r' m (decides_yes (W.done k.sort _ _ _ _ w z))
+      stop : 0 < left → (Agree (k.place e at) (k.place e' at') → ⊥) → Decides false (Agree (k.list e r) (k.list e' r'))
+      stop h f = as_runs (k.list e) (k.list e') r r' m (decides_no (W.stop k.sort _ _ _ _ w h f))
 
-        -- the last member decides
-        pub last : {b : Bool} → left ≡ 1 → Decides b (Agree (k.place e at) (k.place e' at')) → Decides b (Agree (k.list e r) (k.list e' r'))
-        last z d = as_runs (k.list e) (k.list e') r r' m (decides_by (λ a. W.done k.sort _ _ _ _ (W.step k.sort _ _ _ _ w (omega arith) a) (omega arith)) (W.first k.sort _ _ _ _ w (omega arith)) d)
+      done : left ≡ 0 → Decides true (Agree (k.list e r) (k.list e' r'))
+      done z = as_runs (k.list e) (k.list e') r r' m (decides_yes (W.done k.sort _ _ _ _ w z))
+
+      -- the last member decides
+      last : {b : Bool} → left ≡ 1 → Decides b (Agree (k.place e at) (k.place e' at')) → Decides b (Agree (k.list e r) (k.list e' r'))
+      last z d = as_runs (k.list e) (k.list e') r r' m (decides_by (λ a. W.done k.sort _ _ _ _ (W.step k.sort _ _ _ _ w (omega arith) a) (omega arith)) (W.first k.sort _ _ _ _ w (omega arith)) d)
+
+-- ---- the walk over pairs of places
+
+-- the places `p` of two lists are left to walk
+pub record Paired {A L : Type 0} (k : Listing A L) (e e' : Env) (r r' : Run) (p : Pairs) : Type 0 where
+  pub lengths : r.len ≡ r'.len
+  pub width : p.width ≡ k.sort.size
+  pub walk : Walking k e e' r.start r'.start r.len p.at p.at2 p.left
+
+-- and the last pair, which was taken off
+pub record Before {A L : Type 0} (k : Listing A L) (e e' : Env) (r r' : Run) (at at' : ℕ) (p : Pairs) : Type 0 where
+  pub lengths : r.len ≡ r'.len
+  pub width : p.width ≡ k.sort.size
+  pub walk : Walking k e e' r.start r'.start r.len p.at p.at2 (p.left + 1)
+  pub there : at ≡ p.at + p.left * k.sort.size
+  pub there' : at' ≡ p.at2 + p.left * k.sort.size
+
+module _ {p : Pairs} {at at' : ℕ} (q : Pairs) (g : GivesPlaces p (Some (at, at')) q) where
+  here : at ≡ p.at
+  here = ap (λ (x : ℕ × ℕ). x.0) g.1
+
+  here' : at' ≡ p.at2
+  here' = ap (λ (x : ℕ × ℕ). x.1) g.1
+
+module _ {A L : Type 0} (k : Listing A L) {e e' : Env} {r r' : Run} where
+  pub paired : {width : ℕ} {p q : Pairs} → width ≡ k.sort.size → ArePairs width e.cells r e'.cells r' p → q ≡ p → Paired k e e' r r' q
+  paired {width} {p} {q} z a i = rw i made
+    where
+      made : Paired k e e' r r' p
+      made = record {
+        lengths = a.0.0;
+        width = a.5 ∙ z;
+        walk = rw (a.2, a.3, a.4) (begin k (rw z at a.0.1) (rw (z, ← a.0.0) at a.0.2) (rw (a.2, a.4, a.5, z) at a.1.0) (rw (a.3, a.4, a.5, z) at a.1.1));
+      }
+
+  module _ {p : Pairs} (at at' : ℕ) (q : Pairs) (g : GivesPlaces p (Some (at, at')) q) where
+    -- a pair more agrees
+    pub next : Paired k e e' r r' p → Agree (k.place e at) (k.place e' at') → Paired k e e' r r' q
+    next w b =
+        let z : q.left ≡ p.left - 1 = omega arith in
+        record {
+          lengths = w.lengths;
+          width = g.5 ∙ w.width;
+          walk = rw (g.2, g.3, w.width, z) (step k w.lengths w.walk g.0 (rw (here q g, here' q g) at b));
+        }
+
+    -- a pair more does not
+    pub differs : Paired k e e' r r' p → (Agree (k.place e at) (k.place e' at') → ⊥) → Decides false (Agree (k.list e r) (k.list e' r'))
+    differs w f = stop k w.lengths w.walk g.0 (rw (here q g, here' q g) at f)
+
+    module _ {last last' : ℕ} (w : Before k e e' r r' last last' p) where
+      pub next-before : Agree (k.place e at) (k.place e' at') → Before k e e' r r' last last' q
+      next-before b =
+          let z : q.left + 1 ≡ p.left + 1 - 1 = omega arith in
+          let m : p.left * k.sort.size ≡ k.sort.size + q.left * k.sort.size = ap (λ (n : ℕ). n * k.sort.size) (sym g.4) ∙ add-mul q.left 1 k.sort.size ∙ omega arith in
+          record {
+            lengths = w.lengths;
+            width = g.5 ∙ w.width;
+            walk = rw (g.2, g.3, w.width, z) (step k w.lengths w.walk (omega arith) (rw (here q g, here' q g) at b));
+            there = w.there ∙ rw (g.2, w.width, m) (omega arith);
+            there' = w.there' ∙ rw (g.3, w.width, m) (omega arith);
+          }
+
+      pub differs-before : (Agree (k.place e at) (k.place e' at') → ⊥) → Decides false (Agree (k.list e r) (k.list e' r'))
+      differs-before f = stop k w.lengths w.walk (omega arith) (rw (here q g, here' q g) at f)
+
+  -- none is left
+  pub over : {p : Pairs} → Paired k e e' r r' p → p.left ≡ 0 → Decides true (Agree (k.list e r) (k.list e' r'))
+  over w z = done k w.lengths w.walk z
+
+  -- the last pair is taken off
+  pub taken : {p : Pairs} (at at' : ℕ) (q : Pairs) → Paired k e e' r r' p → TakesLast p (Some (at, at')) q → Before k e e' r r' at at' q
+  taken {p} at at' q w t = record {
+    lengths = w.lengths;
+    width = t.4 ∙ w.width;
+    walk = rw (t.2, t.3, ← t.0) w.walk;
+    there = ap (λ (x : ℕ × ℕ). x.0) t.1 ∙ rw (t.2, w.width);
+    there' = ap (λ (x : ℕ × ℕ). x.1) t.1 ∙ rw (t.3, w.width);
+  }
+
+  module _ {at at' : ℕ} {p : Pairs} (w : Before k e e' r r' at at' p) where
+    -- the last pair decides
+    pub last-pair : {b : Bool} → p.left ≡ 0 → Decides b (Agree (k.place e at) (k.place e' at')) → Decides b (Agree (k.list e r) (k.list e' r'))
+    last-pair z d =
+        let h : at ≡ p.at = w.there ∙ rw z (omega arith) in
+        let h' : at' ≡ p.at2 = w.there' ∙ rw z (omega arith) in
+        last k w.lengths w.walk (omega arith) (rw (h, h') at d)

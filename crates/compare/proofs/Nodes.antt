@@ -3,14 +3,12 @@ use mathlib.Core.Path.{◌≡◌, refl, sym, ◌∙◌, ap, ap₂, subst}
 use mathlib.Core.Bool.{Bool, true, false}
 use mathlib.Core.Option.{Option, none, some}
 use mathlib.Core.List.{List, [], ◌∷◌}
-use Prim.Native.Nat.{ℕ, zero, suc, ◌+◌, ◌*◌, ◌/◌, ◌%◌, ◌<◌, ◌≤◌}
+use Prim.Native.Nat.{ℕ, zero, suc, ◌+◌, ◌*◌, ◌<◌, ◌≤◌}
 use native.Mathlib.Omega.{arith}
-use mathlib.Core.Logic.{⊎_elim}
-use native.Mathlib.Numerals.{add-one}
-use native.Mathlib.Nat.{add-zero, zero-add, eq-or-lt_of_le}
-use lib.Dec.{ltb, leb, eqb}
+use native.Mathlib.Nat.{add-zero, zero-add}
+use lib.Dec.{ltb, leb}
 use lib.ListN.{length, get_or, get_or-eq_default}
-use borrow.Author.Tests.{leb-true, leb-false, ltb-true, ltb-false, lt-ltb, eqb-false, ne_eqb}
+use borrow.Author.Tests.{leb-true, leb-false, ltb-true, ltb-false}
 use Rattle.lex.proofs.Laws.{agree}
 use Rattle.ast.specs.Layout.{node_width}
 use Rattle.ast.specs.Schema.{node_schema}
@@ -25,7 +23,7 @@ use Rattle.ast.proofs.Tabulate.{entries_below_lem, entries_past}
 use Rattle.ast.proofs.LayoutLaws.{node-inside, node_outside, node_unknown}
 use Rattle.compare.specs.Agree.{Agree, Decides}
 use Rattle.compare.specs.Shapes.{node_row, View, types_in, nodes_below, env_below, kind_at, node_kind}
-use Rattle.compare.specs.Parts.{Part, nothing, a_word, some_words, some_params, a_type, some_fns, some_nodes, some_fields, some_cases, a_node, read, PartAgrees, part_of, parts, Ordered, own, right_last, arguments_last, sort_at, cell_at, rest_of, PartsAgree}
+use Rattle.compare.specs.Parts.{Part, nothing, a_word, some_words, some_params, a_type, some_fns, some_nodes, some_fields, some_cases, a_node, read, PartAgrees, part_of, parts, Ordered, own, right_last, arguments_last, sort_at, cell_at, PartsAgree}
 use Rattle.compare.proofs.Agree.{agree₁, part₁, agree₂, parts₂, decides_yes, decides_no, decides_by}
 use Rattle.compare.proofs.RecordCells.{record_cells, number_in, run_in, token_in}
 use Rattle.compare.proofs.Types.{made₁, made₂, kind_bound}
@@ -149,13 +147,6 @@ up_to14 P p₀ p₁ p₂ p₃ p₄ p₅ p₆ p₇ p₈ p₉ p₁₀ p₁₁ p₁
 up_to14 P p₀ p₁ p₂ p₃ p₄ p₅ p₆ p₇ p₈ p₉ p₁₀ p₁₁ p₁₂ p₁₃ p₁₄ (suc (suc (suc (suc (suc (suc (suc (suc (suc (suc (suc (suc (suc (suc zero)))))))))))))) l = p₁₄
 up_to14 P p₀ p₁ p₂ p₃ p₄ p₅ p₆ p₇ p₈ p₉ p₁₀ p₁₁ p₁₂ p₁₃ p₁₄ (suc (suc (suc (suc (suc (suc (suc (suc (suc (suc (suc (suc (suc (suc (suc g))))))))))))))) l = absurd (omega arith)
 
--- and of every order
-up_to16 : (P : ℕ → Type 0) → P 0 → P 1 → P 2 → P 3 → P 4 → P 5 → P 6 → P 7 → P 8 → P 9 → P 10 → P 11 → P 12 → P 13 → P 14 → P 15 → P 16 → (g : ℕ) → g < 17 → P g
-up_to16 P p₀ p₁ p₂ p₃ p₄ p₅ p₆ p₇ p₈ p₉ p₁₀ p₁₁ p₁₂ p₁₃ p₁₄ p₁₅ p₁₆ g l =
-    ⊎_elim (λ (e : g ≡ 16). subst P (sym e) p₁₆) (λ (h : g < 16).
-    ⊎_elim (λ (e : g ≡ 15). subst P (sym e) p₁₅) (λ (h : g < 15). up_to14 P p₀ p₁ p₂ p₃ p₄ p₅ p₆ p₇ p₈ p₉ p₁₀ p₁₁ p₁₂ p₁₃ p₁₄ g (omega arith))
-    (eq-or-lt_of_le (let z : g ≤ 15 = omega arith in z))) (eq-or-lt_of_le (let z : g ≤ 16 = omega arith in z))
-
 by_kind_lem : (e : Env) (cs : List ℕ) (g : ℕ) → get_or cs 0 0 ≡ g → g ≤ 14 → and_then (node_of cs) (node_shape e) ≡ node_by_parts e cs g
 unfolding node_of nodes_by_kind node_by_parts nodes_by_parts node_shape and_then
 by_kind_lem e cs g h l = rw h (up_to14 (λ (n : ℕ). and_then (get_or (none ∷ nodes_by_kind cs) n none) (node_shape e) ≡ get_or (nodes_by_parts e cs) n none) refl refl refl refl refl refl refl refl refl refl refl refl refl refl refl g l)
@@ -260,11 +251,6 @@ module _ (e e' : Env) (cs cs' : List ℕ) where
   parts_in right_last l z = record { split = λ b. let p = parts₃ S.bin (λ x y u v o q w. ((cc, cc), cc)) _ _ _ _ _ _ b in six (Each 15) p.0.0 p.0.1 ok ok ok p.1; join = λ a b c d f h. agree₃ S.bin (λ x y u v o q w. ((cc, cc), cc)) a b h }
   parts_in arguments_last l z = record { split = λ b. let p = parts₂ S.call (λ x y u v q. (cc, cc)) _ _ _ _ b in six (Each 16) p.0 ok ok ok ok p.1; join = λ a b c d f h. agree₂ S.call (λ x y u v q. (cc, cc)) a h }
 
-pub order_bound : {g order : ℕ} → Ordered g order → g < 15 → order < 17
-order_bound own h = omega arith
-order_bound right_last h = omega arith
-order_bound arguments_last h = omega arith
-
 -- ---- the parts of a record lie in its array
 
 pub cell_small : (k : ℕ) → cell_at k ≤ 10
@@ -299,12 +285,6 @@ module _ (e e' : Env) (xs xs' : List ℕ) (p p' g x : ℕ) where
   unfolding Each PartsAgree PartAgrees
   outof b = let o = cell_at (6 * g + x) in let κ = part_of (sort_at (6 * g + x)) in move (sym (read_in e κ xs p o (cell_small (6 * g + x)))) (sym (read_in e' κ xs' p' o (cell_small (6 * g + x)))) b
 
--- the last part is a node, or a list of fields or of nodes, where there is one
-pub last_six : (g : ℕ) → g < 17 → (sort_at (6 * g + 5) ≡ 0 → ⊥) → (sort_at (6 * g + 5) ≡ 9 → ⊥) → (sort_at (6 * g + 5) ≡ 7 → ⊥) → sort_at (6 * g + 5) ≡ 6
-unfolding sort_at parts node_schema
-last_six g l = up_to16 (λ (n : ℕ). (sort_at (6 * n + 5) ≡ 0 → ⊥) → (sort_at (6 * n + 5) ≡ 9 → ⊥) → (sort_at (6 * n + 5) ≡ 7 → ⊥) → sort_at (6 * n + 5) ≡ 6)
-    (λ z y x. absurd (z refl)) (λ z y x. absurd (z refl)) (λ z y x. absurd (z refl)) (λ z y x. absurd (y refl)) (λ z y x. absurd (y refl)) (λ z y x. absurd (y refl)) (λ z y x. refl) (λ z y x. refl) (λ z y x. absurd (y refl)) (λ z y x. absurd (y refl)) (λ z y x. absurd (y refl)) (λ z y x. absurd (z refl)) (λ z y x. absurd (z refl)) (λ z y x. absurd (x refl)) (λ z y x. refl) (λ z y x. absurd (y refl)) (λ z y x. refl) g l
-
 -- what decides the last part, by its sort
 module _ (e e' : Env) (xs xs' : List ℕ) (p p' g : ℕ) where
   by_sort : {r : Bool} (κ : Part) → part_of (sort_at (6 * g + 5)) ≡ κ → Decides r (PartAgrees e e' κ xs (p + cell_at (6 * g + 5)) xs' (p' + cell_at (6 * g + 5))) → Decides r (PartsAgree e e' g xs p xs' p' 5)
@@ -319,10 +299,10 @@ module _ (e e' : Env) (xs xs' : List ℕ) (p p' g : ℕ) where
   unfolding part_of PartAgrees
   last-node z d = by_sort a_node (ap part_of z) d
 
-  pub last-nodes : {b : Bool} {r r' : Run} → g < 17 → (sort_at (6 * g + 5) ≡ 0 → ⊥) → (sort_at (6 * g + 5) ≡ 9 → ⊥) → (sort_at (6 * g + 5) ≡ 7 → ⊥) → r ≡ run_at xs (p + cell_at (6 * g + 5)) → r' ≡ run_at xs' (p' + cell_at (6 * g + 5))
+  pub last-nodes : {b : Bool} {r r' : Run} → sort_at (6 * g + 5) ≡ 6 → r ≡ run_at xs (p + cell_at (6 * g + 5)) → r' ≡ run_at xs' (p' + cell_at (6 * g + 5))
       → Decides b (Agree (S.shapes e r) (S.shapes e' r')) → Decides b (PartsAgree e e' g xs p xs' p' 5)
   unfolding part_of PartAgrees
-  last-nodes l y z x q q' d = by_sort some_nodes (ap part_of (last_six g l y z x)) (rw (q, q') at d)
+  last-nodes z q q' d = by_sort some_nodes (ap part_of z) (rw (q, q') at d)
 
   pub last-fields : {b : Bool} {r r' : Run} → sort_at (6 * g + 5) ≡ 7 → r ≡ run_at xs (p + cell_at (6 * g + 5)) → r' ≡ run_at xs' (p' + cell_at (6 * g + 5))
       → Decides b (Agree (S.fields e r) (S.fields e' r')) → Decides b (PartsAgree e e' g xs p xs' p' 5)
@@ -367,9 +347,13 @@ module _ (v v' : View) (n i m j : ℕ) where
   pub node_past_right : m ≤ j → Decides false (Agree (nodes_below v n i) (nodes_below v' m j))
   node_past_right h = decides_no (λ b. let x = node_past v' m j h in let l = b.right in let z : ◌≡◌ {A = ℕ} 0 1 = cc in omega arith)
 
-  pub node-zero : i < n → {g : ℕ} → g ≡ node_kind v.nodes i → g ≡ 0 → Decides false (Agree (nodes_below v n i) (nodes_below v' m j))
+  pub node-zero_left : i < n → node_kind v.nodes i ≡ 0 → Decides false (Agree (nodes_below v n i) (nodes_below v' m j))
   unfolding node_by_parts nodes_by_parts
-  node-zero h k q = decides_no (λ b. let x : nodes_below v n i ≡ none = node_is v n i h ∙ ap (node_by_parts (env_below v i) (record_cells node_width v.nodes (node_width * i))) (sym k ∙ q) in let l = b.left in let z : ◌≡◌ {A = ℕ} 0 1 = cc in omega arith)
+  node-zero_left h q = decides_no (λ b. let x : nodes_below v n i ≡ none = node_is v n i h ∙ ap (node_by_parts (env_below v i) (record_cells node_width v.nodes (node_width * i))) q in let l = b.left in let z : ◌≡◌ {A = ℕ} 0 1 = cc in omega arith)
+
+  pub node-zero_right : j < m → node_kind v'.nodes j ≡ 0 → Decides false (Agree (nodes_below v n i) (nodes_below v' m j))
+  unfolding node_by_parts nodes_by_parts
+  node-zero_right h q = decides_no (λ b. let x : nodes_below v' m j ≡ none = node_is v' m j h ∙ ap (node_by_parts (env_below v' j) (record_cells node_width v'.nodes (node_width * j))) q in let l = b.right in let z : ◌≡◌ {A = ℕ} 0 1 = cc in omega arith)
 
   module _ (h : i < n) (h' : j < m) {g g' : ℕ} (k : g ≡ node_kind v.nodes i) (k' : g' ≡ node_kind v'.nodes j) where
     left_is : nodes_below v n i ≡ node_by_parts (env_below v i) (record_cells node_width v.nodes (node_width * i)) g
@@ -412,67 +396,7 @@ module _ (v v' : View) (n i m j : ℕ) where
 pub node-kind_bound : (xs : List ℕ) (i : ℕ) {g : ℕ} → g ≡ node_kind xs i → g < 15
 node-kind_bound xs i e = rw e (let h = kind_bound 14 xs node_width i in omega arith)
 
--- one more part
-pub more_parts : (P : ℕ → Type 0) (x : ℕ) → ((y : ℕ) → y < x → P y) → P x → (y : ℕ) → y < x + 1 → P y
-more_parts P x f p y l = ⊎_elim (λ (e : y ≡ x). subst P (sym e) p) (λ (h : y < x). f y h) (eq-or-lt_of_le (let h : y ≤ x = omega arith in h))
-
--- ---- the sort of a part by its number
-
-pub part_as : {r : Bool} (e e' : Env) {κ : Part} (k : ℕ) (xs : List ℕ) (o : ℕ) (xs' : List ℕ) (o' : ℕ) → part_of k ≡ κ → Decides r (PartAgrees e e' κ xs o xs' o') → Decides r (PartAgrees e e' (part_of k) xs o xs' o')
-part_as {r} e e' k xs o xs' o' q d = subst (λ (κ : Part). Decides r (PartAgrees e e' κ xs o xs' o')) (sym q) d
-
-pub part_nothing : (k : ℕ) → (k ≡ 1 → ⊥) → (k ≡ 2 → ⊥) → (k ≡ 3 → ⊥) → (k ≡ 4 → ⊥) → (k ≡ 5 → ⊥) → (k ≡ 6 → ⊥) → (k ≡ 7 → ⊥) → (k ≡ 8 → ⊥) → (k ≡ 9 → ⊥) → part_of k ≡ nothing
-unfolding part_of
-part_nothing k a b c d e f g h i = rw (ne_eqb k 1 a, ne_eqb k 2 b, ne_eqb k 3 c, ne_eqb k 4 d, ne_eqb k 5 e, ne_eqb k 6 f, ne_eqb k 7 g, ne_eqb k 8 h, ne_eqb k 9 i)
-
+-- where nothing stands, nothing differs
 pub nothing_agrees : (e e' : Env) (xs : List ℕ) (o : ℕ) (xs' : List ℕ) (o' : ℕ) → PartAgrees e e' nothing xs o xs' o'
 unfolding PartAgrees
 nothing_agrees e e' xs o xs' o' = ok
-
--- ---- the parts of a kind in one number
-
-part_in : (k : ℕ) → k < 102 → rest_of (k / 6) (k % 6) % 256 ≡ get_or parts k 0
-unfolding rest_of parts node_schema
-part_in k h = agree (λ (n : ℕ). rest_of (n / 6) (n % 6) % 256) (λ (n : ℕ). get_or parts n 0) 0 102 k refl h
-
--- the part at a place is the lowest of those from there on
-pub part_is : (g x : ℕ) → g < 17 → x < 6 → rest_of g x % 256 ≡ get_or parts (6 * g + x) 0
-part_is g x h l =
-    let q : (6 * g + x) / 6 ≡ g = omega arith in
-    let r : (6 * g + x) % 6 ≡ x = omega arith in
-    rw (q, r) at (part_in (6 * g + x) (omega arith))
-
-no-field_in : (k : ℕ) → k < 102 → if (ltb (k % 6) 5) (eqb (get_or parts k 0 / 16) 7) false ≡ false
-unfolding parts node_schema
-no-field_in k h = agree (λ (n : ℕ). if (ltb (n % 6) 5) (eqb (get_or parts n 0 / 16) 7) false) (λ (n : ℕ). false) false 102 k refl h
-
--- a list of fields stands nowhere but last
-pub no_fields : (g x : ℕ) {r : ℕ} → r ≡ rest_of g x → g < 17 → x < 5 → r % 256 / 16 ≡ 7 → ⊥
-no_fields g x {r} e h l s =
-    let p : r % 256 ≡ get_or parts (6 * g + x) 0 = ap (λ (n : ℕ). n % 256) e ∙ part_is g x h (omega arith) in
-    let m : (6 * g + x) % 6 ≡ x = omega arith in
-    let q = rw (m, lt-ltb x 5 l) at (no-field_in (6 * g + x) (omega arith)) in
-    eqb-false _ _ q (ap (λ (n : ℕ). n / 16) (sym p) ∙ s)
-
--- the last stands alone
-pub last_alone : (g : ℕ) → g < 17 → rest_of g 0 / 1099511627776 ≡ get_or parts (6 * g + 5) 0
-unfolding rest_of parts node_schema
-last_alone g h = up_to16 (λ (n : ℕ). rest_of n 0 / 1099511627776 ≡ get_or parts (6 * n + 5) 0) refl refl refl refl refl refl refl refl refl refl refl refl refl refl refl refl refl g h
-
-pub no-parts : (g : ℕ) → g < 17 → (g ≡ 1 → ⊥) → (g ≡ 2 → ⊥) → (g ≡ 3 → ⊥) → (g ≡ 4 → ⊥) → (g ≡ 5 → ⊥) → (g ≡ 6 → ⊥) → (g ≡ 7 → ⊥) → (g ≡ 8 → ⊥) → (g ≡ 9 → ⊥) → (g ≡ 10 → ⊥) → (g ≡ 11 → ⊥) → (g ≡ 12 → ⊥) → (g ≡ 13 → ⊥) → (g ≡ 14 → ⊥) → (g ≡ 15 → ⊥) → (g ≡ 16 → ⊥) → 0 ≡ rest_of g 0
-unfolding rest_of parts node_schema
-no-parts g h a b c d e f i j k l m n o p r s = up_to16 (λ (x : ℕ). g ≡ x → 0 ≡ rest_of x 0) (λ q. refl) (λ q. absurd (a q)) (λ q. absurd (b q)) (λ q. absurd (c q)) (λ q. absurd (d q)) (λ q. absurd (e q)) (λ q. absurd (f q)) (λ q. absurd (i q)) (λ q. absurd (j q)) (λ q. absurd (k q)) (λ q. absurd (l q)) (λ q. absurd (m q)) (λ q. absurd (n q)) (λ q. absurd (o q)) (λ q. absurd (p q)) (λ q. absurd (r q)) (λ q. absurd (s q)) g h refl
-
-pub rest-next : (g x : ℕ) {r : ℕ} → r ≡ rest_of g x → r / 256 ≡ rest_of g (x + 1)
-unfolding rest_of
-rest-next g x e = rw add-one (ap (λ (n : ℕ). n / 256) e)
-
--- the last part of what `parts_of` answers
-module _ (g : ℕ) (h : g < 17) {n : ℕ} (e : n ≡ rest_of g 0) where
-  pub last_sort : n / 1099511627776 / 16 ≡ sort_at (6 * g + 5)
-  unfolding sort_at
-  last_sort = ap (λ (k : ℕ). k / 1099511627776 / 16) e ∙ ap (λ (k : ℕ). k / 16) (last_alone g h)
-
-  pub last_cell : n / 1099511627776 % 16 ≡ cell_at (6 * g + 5)
-  unfolding cell_at
-  last_cell = ap (λ (k : ℕ). k / 1099511627776 % 16) e ∙ ap (λ (k : ℕ). k % 16) (last_alone g h)

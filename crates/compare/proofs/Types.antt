@@ -161,9 +161,13 @@ module _ (s c t s' c' t' : List ℕ) (n i m j : ℕ) where
   pub type_past_right : m ≤ j → Decides false (Agree (types_below s c t n i) (types_below s' c' t' m j))
   type_past_right h = decides_no (λ b. let x = type_past s' c' t' m j h in let l = b.right in let z : ◌≡◌ {A = ℕ} 0 1 = cc in omega arith)
 
-  pub type-zero : i < n → {g : ℕ} → g ≡ type_kind t i → g ≡ 0 → Decides false (Agree (types_below s c t n i) (types_below s' c' t' m j))
+  pub type-zero_left : i < n → type_kind t i ≡ 0 → Decides false (Agree (types_below s c t n i) (types_below s' c' t' m j))
   unfolding type_by_parts
-  type-zero h k q = decides_no (λ b. let x : types_below s c t n i ≡ none = type_is s c t n i h ∙ ap (type_by_parts (type_env s c t i) t (type_width * i)) (sym k ∙ q) in let l = b.left in let z : ◌≡◌ {A = ℕ} 0 1 = cc in omega arith)
+  type-zero_left h q = decides_no (λ b. let x : types_below s c t n i ≡ none = type_is s c t n i h ∙ ap (type_by_parts (type_env s c t i) t (type_width * i)) q in let l = b.left in let z : ◌≡◌ {A = ℕ} 0 1 = cc in omega arith)
+
+  pub type-zero_right : j < m → type_kind t' j ≡ 0 → Decides false (Agree (types_below s c t n i) (types_below s' c' t' m j))
+  unfolding type_by_parts
+  type-zero_right h q = decides_no (λ b. let x : types_below s' c' t' m j ≡ none = type_is s' c' t' m j h ∙ ap (type_by_parts (type_env s' c' t' j) t' (type_width * j)) q in let l = b.right in let z : ◌≡◌ {A = ℕ} 0 1 = cc in omega arith)
 
   module _ (h : i < n) (h' : j < m) {g g' : ℕ} (k : g ≡ type_kind t i) (k' : g' ≡ type_kind t' j) where
     left_is : types_below s c t n i ≡ type_by_parts (type_env s c t i) t (type_width * i) g

@@ -58,8 +58,8 @@ module _ {A L : Type 0} (k : Sort A L) (v v' : ℕ → Option A) (cells cells' :
     pub outside_left : length cells < r.start + r.len * k.size → Agree x y → ⊥
     outside_left = Ls.short-left k.size k.nil k.cons k.inj k.apart v v' cells cells' r r' x y e e'
 
-    pub outside_right : r.len ≡ r'.len → length cells' < r'.start + r.len * k.size → Agree x y → ⊥
-    outside_right m h = Ls.short-right k.size k.nil k.cons k.inj k.apart v v' cells cells' r r' x y e e' (rw m at h)
+    pub outside_right : length cells' < r'.start + r'.len * k.size → Agree x y → ⊥
+    outside_right = Ls.short-right k.size k.nil k.cons k.inj k.apart v v' cells cells' r r' x y e e'
 
   -- two runs of one length that lie in their cells
   pub begin : {start start' len : ℕ} {x y : Option L} → IsList k v cells (run_of start len) x → IsList k v' cells' (run_of start' len) y

@@ -10,7 +10,7 @@ use lib.ListN.{length, take, drop}
 use borrow.Author.Tests.{eq-eqb, eqb-true}
 use Rattle.lex.specs.Kind.{same_bytes, fixed_spelling}
 use Rattle.lex.specs.Spelling.{has_spelling, spelling, well_formed}
-use Rattle.lex.specs.declared.byte_search.Found.TheVariants.{At, Nothing}
+use Rattle.std.specs.Prelude.{Some, None}
 use Rattle.lex.specs.declared.tok.Token.{Token}
 use Rattle.lex.proofs.Laws.{cases}
 use Rattle.lex.proofs.Spellings.{spelling_other, spelling-found}
@@ -27,14 +27,14 @@ has_fixed k = ltb 0 (length (fixed_spelling k))
 
 module _ (s : List ℕ) (t : Token) where
   -- a kind whose spelling is found has one of its own
-  found-own : (i : ℕ) → spelling s t ≡ At i → has_spelling t.kind ≡ true
+  found-own : (i : ℕ) → spelling s t ≡ Some i → has_spelling t.kind ≡ true
   found-own i e = go (has_spelling t.kind) refl
     where
       go : (b : Bool) → has_spelling t.kind ≡ b → b ≡ true
       go true h = refl
-      go false h = let n : spelling s t ≡ Nothing = spelling_other s t h in let z : ◌≡◌ {A = ℕ} 0 1 = cc in absurd (omega arith)
+      go false h = let n : spelling s t ≡ None = spelling_other s t h in let z : ◌≡◌ {A = ℕ} 0 1 = cc in absurd (omega arith)
 
-  word-found : (i : ℕ) → spelling s t ≡ At i → word s t ≡ some (spelled t.kind (take t.len (drop i s)))
+  word-found : (i : ℕ) → spelling s t ≡ Some i → word s t ≡ some (spelled t.kind (take t.len (drop i s)))
   unfolding word word_of
   word-found i e = rw (well_formed-found s t i e, word) (rw (found-own i e, (spelling-found s t i e).0))
 
@@ -46,7 +46,7 @@ module _ (s : List ℕ) (t : Token) where
       go true o = let z : false ≡ true = sym (rw o at (fixed_is t.kind)) ∙ h in let n : ◌≡◌ {A = ℕ} 0 1 = cc in absurd (omega arith)
       go false o = rw (well_formed-nothing s t (spelling_other s t o) ∙ h, word) (rw o)
 
-  word_none : spelling s t ≡ Nothing → has_fixed t.kind ≡ false → word s t ≡ none
+  word_none : spelling s t ≡ None → has_fixed t.kind ≡ false → word s t ≡ none
   unfolding word has_fixed
   word_none e h = rw (well_formed-nothing s t e ∙ h, word)
 
@@ -66,7 +66,7 @@ module _ (s s' : List ℕ) (t t' : Token) where
   agree_kinds g = sym (word-kind s t g.it g.left) ∙ word-kind s' t' g.it g.right
 
   module _ (k : t.kind ≡ t'.kind) where
-    pub agree_fixed : spelling s t ≡ Nothing → Decides (ltb 0 (length (fixed_spelling t.kind))) (Agree (word s t) (word s' t'))
+    pub agree_fixed : spelling s t ≡ None → Decides (ltb 0 (length (fixed_spelling t.kind))) (Agree (word s t) (word s' t'))
     unfolding has_fixed
     agree_fixed e = go (has_fixed t.kind) refl
       where
@@ -75,7 +75,7 @@ module _ (s s' : List ℕ) (t t' : Token) where
         go false h = decides_no (λ g. let l = g.left in let n = word_none s t e h in let z : ◌≡◌ {A = ℕ} 0 1 = cc in omega arith)
 
     -- one spelling is found, and the other not
-    pub agree_lost : (i : ℕ) → spelling s t ≡ At i → spelling s' t' ≡ Nothing → Agree (word s t) (word s' t') → ⊥
+    pub agree_lost : (i : ℕ) → spelling s t ≡ Some i → spelling s' t' ≡ None → Agree (word s t) (word s' t') → ⊥
     unfolding has_fixed
     agree_lost i e e' g =
         let o : has_spelling t'.kind ≡ true = rw k at (found-own s t i e) in
@@ -84,7 +84,7 @@ module _ (s s' : List ℕ) (t t' : Token) where
         let z : ◌≡◌ {A = ℕ} 0 1 = cc in omega arith
 
     -- both are found
-    pub agree_spelled : {r : Bool} (i j : ℕ) → spelling s t ≡ At i → spelling s' t' ≡ At j → Decides r (take t.len (drop i s) ≡ take t'.len (drop j s'))
+    pub agree_spelled : {r : Bool} (i j : ℕ) → spelling s t ≡ Some i → spelling s' t' ≡ Some j → Decides r (take t.len (drop i s) ≡ take t'.len (drop j s'))
         → Decides r (Agree (word s t) (word s' t'))
     agree_spelled i j e e' d = agree_some _ _ (word-found s t i e) (word-found s' t' j e')
         (decides_by (λ p. ap₂ spelled k p) (λ q. ap (λ (w : Word). w.spelling) q) d)

@@ -1,5 +1,5 @@
 -- What a comparison of two trees answers.
-use Rattle.std.specs.Prelude.{Bool, true, false, ℕ, eqb}
+use Rattle.std.specs.Prelude.{Bool, ℕ, eqb}
 use Rattle.std.proofs.Math.Option.{Option, none, some}
 use Rattle.rules.specs.Shape.{Shapes}
 use Rattle.lex.specs.Bytes.{if}
@@ -8,8 +8,6 @@ use Rattle.lex.specs.Refusals.{r_too_long, r_malformed}
 use Rattle.ast.specs.Answer.{unless, Lent, refusal}
 use Rattle.compare.specs.Shapes.{shape_in}
 use Rattle.compare.specs.Same.{same_shapes}
-use Rattle.compare.specs.declared.Comparison.{Comparison}
-use Rattle.compare.specs.declared.Comparison.TheVariants as C
 
 -- 1 for either tree, then 2 for either; 0 where there is neither
 unfoldable pub refusals : Lent → Lent → ℕ
@@ -27,9 +25,3 @@ compare_shapes (some σ) (some τ) = answer (same_shapes σ τ)
 
 unfoldable pub compare : Lent → Lent → Answer Bool
 compare a b = unless (refusals a b) (compare_shapes (shape_in a) (shape_in b))
-
--- document 01's numbers, yes and no for each case of an answer
-unfoldable pub comparison_answer : Comparison → Answer Bool
-comparison_answer C.Same = answer true
-comparison_answer C.Different = answer false
-comparison_answer (C.Refused n) = refused n

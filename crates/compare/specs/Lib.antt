@@ -5,3 +5,5 @@ pub mod Parts
 pub mod Same
 pub mod Compare
 pub mod Returned
+pub mod Pairs
+pub mod Orders

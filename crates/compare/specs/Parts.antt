@@ -1,7 +1,7 @@
 -- The parts of a node's record, in the order in which they are compared: what each is, and in which
 -- cell it stands.
 use Rattle.std.proofs.Math.Option.{Option, some}
-use Rattle.std.specs.Prelude.{List, [], ◌∷◌, ◌++◌, map, ℕ, zero, suc, ◌+◌, ◌*◌, ◌/◌, ◌%◌, eqb, get_or}
+use Rattle.std.specs.Prelude.{List, [], ◌∷◌, ◌++◌, map, ℕ, ◌+◌, ◌*◌, ◌/◌, ◌%◌, eqb, get_or}
 use Rattle.ast.specs.Schema.{Field, cell_count, node_schema}
 use Rattle.rules.specs.Shape.{Word, TypeShape, Params, FnShape, Shape, Shapes, FieldShapes}
 use Rattle.rules.specs.Shape.{CaseShapes, Env, w, words, params, shapes, fields, cases, fns}
@@ -114,13 +114,6 @@ sort_at k = get_or parts k 0 / 16
 
 unfoldable pub cell_at : ℕ → ℕ
 cell_at k = get_or parts k 0 % 16
-
--- the parts in an order as one number, eight bits each, those from `x` on
-unfoldable pub rest_of : ℕ → ℕ → ℕ
-rest_of order zero =
-    let part : ℕ → ℕ = λ k. get_or parts (6 * order + k) 0 in
-    part 0 + 256 * (part 1 + 256 * (part 2 + 256 * (part 3 + 256 * (part 4 + 256 * part 5))))
-rest_of order (suc x) = rest_of order x / 256
 
 -- part `k` of two records in one order, from the cells `p` and `p'` on
 unfoldable pub PartsAgree : Env → Env → ℕ → List ℕ → ℕ → List ℕ → ℕ → ℕ → Type 0

@@ -7,7 +7,7 @@ use Rattle.rules.specs.Tree.{Tree}
 use Rattle.rules.specs.Promise.{Arrays, promised}
 use Rattle.rules.specs.Shape.{shape_of}
 use Rattle.ast.specs.declared.Counts.{Counts}
-use Rattle.ast.specs.declared.Parsed.TheVariants as P
+use Rattle.rules.specs.Parsed as P
 use Rattle.lex.specs.Answer.{Answer, answer}
 use Rattle.ast.specs.Answer.{Lent, lent}
 

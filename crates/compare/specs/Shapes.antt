@@ -10,6 +10,7 @@ use Rattle.lex.specs.Bytes.{if}
 use Rattle.ast.specs.Decode.{fits, node_at, type_at}
 use Rattle.ast.specs.Tabulate.{entries_below}
 use Rattle.ast.specs.Answer.{Lent, cells_of}
+use Rattle.compare.specs.declared.view.View as V
 
 -- an unknown record has no shape
 abbrev pub type_row : (script cells : List ℕ) → (ℕ → Option TypeShape) → Option TypeExpr
@@ -58,6 +59,10 @@ view script nodes types cells type_count =
       cells = cells;
       type_count = type_count;
     }
+
+-- what the code's view of a tree shows
+abbrev pub seen : V.View → View
+seen v = view v.script.now v.nodes.now v.types.now v.cells.now v.type_count
 
 -- its types
 abbrev pub types_in : View → ℕ → Option TypeShape

@@ -1,145 +1,195 @@
 // When two nodes, or two lists that hold nodes, agree. The number of a node falls from call to
 // call.
-ghost use Rattle.std.specs.Prelude.{◌≡◌, ℕ, ◌*◌, ◌<◌};
+ghost use Rattle.std.specs.Prelude.{◌≡◌, ◌≢◌, ℕ, true, ◌*◌, ◌<◌};
 ghost use Rattle.ast.specs.Layout.{node_width};
 ghost use Rattle.rules.specs.Shape.{word, shapes, cases};
 ghost use Rattle.ast.specs.Decode.{token_at};
 ghost use Rattle.compare.specs.Agree.{Agree, Decides};
-ghost use Rattle.compare.specs.Shapes.{view, nodes_below, env_below};
-ghost use Rattle.compare.specs.Parts.{part_of, PartAgrees, PartsAgree, Ordered, rest_of};
+ghost use Rattle.compare.specs.Shapes.{seen, nodes_below, env_below};
+ghost use Rattle.compare.specs.Parts.{PartsAgree, Ordered};
+ghost use Rattle.compare.specs.Orders.{number, FieldAgrees, AreFirst, IsLast, member_cells};
 
 use crate::kind::kind_at;
+use crate::pairs::Pairs;
 use crate::type_expr::{agree_fns, agree_params, agree_type};
+use crate::view::View;
 use crate::word::{agree_token_at, agree_words, formed_at};
 use ast::decode::{cell, run_at};
-use ast::schema::{CASE_WIDTH, NODE_WIDTH, Sort, member_width};
+use ast::schema::{CASE_WIDTH, FIELD_WIDTH, NODE_WIDTH};
 use ast::{Node, NodeId, NodeKind, Run, TypeExprId};
 
-// The number of an order in which the parts of a node are compared: its kind, and two more.
+// A part of a node's record, with the cell in which it stands.
 #[derive(Clone, Copy)]
-struct Order(u32);
+enum Part {
+    Nothing,
+    Token(u8),
+    Tokens(u8),
+    Params(u8),
+    Type(u8),
+    Fns(u8),
+    Nodes(u8),
+    Cases(u8),
+    Node(u8),
+}
+
+// The part that is compared last: a node, or a list of nodes, each behind a name or not.
+#[derive(Clone, Copy)]
+enum Last {
+    Nothing,
+    Node(u8),
+    Nodes { cell: u8, named: bool },
+}
+
+// The orders in which the parts of a node are compared: one for each kind, and two more. Its kind's
+// own one has the left side of an operator and the target of a call last; where that is a name or an
+// atom, it is compared first. Either order decides the same, and so chains on the right and in
+// arguments take no stack either.
+#[derive(Clone, Copy)]
+enum Order {
+    Atom,
+    Ident,
+    Bin,
+    Unary,
+    Let,
+    Fn,
+    Match,
+    Call,
+    Field,
+    Cast,
+    Import,
+    Extern,
+    Record,
+    Array,
+    RightLast,
+    ArgumentsLast,
+}
 
 impl Order {
-    // An operator, its right side last.
-    const RIGHT_LAST: u32 = 15;
-
-    // A call, its arguments last.
-    const ARGUMENTS_LAST: u32 = 16;
-}
-
-// The order for node `i`. Its kind's own one has the left side of an operator and the target of a
-// call last; where that is a name or an atom, it is compared first. Either order decides the same,
-// and so chains on the right and in arguments take no stack either.
-fn order_of(nodes: &&[u32], kind: u32, i: u32) -> u32
-    ensures { Ordered kind result }
-{
-    if kind == NodeKind::BIN {
-        let lhs = cell(*nodes, Node::WIDTH * i as usize, 5);
-        if kind_at(*nodes, Node::WIDTH, NodeKind::ARRAY, lhs) <= NodeKind::IDENT {
-            return Order::RIGHT_LAST;
+    // The parts that are compared first, and nothing behind them.
+    fn first(self) -> [Part; 4]
+        ensures { AreFirst self result }
+    {
+        let none = Part::Nothing;
+        match self {
+            Order::Atom => [Part::Token(2), none, none, none],
+            Order::Ident => [Part::Token(2), none, none, none],
+            Order::Bin => [Part::Token(2), Part::Node(6), none, none],
+            Order::Unary => [Part::Token(2), none, none, none],
+            Order::Let => [Part::Tokens(2), Part::Token(4), none, none],
+            Order::Fn => [
+                Part::Tokens(2),
+                Part::Token(4),
+                Part::Params(7),
+                Part::Type(9),
+            ],
+            Order::Match => [Part::Cases(2), Part::Token(4), none, none],
+            Order::Call => [Part::Nodes(3), none, none, none],
+            Order::Field => [Part::Token(3), none, none, none],
+            Order::Cast => [Part::Token(2), Part::Type(6), none, none],
+            Order::Import => [Part::Token(2), Part::Tokens(5), none, none],
+            Order::Extern => [
+                Part::Token(2),
+                Part::Tokens(5),
+                Part::Token(7),
+                Part::Fns(10),
+            ],
+            Order::Record => [Part::Token(2), none, none, none],
+            Order::Array => [Part::Token(2), none, none, none],
+            Order::RightLast => [Part::Token(2), Part::Node(5), none, none],
+            Order::ArgumentsLast => [Part::Node(2), none, none, none],
         }
     }
-    if kind == NodeKind::CALL {
-        let target = cell(*nodes, Node::WIDTH * i as usize, 2);
-        if kind_at(*nodes, Node::WIDTH, NodeKind::ARRAY, target) <= NodeKind::IDENT {
-            return Order::ARGUMENTS_LAST;
+
+    // The part that is compared last.
+    fn last(self) -> Last
+        ensures { IsLast self result }
+    {
+        match self {
+            Order::Bin => Last::Node(5),
+            Order::Unary => Last::Node(5),
+            Order::Let => Last::Node(7),
+            Order::Fn => Last::Nodes {
+                cell: 10,
+                named: false,
+            },
+            Order::Match => Last::Nodes {
+                cell: 7,
+                named: false,
+            },
+            Order::Call => Last::Node(2),
+            Order::Field => Last::Node(2),
+            Order::Cast => Last::Node(5),
+            Order::Record => Last::Nodes {
+                cell: 5,
+                named: true,
+            },
+            Order::Array => Last::Nodes {
+                cell: 5,
+                named: false,
+            },
+            Order::RightLast => Last::Node(6),
+            Order::ArgumentsLast => Last::Nodes {
+                cell: 3,
+                named: false,
+            },
+            Order::Atom => Last::Nothing,
+            Order::Ident => Last::Nothing,
+            Order::Import => Last::Nothing,
+            Order::Extern => Last::Nothing,
         }
     }
-    kind
 }
 
-// The six parts of a node in an order, eight bits each from the lowest on; the last is the child or
-// the list that is compared last. Of the eight bits the upper four are the part's sort, 0 where
-// there is none, and the lower four its cell in the record.
-fn parts_of(order: u32) -> u64
-    requires { order < 17 }
-    ensures { result ≡ rest_of order 0 }
+// Node `i` is a name or an atom.
+fn is_leaf(nodes: &[u32], i: u32) -> bool {
+    match kind_at(nodes, Node::WIDTH, NodeKind::ARRAY, i) {
+        Some(kind) => kind <= NodeKind::IDENT,
+        None => false,
+    }
+}
+
+// The order for node `i` of a known kind.
+fn order_of(nodes: &[u32], kind: u32, i: u32) -> Order
+    requires { (kind ≢ 0) × (kind < 15) }
+    ensures { Ordered kind (number result) }
 {
-    if order == NodeKind::ATOM {
-        return 0x000000000012;
+    let at = Node::WIDTH * i as usize;
+    match kind {
+        NodeKind::ATOM => Order::Atom,
+        NodeKind::IDENT => Order::Ident,
+        NodeKind::BIN => {
+            if is_leaf(nodes, cell(nodes, at, 5)) {
+                Order::RightLast
+            } else {
+                Order::Bin
+            }
+        }
+        NodeKind::UNARY => Order::Unary,
+        NodeKind::LET => Order::Let,
+        NodeKind::FN => Order::Fn,
+        NodeKind::MATCH => Order::Match,
+        NodeKind::CALL => {
+            if is_leaf(nodes, cell(nodes, at, 2)) {
+                Order::ArgumentsLast
+            } else {
+                Order::Call
+            }
+        }
+        NodeKind::FIELD => Order::Field,
+        NodeKind::CAST => Order::Cast,
+        NodeKind::IMPORT => Order::Import,
+        NodeKind::EXTERN => Order::Extern,
+        NodeKind::RECORD => Order::Record,
+        _ => Order::Array,
     }
-    if order == NodeKind::IDENT {
-        return 0x000000000012;
-    }
-    if order == NodeKind::BIN {
-        return 0x950000009612;
-    }
-    if order == NodeKind::UNARY {
-        return 0x950000000012;
-    }
-    if order == NodeKind::LET {
-        return 0x970000001422;
-    }
-    if order == NodeKind::FN {
-        return 0x6a0049371422;
-    }
-    if order == NodeKind::MATCH {
-        return 0x670000001482;
-    }
-    if order == NodeKind::CALL {
-        return 0x920000000063;
-    }
-    if order == NodeKind::FIELD {
-        return 0x920000000013;
-    }
-    if order == NodeKind::CAST {
-        return 0x950000004612;
-    }
-    if order == NodeKind::IMPORT {
-        return 0x000000002512;
-    }
-    if order == NodeKind::EXTERN {
-        return 0x00005a172512;
-    }
-    if order == NodeKind::RECORD {
-        return 0x750000000012;
-    }
-    if order == NodeKind::ARRAY {
-        return 0x650000000012;
-    }
-    if order == Order::RIGHT_LAST {
-        return 0x960000009512;
-    }
-    if order == Order::ARGUMENTS_LAST {
-        return 0x630000000092;
-    }
-    0
 }
-
-// The place of the last part among the six, and what stands before it.
-const LAST: usize = 5;
-
-const BEFORE_LAST: u64 = 0x10000000000;
 
 // Node `i`, below `n`, and node `j`, below `m`. The last child, or the last member of the last
-// list, is the last thing done, and is passed nothing that lies in this function's frame: so a long
-// chain takes no stack.
+// list, is the last thing done: so a long chain takes no stack.
 #[cycle(agreement)]
-pub(crate) fn agree_node(
-    s: &&[u8],
-    nodes: &&[u32],
-    types: &&[u32],
-    cells: &&[u32],
-    k: u32,
-    n: u32,
-    i: NodeId,
-    s2: &&[u8],
-    nodes2: &&[u32],
-    types2: &&[u32],
-    cells2: &&[u32],
-    k2: u32,
-    m: u32,
-    j: NodeId,
-) -> bool
-    ensures { let left =
-        view s.now.now nodes.now.now types.now.now
-        cells.now.now k
-        in
-        let right =
-        view s2.now.now nodes2.now.now types2.now.now
-        cells2.now.now k2
-        in
-        Decides result (Agree (nodes_below left n i.0) (nodes_below right m j.0)) }
+pub(crate) fn agree_node(a: &View, n: u32, i: NodeId, b: &View, m: u32, j: NodeId) -> bool
+    ensures { Decides result (Agree (nodes_below (seen a.now) n i.0)
+        (nodes_below (seen b.now) m j.0)) }
 {
     if n <= i.0 {
         return false;
@@ -147,524 +197,217 @@ pub(crate) fn agree_node(
     if m <= j.0 {
         return false;
     }
-    let kind = kind_at(*nodes, Node::WIDTH, NodeKind::ARRAY, i.0);
-    if kind == 0 {
+    let Some(kind) = kind_at(a.nodes, Node::WIDTH, NodeKind::ARRAY, i.0) else {
+        return false;
+    };
+    let Some(kind2) = kind_at(b.nodes, Node::WIDTH, NodeKind::ARRAY, j.0) else {
+        return false;
+    };
+    if kind != kind2 {
         return false;
     }
-    if kind != kind_at(*nodes2, Node::WIDTH, NodeKind::ARRAY, j.0) {
+    let order = order_of(a.nodes, kind, i.0);
+    if !agree_parts(a, i.0, b, j.0, order) {
         return false;
     }
-    let order = order_of(nodes, kind, i.0);
-    if !agree_parts(
-        s, nodes, types, cells, k, i.0, s2, nodes2, types2, cells2, k2, j.0, order,
-    ) {
-        return false;
-    }
-    agree_last(
-        s, nodes, types, cells, k, i.0, s2, nodes2, types2, cells2, k2, j.0, order,
-    )
+    agree_last(a, i.0, b, j.0, order)
 }
 
 // The names of two members of a list, where its members have one.
-fn agree_name(
-    s: &&[u8],
-    cells: &&[u32],
-    at: usize,
-    s2: &&[u8],
-    cells2: &&[u32],
-    at2: usize,
-    sort: u64,
-) -> bool
-    ensures { let left = word s.now.now (token_at cells.now.now at) in
-        let right = word s2.now.now (token_at cells2.now.now at2) in
-        Decides result (sort ≡ 7 → Agree left right) }
+fn agree_name(a: &View, at: usize, b: &View, at2: usize, named: bool) -> bool
+    ensures { let left = word a.now.script.now (token_at a.now.cells.now at) in
+        let right = word b.now.script.now (token_at b.now.cells.now at2) in
+        Decides result (named ≡ true → Agree left right) }
 {
-    if sort == Sort::FIELDS {
-        return agree_token_at(s, cells, at, s2, cells2, at2);
+    if named {
+        return agree_token_at(a, a.cells, at, b, b.cells, at2);
     }
     true
+}
+
+// The cells of a member of a list of nodes, each behind a name or not.
+fn member_cells(named: bool) -> usize
+    ensures { result ≡ member_cells named }
+{
+    if named { FIELD_WIDTH } else { NODE_WIDTH }
 }
 
 // The last part of two nodes in one order: nothing, a node, or a list of fields or of nodes. Only
 // `agree_node` calls this, and as the last thing done: so it is put into its frame, and the last
-// node or member is a turn of its loop.
+// node or member is a turn of its loop. A call of `agree_nodes` would take stack at each level.
 #[cycle(agreement)]
-fn agree_last(
-    s: &&[u8],
-    nodes: &&[u32],
-    types: &&[u32],
-    cells: &&[u32],
-    k: u32,
-    i: u32,
-    s2: &&[u8],
-    nodes2: &&[u32],
-    types2: &&[u32],
-    cells2: &&[u32],
-    k2: u32,
-    j: u32,
-    order: u32,
-) -> bool
-    requires { order < 17 }
-    ensures { let left =
-        view s.now.now nodes.now.now types.now.now
-        cells.now.now k
-        in
-        let right =
-        view s2.now.now nodes2.now.now types2.now.now
-        cells2.now.now k2
-        in
-        let agrees =
-        PartsAgree (env_below left i) (env_below right j) order
-        nodes.now.now (node_width * i) nodes2.now.now (node_width * j)
+fn agree_last(a: &View, i: u32, b: &View, j: u32, order: Order) -> bool
+    ensures { let agrees =
+        PartsAgree (env_below (seen a.now) i) (env_below (seen b.now) j) (number order)
+        a.now.nodes.now (node_width * i) b.now.nodes.now (node_width * j)
         in
         Decides result (agrees 5) }
 {
-    let last = parts_of(order) / BEFORE_LAST;
-    let sort = last / 16;
-    if sort == 0 {
-        return true;
-    }
-    let o = (last % 16) as usize;
-    if sort == Sort::NODE {
-        return agree_node(
-            s,
-            nodes,
-            types,
-            cells,
-            k,
-            i,
-            NodeId(cell(*nodes, Node::WIDTH * i as usize, o)),
-            s2,
-            nodes2,
-            types2,
-            cells2,
-            k2,
-            j,
-            NodeId(cell(*nodes2, Node::WIDTH * j as usize, o)),
-        );
-    }
-    let r = run_at(*nodes, Node::WIDTH * i as usize + o);
-    let r2 = run_at(*nodes2, Node::WIDTH * j as usize + o);
-    if r.len != r2.len {
-        return false;
-    }
-    let mut at = r.start as usize;
-    let mut at2 = r2.start as usize;
-    let mut left = r.len as usize;
-    let width = member_width(sort);
-    if cells.len() < at + left * width {
-        return false;
-    }
-    if cells2.len() < at2 + left * width {
-        return false;
-    }
-    if left == 0 {
-        return true;
-    }
-    while 1 < left {
-        if !agree_name(s, cells, at, s2, cells2, at2, sort) {
-            return false;
+    let at = Node::WIDTH * i as usize;
+    let at2 = Node::WIDTH * j as usize;
+    match order.last() {
+        Last::Nothing => true,
+        Last::Node(o) => {
+            let child = NodeId(cell(a.nodes, at, o as usize));
+            let child2 = NodeId(cell(b.nodes, at2, o as usize));
+            agree_node(a, i, child, b, j, child2)
         }
-        if !agree_node(
-            s,
-            nodes,
-            types,
-            cells,
-            k,
-            i,
-            NodeId(cell(*cells, at, width - 1)),
-            s2,
-            nodes2,
-            types2,
-            cells2,
-            k2,
-            j,
-            NodeId(cell(*cells2, at2, width - 1)),
-        ) {
-            return false;
+        Last::Nodes { cell: o, named } => {
+            let width = member_cells(named);
+            let r = run_at(a.nodes, at + o as usize);
+            let r2 = run_at(b.nodes, at2 + o as usize);
+            let Some(mut pairs) = Pairs::new(a.cells, r, b.cells, r2, width) else {
+                return false;
+            };
+            let Some((last, last2)) = pairs.take_last() else {
+                return true;
+            };
+            for (at, at2) in pairs {
+                if !agree_name(a, at, b, at2, named) {
+                    return false;
+                }
+                let member = NodeId(cell(a.cells, at, width - 1));
+                let member2 = NodeId(cell(b.cells, at2, width - 1));
+                if !agree_node(a, i, member, b, j, member2) {
+                    return false;
+                }
+            }
+            if !agree_name(a, last, b, last2, named) {
+                return false;
+            }
+            let member = NodeId(cell(a.cells, last, width - 1));
+            let member2 = NodeId(cell(b.cells, last2, width - 1));
+            agree_node(a, i, member, b, j, member2)
         }
-        at += width;
-        at2 += width;
-        left -= 1;
     }
-    if !agree_name(s, cells, at, s2, cells2, at2, sort) {
-        return false;
-    }
-    agree_node(
-        s,
-        nodes,
-        types,
-        cells,
-        k,
-        i,
-        NodeId(cell(*cells, at, width - 1)),
-        s2,
-        nodes2,
-        types2,
-        cells2,
-        k2,
-        j,
-        NodeId(cell(*cells2, at2, width - 1)),
-    )
 }
 
 // The parts of two nodes in one order, but for the last.
 #[cycle(agreement)]
-fn agree_parts(
-    s: &&[u8],
-    nodes: &&[u32],
-    types: &&[u32],
-    cells: &&[u32],
-    k: u32,
-    i: u32,
-    s2: &&[u8],
-    nodes2: &&[u32],
-    types2: &&[u32],
-    cells2: &&[u32],
-    k2: u32,
-    j: u32,
-    order: u32,
-) -> bool
-    requires { order < 17 }
-    ensures { let left =
-        view s.now.now nodes.now.now types.now.now
-        cells.now.now k
-        in
-        let right =
-        view s2.now.now nodes2.now.now types2.now.now
-        cells2.now.now k2
-        in
-        let agrees =
-        PartsAgree (env_below left i) (env_below right j) order
-        nodes.now.now (node_width * i) nodes2.now.now (node_width * j)
+fn agree_parts(a: &View, i: u32, b: &View, j: u32, order: Order) -> bool
+    ensures { let agrees =
+        PartsAgree (env_below (seen a.now) i) (env_below (seen b.now) j) (number order)
+        a.now.nodes.now (node_width * i) b.now.nodes.now (node_width * j)
         in
         Decides result ((x : ℕ) → x < 5 → agrees x) }
 {
-    let mut rest = parts_of(order);
-    let mut x = 0;
-    while x < LAST {
-        let part = rest % 256;
-        let o = (part % 16) as usize;
-        if !agree_part(
-            s,
-            nodes,
-            types,
-            cells,
-            k,
-            i,
-            Node::WIDTH * i as usize + o,
-            s2,
-            nodes2,
-            types2,
-            cells2,
-            k2,
-            j,
-            Node::WIDTH * j as usize + o,
-            part / 16,
-        ) {
+    for part in order.first() {
+        if let Part::Nothing = part {
+            return true;
+        }
+        if !agree_part(a, i, b, j, part) {
             return false;
         }
-        rest = rest / 256;
-        x += 1;
     }
     true
 }
 
-// Two parts of one sort. A list of fields stands last in its record, and is not among these.
+// One part of two nodes.
 #[cycle(agreement)]
-fn agree_part(
-    s: &&[u8],
-    nodes: &&[u32],
-    types: &&[u32],
-    cells: &&[u32],
-    k: u32,
-    i: u32,
-    at: usize,
-    s2: &&[u8],
-    nodes2: &&[u32],
-    types2: &&[u32],
-    cells2: &&[u32],
-    k2: u32,
-    j: u32,
-    at2: usize,
-    sort: u64,
-) -> bool
-    requires { sort ≡ 7 → ⊥ }
-    ensures { let left =
-        view s.now.now nodes.now.now types.now.now
-        cells.now.now k
+fn agree_part(a: &View, i: u32, b: &View, j: u32, part: Part) -> bool
+    ensures { let agrees =
+        FieldAgrees (env_below (seen a.now) i) (env_below (seen b.now) j)
+        a.now.nodes.now (node_width * i) b.now.nodes.now (node_width * j)
         in
-        let right =
-        view s2.now.now nodes2.now.now types2.now.now
-        cells2.now.now k2
-        in
-        Decides result (PartAgrees (env_below left i) (env_below right j) (part_of sort)
-        nodes.now.now at nodes2.now.now at2) }
+        Decides result (agrees part) }
 {
-    if sort == Sort::TOKEN {
-        return agree_token_at(s, nodes, at, s2, nodes2, at2);
+    let at = Node::WIDTH * i as usize;
+    let at2 = Node::WIDTH * j as usize;
+    match part {
+        Part::Nothing => true,
+        Part::Token(o) => {
+            agree_token_at(a, a.nodes, at + o as usize, b, b.nodes, at2 + o as usize)
+        }
+        Part::Tokens(o) => {
+            let r = run_at(a.nodes, at + o as usize);
+            let r2 = run_at(b.nodes, at2 + o as usize);
+            agree_words(a, r, b, r2)
+        }
+        Part::Params(o) => {
+            let r = run_at(a.nodes, at + o as usize);
+            let r2 = run_at(b.nodes, at2 + o as usize);
+            agree_params(a, a.type_count, r, b, b.type_count, r2)
+        }
+        Part::Type(o) => {
+            let child = TypeExprId(cell(a.nodes, at, o as usize));
+            let child2 = TypeExprId(cell(b.nodes, at2, o as usize));
+            agree_type(a, a.type_count, child, b, b.type_count, child2)
+        }
+        Part::Fns(o) => {
+            let r = run_at(a.nodes, at + o as usize);
+            let r2 = run_at(b.nodes, at2 + o as usize);
+            agree_fns(a, a.type_count, r, b, b.type_count, r2)
+        }
+        Part::Nodes(o) => {
+            let r = run_at(a.nodes, at + o as usize);
+            let r2 = run_at(b.nodes, at2 + o as usize);
+            agree_nodes(a, i, r, b, j, r2)
+        }
+        Part::Cases(o) => {
+            let r = run_at(a.nodes, at + o as usize);
+            let r2 = run_at(b.nodes, at2 + o as usize);
+            agree_cases(a, i, r, b, j, r2)
+        }
+        Part::Node(o) => {
+            let child = NodeId(cell(a.nodes, at, o as usize));
+            let child2 = NodeId(cell(b.nodes, at2, o as usize));
+            agree_node(a, i, child, b, j, child2)
+        }
     }
-    if sort == Sort::TOKENS {
-        return agree_words(
-            s,
-            cells,
-            run_at(*nodes, at),
-            s2,
-            cells2,
-            run_at(*nodes2, at2),
-        );
-    }
-    if sort == Sort::PARAMS {
-        return agree_params(
-            s,
-            types,
-            cells,
-            k,
-            run_at(*nodes, at),
-            s2,
-            types2,
-            cells2,
-            k2,
-            run_at(*nodes2, at2),
-        );
-    }
-    if sort == Sort::TYPE {
-        return agree_type(
-            s,
-            types,
-            cells,
-            k,
-            TypeExprId(cell(*nodes, at, 0)),
-            s2,
-            types2,
-            cells2,
-            k2,
-            TypeExprId(cell(*nodes2, at2, 0)),
-        );
-    }
-    if sort == Sort::FNS {
-        return agree_fns(
-            s,
-            types,
-            cells,
-            k,
-            run_at(*nodes, at),
-            s2,
-            types2,
-            cells2,
-            k2,
-            run_at(*nodes2, at2),
-        );
-    }
-    if sort == Sort::NODES {
-        return agree_nodes(
-            s,
-            nodes,
-            types,
-            cells,
-            k,
-            i,
-            run_at(*nodes, at),
-            s2,
-            nodes2,
-            types2,
-            cells2,
-            k2,
-            j,
-            run_at(*nodes2, at2),
-        );
-    }
-    if sort == Sort::CASES {
-        return agree_cases(
-            s,
-            nodes,
-            types,
-            cells,
-            k,
-            i,
-            run_at(*nodes, at),
-            s2,
-            nodes2,
-            types2,
-            cells2,
-            k2,
-            j,
-            run_at(*nodes2, at2),
-        );
-    }
-    if sort == Sort::NODE {
-        return agree_node(
-            s,
-            nodes,
-            types,
-            cells,
-            k,
-            i,
-            NodeId(cell(*nodes, at, 0)),
-            s2,
-            nodes2,
-            types2,
-            cells2,
-            k2,
-            j,
-            NodeId(cell(*nodes2, at2, 0)),
-        );
-    }
-    true
 }
 
 // Two lists of nodes, those below `i` and `j`.
 #[cycle(agreement)]
-fn agree_nodes(
-    s: &&[u8],
-    nodes: &&[u32],
-    types: &&[u32],
-    cells: &&[u32],
-    k: u32,
-    i: u32,
-    r: Run,
-    s2: &&[u8],
-    nodes2: &&[u32],
-    types2: &&[u32],
-    cells2: &&[u32],
-    k2: u32,
-    j: u32,
-    r2: Run,
-) -> bool
-    ensures { let left =
-        view s.now.now nodes.now.now types.now.now
-        cells.now.now k
-        in
-        let right =
-        view s2.now.now nodes2.now.now types2.now.now
-        cells2.now.now k2
-        in
-        Decides result (Agree (shapes (env_below left i) r) (shapes (env_below right j) r2)) }
+fn agree_nodes(a: &View, i: u32, r: Run, b: &View, j: u32, r2: Run) -> bool
+    ensures { let left = env_below (seen a.now) i in
+        let right = env_below (seen b.now) j in
+        Decides result (Agree (shapes left r) (shapes right r2)) }
 {
-    if r.len != r2.len {
+    let Some(pairs) = Pairs::new(a.cells, r, b.cells, r2, NODE_WIDTH) else {
         return false;
-    }
-    let mut at = r.start as usize;
-    let mut at2 = r2.start as usize;
-    let mut left = r.len as usize;
-    if cells.len() < at + left * NODE_WIDTH {
-        return false;
-    }
-    if cells2.len() < at2 + left * NODE_WIDTH {
-        return false;
-    }
-    while 0 < left {
-        if !agree_node(
-            s,
-            nodes,
-            types,
-            cells,
-            k,
-            i,
-            NodeId(cell(*cells, at, 0)),
-            s2,
-            nodes2,
-            types2,
-            cells2,
-            k2,
-            j,
-            NodeId(cell(*cells2, at2, 0)),
-        ) {
+    };
+    for (at, at2) in pairs {
+        let member = NodeId(cell(a.cells, at, 0));
+        let member2 = NodeId(cell(b.cells, at2, 0));
+        if !agree_node(a, i, member, b, j, member2) {
             return false;
         }
-        at += NODE_WIDTH;
-        at2 += NODE_WIDTH;
-        left -= 1;
     }
     true
 }
 
 // Two lists of cases: condition and body. Of a case's own token only that it is well formed counts.
 #[cycle(agreement)]
-fn agree_cases(
-    s: &&[u8],
-    nodes: &&[u32],
-    types: &&[u32],
-    cells: &&[u32],
-    k: u32,
-    i: u32,
-    r: Run,
-    s2: &&[u8],
-    nodes2: &&[u32],
-    types2: &&[u32],
-    cells2: &&[u32],
-    k2: u32,
-    j: u32,
-    r2: Run,
-) -> bool
-    ensures { let left =
-        view s.now.now nodes.now.now types.now.now
-        cells.now.now k
-        in
-        let right =
-        view s2.now.now nodes2.now.now types2.now.now
-        cells2.now.now k2
-        in
-        Decides result (Agree (cases (env_below left i) r) (cases (env_below right j) r2)) }
+fn agree_cases(a: &View, i: u32, r: Run, b: &View, j: u32, r2: Run) -> bool
+    ensures { let left = env_below (seen a.now) i in
+        let right = env_below (seen b.now) j in
+        Decides result (Agree (cases left r) (cases right r2)) }
 {
-    if r.len != r2.len {
+    let Some(pairs) = Pairs::new(a.cells, r, b.cells, r2, CASE_WIDTH) else {
         return false;
-    }
-    let mut at = r.start as usize;
-    let mut at2 = r2.start as usize;
-    let mut left = r.len as usize;
-    if cells.len() < at + left * CASE_WIDTH {
-        return false;
-    }
-    if cells2.len() < at2 + left * CASE_WIDTH {
-        return false;
-    }
-    while 0 < left {
-        if !formed_at(s, cells, at) {
+    };
+    for (at, at2) in pairs {
+        if !formed_at(a, at) {
             return false;
         }
-        if !formed_at(s2, cells2, at2) {
+        if !formed_at(b, at2) {
             return false;
         }
-        if !agree_node(
-            s,
-            nodes,
-            types,
-            cells,
-            k,
-            i,
-            NodeId(cell(*cells, at, 3)),
-            s2,
-            nodes2,
-            types2,
-            cells2,
-            k2,
-            j,
-            NodeId(cell(*cells2, at2, 3)),
-        ) {
+        let condition = NodeId(cell(a.cells, at, 3));
+        let condition2 = NodeId(cell(b.cells, at2, 3));
+        if !agree_node(a, i, condition, b, j, condition2) {
             return false;
         }
         if !agree_nodes(
-            s,
-            nodes,
-            types,
-            cells,
-            k,
+            a,
             i,
-            run_at(*cells, at + 4),
-            s2,
-            nodes2,
-            types2,
-            cells2,
-            k2,
+            run_at(a.cells, at + 4),
+            b,
             j,
-            run_at(*cells2, at2 + 4),
+            run_at(b.cells, at2 + 4),
         ) {
             return false;
         }
-        at += CASE_WIDTH;
-        at2 += CASE_WIDTH;
-        left -= 1;
     }
     true
 }

@@ -1,32 +1,27 @@
 // Numbers and framed bytes on standard input. A number is in decimal and ends at a blank or a line
 // feed; a frame is its length as a number, its bytes, and a line feed.
-ghost use Rattle.std.specs.Prelude.{◌≡◌, ◌≤◌, length, IfOk, MatchResult};
+ghost use Rattle.std.specs.Prelude.{◌≡◌, ◌≤◌, length, IfOk, MatchResult, Some, Ok};
+ghost use Rattle.std.specs.Option.{IfSome};
 ghost use Rattle.console.specs.Frame.{IsPrefixLen, Within, Inside};
 
 use std::io;
 use std::io::{ErrorKind, Read};
 
-#[derive(Clone, Copy)]
-enum Input {
-    Byte(u8),
-    End,
+// Why a number or a frame was not read: the input failed, or something else stands there.
+#[derive(Debug, Drop)]
+pub enum ReadError {
+    Io(io::Error),
+    Malformed,
 }
 
-// A number that was read; Malformed where something else stands there, End where nothing is left.
-#[derive(Clone, Copy)]
-pub enum Number {
-    Value(usize),
-    Malformed,
-    End,
+impl From<io::Error> for ReadError {
+    fn from(error: io::Error) -> ReadError {
+        ReadError::Io(error)
+    }
 }
 
-// How many bytes a frame has.
-#[derive(Clone, Copy)]
-pub enum Frame {
-    Bytes(usize),
-    Malformed,
-    End,
-}
+// Twenty digits are enough for any limit.
+const MAX_DIGITS: usize = 20;
 
 // Reads until `buf` is full or nothing is left, and answers how many bytes it put at the start of
 // `buf`. A read that a signal interrupts is made again.
@@ -51,93 +46,90 @@ pub fn read_full(input: &mut impl Read, buf: &mut [u8]) -> io::Result<usize>
     Ok(done)
 }
 
-fn read_byte(input: &mut impl Read) -> io::Result<Input> {
+// The next byte; None where nothing is left.
+fn read_byte(input: &mut impl Read) -> io::Result<Option<u8>> {
     let mut b = [0u8; 1];
-    if read_full(input, &mut b)? == 1 {
-        Ok(Input::Byte(b[0]))
-    } else {
-        Ok(Input::End)
-    }
+    let n = read_full(input, &mut b)?;
+    Ok(if n == 1 { Some(b[0]) } else { None })
 }
 
-// The next number, at most `limit`; a larger one is malformed. Twenty digits are enough for any
-// limit.
-pub fn read_number(input: &mut impl Read, limit: usize) -> io::Result<Number>
+// The next number, at most `limit`; a larger one is malformed. None where nothing is left.
+pub fn read_number(input: &mut impl Read, limit: usize) -> Result<Option<usize>, ReadError>
     ensures { IfOk result (Within limit) }
 {
     let mut value: usize = 0;
-    let mut digits: usize = 0;
-    while digits <= 20 {
-        let Input::Byte(b) = read_byte(input)? else {
-            if digits == 0 {
-                return Ok(Number::End);
+    for digits in 0..=MAX_DIGITS {
+        match read_byte(input)? {
+            Some(b @ b'0'..=b'9') => {
+                let Some(tens) = value.checked_mul(10) else {
+                    return Err(ReadError::Malformed);
+                };
+                match tens.checked_add((b - b'0') as usize) {
+                    Some(next) if next <= limit => value = next,
+                    _ => return Err(ReadError::Malformed),
+                }
             }
-            return Ok(Number::Malformed);
-        };
-        if b == b' ' || b == b'\n' {
-            if digits == 0 {
-                return Ok(Number::Malformed);
-            }
-            return Ok(Number::Value(value));
+            Some(b' ' | b'\n') if 0 < digits => return Ok(Some(value)),
+            None if digits == 0 => return Ok(None),
+            _ => return Err(ReadError::Malformed),
         }
-        if b < b'0' {
-            return Ok(Number::Malformed);
-        }
-        if b'9' < b {
-            return Ok(Number::Malformed);
-        }
-        if limit / 10 < value {
-            return Ok(Number::Malformed);
-        }
-        value *= 10;
-        let digit = (b - b'0') as usize;
-        if limit - value < digit {
-            return Ok(Number::Malformed);
-        }
-        value += digit;
-        digits += 1;
     }
-    Ok(Number::Malformed)
-}
-
-// Whether the next byte is a line feed.
-fn line_ends(input: &mut impl Read) -> io::Result<bool> {
-    match read_byte(input)? {
-        Input::Byte(b) => Ok(b == b'\n'),
-        Input::End => Ok(false),
-    }
+    Err(ReadError::Malformed)
 }
 
 // The next frame, its bytes at the start of `buf`; the cells behind them keep what they held. One
-// that is longer than `buf` is malformed. Where nothing is left `buf` stays as it was.
-pub fn read_frame(input: &mut impl Read, buf: &mut [u8]) -> io::Result<Frame>
+// that is longer than `buf` is malformed. None where nothing is left: then `buf` stays as it was.
+pub fn read_frame(input: &mut impl Read, buf: &mut [u8]) -> Result<Option<usize>, ReadError>
     ensures { MatchResult result (Inside buf.old buf.new) (λ _. length buf.new ≡ length buf.old) }
 {
-    match read_number(input, buf.len())? {
-        Number::Value(n) => {
-            if read_full(input, &mut buf[..n])? != n {
-                return Ok(Frame::Malformed);
-            }
-            if line_ends(input)? {
-                Ok(Frame::Bytes(n))
-            } else {
-                Ok(Frame::Malformed)
-            }
-        }
-        Number::Malformed => Ok(Frame::Malformed),
-        Number::End => Ok(Frame::End),
+    let Some(n) = read_number(input, buf.len())? else {
+        return Ok(None);
+    };
+    if read_full(input, &mut buf[..n])? != n || read_byte(input)? != Some(b'\n') {
+        return Err(ReadError::Malformed);
     }
+    Ok(Some(n))
 }
 
-// ---- for cases that a tool writes: what is missing or malformed is taken for 0
+// ---- cases that a tool writes
+
+// Shows case after case, until one answers that there was none. What is malformed ends them, and is
+// said. Nothing says that the input ends, so the cases are counted.
+pub fn each_case<F: FnMut(u64) -> Result<bool, ReadError>>(
+    rt: &impl Print,
+    mut show: F,
+) -> io::Result<()>
+    requires { F.IsAlwaysCallable show }
+{
+    for i in 0..u64::MAX {
+        match show(i) {
+            Ok(true) => {}
+            Ok(false) => return Ok(()),
+            Err(ReadError::Malformed) => return rt.write_all(b"(malformed)\n"),
+            Err(ReadError::Io(error)) => return Err(error),
+        }
+    }
+    Ok(())
+}
+
+// ---- numbers and scripts of a case: what is missing or malformed is taken for 0
+
+// What was read, if anything was.
+fn read_or_none(read: Result<Option<usize>, ReadError>) -> io::Result<Option<usize>>
+    ensures { IfOk result (λ o. IfSome o (λ n. read ≡ Ok (Some n))) }
+{
+    match read {
+        Ok(found) => Ok(found),
+        Err(ReadError::Malformed) => Ok(None),
+        Err(ReadError::Io(error)) => Err(error),
+    }
+}
 
 pub fn read_up_to(input: &mut impl Read, limit: usize) -> io::Result<usize>
     ensures { IfOk result (λ n. n ≤ limit) }
 {
-    let Number::Value(n) = read_number(input, limit)? else {
-        return Ok(0);
-    };
-    Ok(n)
+    let n = read_or_none(read_number(input, limit))?;
+    Ok(n.unwrap_or(0))
 }
 
 // A script: how many bytes it has, and the first of them as a frame. The others are those of the
@@ -146,6 +138,6 @@ pub fn read_script(input: &mut impl Read, script: &mut [u8]) -> io::Result<usize
     ensures { IfOk result (λ n. IsPrefixLen n script.new) }
 {
     let n = read_up_to(input, script.len())?;
-    read_frame(input, script)?;
+    read_or_none(read_frame(input, script))?;
     Ok(n)
 }

@@ -1,5 +1,5 @@
-// Standard input and output of the programs: numbers and framed bytes, texts and numbers, the
-// tokens of a script.
+// Standard input and output of the programs: numbers and framed bytes, refusals, the tokens of a
+// script.
 #![tactic(auto)]
 
 pub mod frames;

@@ -1,11 +1,17 @@
-// Texts and numbers on standard output.
+// What a call answered, on standard output.
+use lex::Refusal;
 use std::io;
 
-pub fn write(rt: &impl Print, text: &[u8]) -> io::Result<()> {
-    rt.write_all(text)
-}
-
-// In decimal.
-pub fn write_number(rt: &impl Print, n: u64) -> io::Result<()> {
-    rt.print(n)
+// What was asked, as `show` prints it, or the number of the refusal.
+pub fn print_answer<T, F: FnOnce(T) -> io::Result<()> + Drop>(
+    rt: &impl Print,
+    answer: Result<T, Refusal>,
+    show: F,
+) -> io::Result<()>
+    requires { F.IsAlwaysCallable show }
+{
+    match answer {
+        Ok(asked) => show(asked),
+        Err(refusal) => print!(rt; "refused {}", u32::from(refusal)),
+    }
 }

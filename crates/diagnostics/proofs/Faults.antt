@@ -46,6 +46,12 @@ module _ {at : ℕ} {errors : List ℕ} {from i : ℕ} {a₀ a : Diagnostics} (p
   pub pushing_past : length errors / error_width ≤ i → (a ≡ foldl pushed a₀ (diagnostics_in (early at (errors_from errors from)))) × (errors_from errors i ≡ late at (errors_from errors from))
   pushing_past h = pushing_none (error_past errors i h)
 
+  -- no record is left, wherever one looks for it
+  pub pushing_all : (k : ℕ) → length errors / error_width ≤ i → length errors / error_width ≤ k → (a ≡ foldl pushed a₀ (diagnostics_in (early at (errors_from errors from)))) × (errors_from errors k ≡ late at (errors_from errors from))
+  pushing_all k h l =
+      let past = pushing_past h in
+      (past.0, errors-none errors k (error_past errors k l) ∙ sym (errors-none errors i (error_past errors i h)) ∙ past.1)
+
   -- the next one has more tokens before it
   pub pushing_out : ((error_at errors i).diagnostic.number ≡ 0 → ⊥) → at < (error_at errors i).after → (a ≡ foldl pushed a₀ (diagnostics_in (early at (errors_from errors from)))) × (errors_from errors i ≡ late at (errors_from errors from))
   pushing_out e h =

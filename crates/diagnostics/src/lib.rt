@@ -17,11 +17,8 @@ pub fn push_diagnostic(diagnostics: &mut [u32], n: u32, d: Diagnostic) -> u32
     ensures { let before = diagnostics_of diagnostics.old n in
         diagnostics_of diagnostics.new result ≡ pushed before d }
 {
-    if u32::MAX <= n {
-        return n;
-    }
     let at = DIAGNOSTIC_WIDTH * n as usize;
-    if diagnostics.len() < at + DIAGNOSTIC_WIDTH {
+    if n == u32::MAX || diagnostics.len() < at + DIAGNOSTIC_WIDTH {
         return n;
     }
     diagnostics[at] = d.number;
@@ -48,26 +45,19 @@ pub fn push_faults(errors: &[u32], diagnostics: &mut [u32], n: u32, from: usize,
         × (errors_from errors.now result.errors ≡ late at faults) }
 {
     let mut count = n;
-    let mut i = from;
-    while i < errors.len() / ERROR_WIDTH {
+    let records = errors.len() / ERROR_WIDTH;
+    for i in from..records {
         let e = error_at(errors, i);
-        if e.error.number == 0 {
-            return Listed {
-                diagnostics: count,
-                errors: i,
-            };
-        }
-        if at < e.after {
+        if e.error.number == 0 || at < e.after {
             return Listed {
                 diagnostics: count,
                 errors: i,
             };
         }
         count = push_diagnostic(diagnostics, count, e.error);
-        i += 1;
     }
     Listed {
         diagnostics: count,
-        errors: i,
+        errors: records,
     }
 }

@@ -1,10 +1,10 @@
 -- Characters of more than one byte, read whole: what the state machine of UTF-8 does with them.
 -- Assumes nothing.
 use mathlib.Core.Path.{◌≡◌, refl, ◌∙◌, sym, ap}
-use mathlib.Core.Bool.{Bool, true, false}
+use mathlib.Core.Bool.{Bool, true, false, ◌&&◌}
 use mathlib.Core.List.{List, [], ◌∷◌}
 use Prim.Native.Nat.{ℕ, zero, suc, ◌+◌, ◌<◌, ◌≤◌}
-use native.Mathlib.Nat.{add-zero, zero-add, not-suc-le-zero}
+use native.Mathlib.Nat.{add-zero, not-suc-le-zero}
 use native.Mathlib.Omega.{arith}
 use lib.Dec.{leb, ltb, eqb}
 use lib.ListN.{length, get_or, take, drop}
@@ -187,21 +187,31 @@ lead_two b e =
 
 -- ---- a script, read from place to place: `is_boundary (state_after Boundary (drop i s))` stays what it is
 
--- plain bytes are whole characters
-plain-run : (except : ℕ) (s : List ℕ) → state_after Boundary (take (count_while (is_plain except) s) s) ≡ Boundary
-unfolding count_while is_plain state_after next_state after_lead
-plain-run except [] = refl
-plain-run except (b ∷ bs) = go (ltb b 0x80) refl (differs_from except b) refl (plain-run except bs)
+lead : (b : ℕ) → ltb b 0x80 ≡ true → (s : List ℕ) → state_after Boundary s ≡ Boundary → state_after Boundary (b ∷ s) ≡ Boundary
+unfolding state_after next_state after_lead
+lead b e s h = rw (e, after_lead) h
+
+-- bytes of ASCII are whole characters
+ascii-run : (p : ℕ → Bool) → ((b : ℕ) → p b ≡ true → ltb b 0x80 ≡ true) → (s : List ℕ) → state_after Boundary (take (count_while p s) s) ≡ Boundary
+unfolding count_while state_after next_state after_lead
+ascii-run p ascii [] = refl
+ascii-run p ascii (b ∷ bs) = go (p b) refl (ascii-run p ascii bs)
   where
-    go : (t : Bool) → ltb b 0x80 ≡ t → (u : Bool) → differs_from except b ≡ u → state_after Boundary (take (count_while (is_plain except) bs) bs) ≡ Boundary
-        → state_after Boundary (take (count_while (is_plain except) (b ∷ bs)) (b ∷ bs)) ≡ Boundary
-    go true e true f h = simp (e, f, is_plain, count_while) (rw (e, after_lead) h)
-    go true e false f h = simp (e, f, is_plain, count_while)
-    go false e u f h = simp (e, is_plain, count_while)
+    go : (t : Bool) → p b ≡ t → state_after Boundary (take (count_while p bs) bs) ≡ Boundary → state_after Boundary (take (count_while p (b ∷ bs)) (b ∷ bs)) ≡ Boundary
+    go true e h = simp (e, count_while) (lead b (ascii b e) (take (count_while p bs) bs) h)
+    go false e h = simp (e, count_while)
+
+plain_ascii : (except b : ℕ) → is_plain except b ≡ true → ltb b 0x80 ≡ true
+unfolding is_plain
+plain_ascii except b = go (ltb b 0x80)
+  where
+    go : (t : Bool) → t && differs_from except b ≡ true → t ≡ true
+    go true e = refl
+    go false e = e
 
 pub plain-utf8 : (except : ℕ) (s : List ℕ) (n : ℕ) → n ≡ count_while (is_plain except) s → utf8 (take n s) ≡ true
 unfolding utf8
-plain-utf8 except s n e = rw e (ap is_boundary (plain-run except s))
+plain-utf8 except s n e = rw e (ap is_boundary (ascii-run (is_plain except) (λ b. plain_ascii except b) s))
 
 -- a line is as well-formed without the space in front of it
 pub leading_utf8 : (line : List ℕ) → utf8 (drop (leading_space line) line) ≡ utf8 line
@@ -213,12 +223,14 @@ leading_utf8 (b ∷ bs) = go (eqb b 32) refl
     go true e = rw (eqb-true b 32 e)
     go false e = refl
 
-pub plain-front : (except : ℕ) (s : List ℕ) (n : ℕ) → n ≡ 0 + count_while (is_plain except) (drop 0 s) → (n ≤ length s) × (is_boundary (state_after Boundary (drop n s)) ≡ utf8 s)
+abbrev pub is_ascii : ℕ → Bool
+is_ascii b = ltb b 0x80
+
+pub ascii-front : (s : List ℕ) (n : ℕ) → n ≡ count_while is_ascii s → (n ≤ length s) × (is_boundary (state_after Boundary (drop n s)) ≡ utf8 s)
 unfolding utf8
-plain-front except s n e =
-    let run : n ≡ count_while (is_plain except) s = e ∙ zero-add _ in
-    let whole : state_after Boundary (take n s) ≡ Boundary = rw run (plain-run except s) in
-    (rw run (run_le (is_plain except) s), ap is_boundary (sym (split Boundary n s ∙ ap (λ (q : Utf8State). state_after q (drop n s)) whole)))
+ascii-front s n run =
+    let whole : state_after Boundary (take n s) ≡ Boundary = rw run (ascii-run is_ascii (λ b e. e) s) in
+    (rw run (run_le is_ascii s), ap is_boundary (sym (split Boundary n s ∙ ap (λ (q : Utf8State). state_after q (drop n s)) whole)))
 
 module _ (s : List ℕ) (i : ℕ) (t : Bool) (reached : is_boundary (state_after Boundary (drop i s)) ≡ t) (h : i < length s) where
   behind : is_boundary (state_after (after_lead (get_or s i 0)) (drop (i + 1) s)) ≡ t

@@ -3,7 +3,7 @@
 use mathlib.Core.Path.{◌≡◌, refl}
 use mathlib.Core.List.{[], ◌∷◌}
 use Prim.Native.Nat.{ℕ}
-use Rattle.lex.specs.declared.byte_search.Found.TheVariants.{At, Nothing}
+use Rattle.std.specs.Prelude.{Some, None}
 use Rattle.lex.specs.Bytes.{or, between, is_ws, is_digit, is_ident_start, is_ident_cont, is_num_cont, count_while, differs_from, before, find_byte}
 use Rattle.lex.specs.Kind.{k_brace_left, k_not_equal, k_dot, k_s, k_d, k_ident, k_doc, k_import, same_bytes, keywords, name_kind, punctuators, punctuator_kinds, punctuator_kind}
 use Rattle.lex.specs.Utf8.{least_second, greatest_second, after_lead, after_continuation, next_state, state_after, utf8}
@@ -45,12 +45,12 @@ examples = (refl, refl, refl, refl, refl, refl, refl, refl, refl)
 
 pub spellings :
     -- `"a"`: behind the quote
-    (spelling (34 ∷ 97 ∷ 34 ∷ []) (record { kind = k_s; start = 0; len = 1 }) ≡ At 1)
+    (spelling (34 ∷ 97 ∷ 34 ∷ []) (record { kind = k_s; start = 0; len = 1 }) ≡ Some 1)
     -- `#! d`, and `#!d`: behind `#!` and one blank
-    × (spelling (35 ∷ 33 ∷ 32 ∷ 100 ∷ []) (record { kind = k_doc; start = 0; len = 1 }) ≡ At 3)
-    × (spelling (35 ∷ 33 ∷ 100 ∷ []) (record { kind = k_doc; start = 0; len = 1 }) ≡ At 2)
+    × (spelling (35 ∷ 33 ∷ 32 ∷ 100 ∷ []) (record { kind = k_doc; start = 0; len = 1 }) ≡ Some 3)
+    × (spelling (35 ∷ 33 ∷ 100 ∷ []) (record { kind = k_doc; start = 0; len = 1 }) ≡ Some 2)
     -- a name that would end behind the script has none, nor has a sign
-    × (spelling (97 ∷ []) (record { kind = k_ident; start = 0; len = 2 }) ≡ Nothing)
-    × (spelling (40 ∷ []) (record { kind = k_brace_left; start = 0; len = 1 }) ≡ Nothing)
+    × (spelling (97 ∷ []) (record { kind = k_ident; start = 0; len = 2 }) ≡ None)
+    × (spelling (40 ∷ []) (record { kind = k_brace_left; start = 0; len = 1 }) ≡ None)
 unfolding spelling spelling_start spelling_offset leading_space
 spellings = (refl, refl, refl, refl, refl)

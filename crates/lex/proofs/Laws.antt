@@ -8,14 +8,15 @@ use native.Mathlib.Nat.{add-zero, zero-add, le_of_suc-le-suc, not-suc-le-zero}
 use native.Mathlib.Numerals.{add-one}
 use native.Mathlib.Omega.{arith}
 use lib.ListN.{length, get_or, take, drop, length-take, length-drop, drop_of_length-le}
-use lib.Seq.{drop-cons, drop-drop, get_or-drop}
+use lib.Seq.{drop-cons}
 use lib.Dec.{leb, ltb, eqb, leb-zero, leb-suc-zero, leb-suc-suc}
 use borrow.Author.Tests.{lt-ltb, le-ltb, ltb-true, leb-true, eq-eqb, ne_eqb, eqb-false}
-use Rattle.lex.specs.declared.byte_search.Found.{Found}
-use Rattle.lex.specs.declared.byte_search.Found.TheVariants.{At, Nothing}
+use Rattle.std.specs.Prelude.{Option, Some, None, MatchOption}
+use Rattle.std.specs.Borrow.{Bor}
+use Rattle.std.specs.Cmp.Lexicographic.{pointwise}
 use Rattle.lex.specs.declared.utf8.Utf8State.{Utf8State}
-use Rattle.lex.specs.Bytes.{count_while, differs_from, is_plain, before, find_byte}
-use Rattle.lex.specs.Kind.{Keyword, k_ident, same_bytes, name_kind}
+use Rattle.lex.specs.Bytes.{Computes, count_while, differs_from, is_plain, before, find_byte}
+use Rattle.lex.specs.Kind.{Keyword, k_ident, same_bytes, name_kind, text_at}
 use Rattle.lex.specs.Utf8.{next_state, state_after}
 use Rattle.lex.specs.Lex.{leading_space}
 
@@ -28,10 +29,10 @@ pub cases : {A : Type 0} (P : A → Type 0) {a b : A} (t : Bool) → (t ≡ true
 cases P true f g = f refl
 cases P false f g = g refl
 
-pub found-cases : {A : Type 0} (P : A → Type 0) {a : ℕ → A} {b : A} (f : Found) → ((i : ℕ) → f ≡ At i → P (a i)) → (f ≡ Nothing → P b)
-    → P (elim f as (λ (_ : Found). A) [ At i ↦ a i | Nothing ↦ b ])
-found-cases P (At i) f g = f i refl
-found-cases P Nothing f g = g refl
+pub found-cases : {A : Type 0} (P : A → Type 0) {a : ℕ → A} {b : A} (f : Option ℕ) → ((i : ℕ) → f ≡ Some i → P (a i)) → (f ≡ None → P b)
+    → P (elim f as (λ (_ : Option ℕ). A) [ Some i ↦ a i | None ↦ b ])
+found-cases P (Some i) f g = f i refl
+found-cases P None f g = g refl
 
 -- ---- tables that antt computes
 
@@ -57,12 +58,6 @@ pub at_each : {A : Type 0} (p : ℕ → Bool) (f : ℕ → A) (v : A) (b : ℕ) 
     → b < 256 → p b ≡ true → f b ≡ v
 at_each {A} p f v b e h q = rw q at (agree (λ (x : ℕ). elim (p x) as (λ (_ : Bool). A) [ true ↦ f x | false ↦ v ]) (λ (x : ℕ). v) v 256 b e h)
 
--- properties that agree have runs of the same length
-run_agree : (p q : ℕ → Bool) → ((b : ℕ) → p b ≡ q b) → (s : List ℕ) → count_while p s ≡ count_while q s
-unfolding count_while
-run_agree p q h [] = refl
-run_agree p q h (b ∷ bs) = rw (h b, count_while) (ap (λ (n : ℕ). elim (q b) as (λ (_ : Bool). ℕ) [ true ↦ suc n | false ↦ 0 ]) (run_agree p q h bs))
-
 -- ---- a run, scanned one byte at a time: `i + count_while p (drop i s)` stays what it is
 
 module _ (p : ℕ → Bool) (s : List ℕ) (i n : ℕ) (scanned : i + count_while p (drop i s) ≡ n) where
@@ -74,13 +69,18 @@ module _ (p : ℕ → Bool) (s : List ℕ) (i n : ℕ) (scanned : i + count_whil
   unfolding count_while
   run_stop h e = omega (arith, rw (drop-cons s i 0 h, e, count_while) at scanned)
 
-  pub run_end : length s ≤ i → i ≡ n
-  unfolding count_while
-  run_end h = omega (arith, rw (drop_of_length-le s h) at scanned)
+-- a run, by what a test answers of each of its bytes and of the one behind it
+run_is : (p : ℕ → Bool) (s : List ℕ) (n : ℕ) → n ≤ length s → ((k : ℕ) → k < n → p (get_or s k 0) ≡ true) → (n < length s → p (get_or s n 0) ≡ false) → n ≡ count_while p s
+unfolding count_while
+run_is p [] n within front behind = omega arith
+run_is p (b ∷ bs) zero within front behind = rw (behind (omega arith), count_while)
+run_is p (b ∷ bs) (suc n) within front behind =
+    rw (front 0 (omega arith), count_while) (ap suc (run_is p bs n (le_of_suc-le-suc within) (λ k h. front (suc k) (suc-le-suc h)) (λ h. behind (suc-le-suc h))))
 
--- a run that is scanned from the front on
-pub run-all : (p q : ℕ → Bool) → ((b : ℕ) → q b ≡ p b) → (s : List ℕ) (r : ℕ) → r ≡ 0 + count_while q (drop 0 s) → r ≡ count_while p s
-run-all p q same s r e = e ∙ zero-add _ ∙ run_agree q p same s
+pub run_counted : (post : ℕ → Bool → Type 0) (p : ℕ → Bool) → Computes post p → (s : List ℕ) (n : ℕ) → n ≤ length s
+    → ((k : ℕ) → k < n → post (get_or s k 0) true) → (n < length s → post (get_or s n 0) false) → n ≡ count_while p s
+run_counted post p computes s n within front behind =
+    run_is p s n within (λ k h. sym (computes (get_or s k 0) true (front k h))) (λ h. sym (computes (get_or s n 0) false (behind h)))
 
 pub run_pos : (p : ℕ → Bool) (s : List ℕ) → 0 < length s → p (get_or s 0 0) ≡ true → 0 < count_while p s
 unfolding count_while
@@ -113,18 +113,8 @@ window_more p (suc k) (b ∷ bs) h = go (p b) refl (window_more p k bs (le_of_su
     go true e more = simp (e, count_while) (rw (leb-suc-suc, leb-suc-suc) more)
     go false e more = simp (e, count_while) (rw (leb-suc-zero, leb-suc-zero))
 
--- from a place on: whether the first `k` bytes are all of the run
-module _ (p : ℕ → Bool) (s : List ℕ) (at : ℕ) where
-  pub window_none : true ≡ leb 0 (count_while p (drop at s))
-  window_none = sym (leb-zero (count_while p (drop at s)))
-
-  pub window_next : (k : ℕ) (t u : Bool) → at + k < length s → t ≡ leb k (count_while p (drop at s)) → u ≡ p (get_or s (at + k) 0)
-      → t && u ≡ leb (k + 1) (count_while p (drop at s))
-  window_next k t u h e f =
-      rw (e, f, ← get_or-drop at s k 0, add-one) (window_more p k (drop at s) (omega (arith, length-drop at s)))
-
-  pub window_end : (k : ℕ) (t : Bool) (w : ℕ) → t ≡ leb k (count_while p (drop at s)) → k ≡ w → t ≡ leb w (count_while p (drop at s))
-  window_end k t w e f = e ∙ ap (λ (n : ℕ). leb n (count_while p (drop at s))) f
+pub window_next : (p : ℕ → Bool) (s : List ℕ) (k : ℕ) (t u : Bool) → k < length s → t ≡ leb k (count_while p s) → u ≡ p (get_or s k 0) → t && u ≡ leb (k + 1) (count_while p s)
+window_next p s k t u h e f = rw (e, f, add-one) (window_more p k s h)
 
 -- a run goes on behind its first `k` bytes
 run-over : (p : ℕ → Bool) (k : ℕ) (s : List ℕ) → k ≤ count_while p s → k + count_while p (drop k s) ≡ count_while p s
@@ -138,8 +128,47 @@ run-over p (suc k) (b ∷ bs) h = go (p b) refl (run-over p k bs)
     go true e more = simp (e, count_while) (omega (arith, more (omega (arith, simp (e, count_while) at h))))
     go false e more = absurd (omega (arith, simp (e, count_while) at h))
 
-pub run_window : (p : ℕ → Bool) (s : List ℕ) (i n : ℕ) → i + count_while p (drop i s) ≡ n → (k : ℕ) → k ≤ count_while p (drop i s) → i + k + count_while p (drop (i + k) s) ≡ n
-run_window p s i n scanned k h = rw (← drop-drop k i s) (omega (arith, run-over p k (drop i s) h))
+-- the run in front of a list is no longer than that of all of it
+run-front : (p : ℕ → Bool) (k : ℕ) (s : List ℕ) → count_while p (take k s) ≤ count_while p s
+unfolding count_while
+run-front p zero s = zero-le
+run-front p (suc k) [] = zero-le
+run-front p (suc k) (b ∷ bs) = go (p b) (run-front p k bs)
+  where
+    go : (t : Bool) → count_while p (take k bs) ≤ count_while p bs
+        → elim t as (λ (_ : Bool). ℕ) [ true ↦ suc (count_while p (take k bs)) | false ↦ 0 ] ≤ elim t as (λ (_ : Bool). ℕ) [ true ↦ suc (count_while p bs) | false ↦ 0 ]
+    go true h = suc-le-suc h
+    go false h = zero-le
+
+-- what of the run follows stays what it is over a window that has the property
+pub run_window : (p : ℕ → Bool) (all rest window after : List ℕ) (k : ℕ) → length rest + count_while p all ≡ length all + count_while p rest
+    → window ≡ take k rest → after ≡ drop k rest → k ≤ count_while p window → length after + count_while p all ≡ length all + count_while p after
+run_window p all rest window after k passed front behind all_have =
+    let over : k ≤ count_while p rest = omega (arith, rw front at all_have, run-front p k rest) in
+    rw behind (omega (arith, passed, length-drop k rest, run-over p k rest over, run_le p rest))
+
+-- a run that ends in the first `k` bytes is that of all of them
+run-part : (p : ℕ → Bool) (k : ℕ) (s : List ℕ) → count_while p (take k s) < k → count_while p (take k s) ≡ count_while p s
+unfolding count_while
+run-part p zero s h = absurd (not-suc-le-zero h)
+run-part p (suc k) [] h = refl
+run-part p (suc k) (b ∷ bs) h = go (p b) (run-part p k bs) h
+  where
+    go : (t : Bool) → (count_while p (take k bs) < k → count_while p (take k bs) ≡ count_while p bs)
+        → elim t as (λ (_ : Bool). ℕ) [ true ↦ suc (count_while p (take k bs)) | false ↦ 0 ] < suc k
+        → elim t as (λ (_ : Bool). ℕ) [ true ↦ suc (count_while p (take k bs)) | false ↦ 0 ] ≡ elim t as (λ (_ : Bool). ℕ) [ true ↦ suc (count_while p bs) | false ↦ 0 ]
+    go true more h = ap suc (more (le_of_suc-le-suc h))
+    go false more h = refl
+
+-- a run, by what is counted of the first `k` bytes and of those behind them
+module _ (p : ℕ → Bool) (s front : List ℕ) (k n : ℕ) (first : front ≡ take k s) (counted : n ≡ count_while p front) where
+  pub run_near : n < k → n ≡ count_while p s
+  run_near h = let e : n ≡ count_while p (take k s) = rw first at counted in e ∙ run-part p k s (omega arith)
+
+  pub run_far : k ≤ n → (m : ℕ) → m ≡ count_while p (drop k s) → k + m ≡ count_while p s
+  run_far h m e =
+      let c : n ≡ count_while p (take k s) = rw first at counted in
+      ap (λ (x : ℕ). k + x) e ∙ run-over p k s (omega (arith, run-front p k s))
 
 -- a run of a weaker property goes on behind that of a stronger one
 pub run-split : (p q : ℕ → Bool) → ((b : ℕ) → p b ≡ true → q b ≡ true) → (s : List ℕ) → count_while p s + count_while q (drop (count_while p s) s) ≡ count_while q s
@@ -163,18 +192,18 @@ plain_differs b x = go (ltb x 0x80)
 -- ---- what `find_byte` answers, by where the first `b` stands
 
 module _ (b : ℕ) (s : List ℕ) (i : ℕ) where
-  pub find_hit : i ≡ before b s → i < length s → At i ≡ find_byte b s
+  pub find_hit : i ≡ before b s → i < length s → Some i ≡ find_byte b s
   unfolding find_byte
-  find_hit e h = rw (← e, lt-ltb i (length s) h, find_byte) (ap At e)
+  find_hit e h = rw (← e, lt-ltb i (length s) h, find_byte) (ap Some e)
 
-  pub find_miss : i ≡ before b s → length s ≤ i → Nothing ≡ find_byte b s
+  pub find_miss : i ≡ before b s → length s ≤ i → None ≡ find_byte b s
   unfolding find_byte
   find_miss e h = rw (← e, le-ltb i (length s) h, find_byte)
 
-  pub found : find_byte b s ≡ At i → (i ≡ before b s) × (i < length s)
+  pub found : find_byte b s ≡ Some i → (i ≡ before b s) × (i < length s)
   unfolding find_byte
   found =
-      cases (λ (f : Found). f ≡ At i → (i ≡ before b s) × (i < length s)) (ltb (before b s) (length s))
+      cases (λ (f : Option ℕ). f ≡ Some i → (i ≡ before b s) × (i < length s)) (ltb (before b s) (length s))
       (λ q e. let n : before b s ≡ i = cc in (sym n, rw n at (ltb-true (before b s) (length s) q)))
       (λ q e. let z : ◌≡◌ {A = ℕ} 0 1 = cc in absurd (omega arith))
 
@@ -183,7 +212,7 @@ unfolding before
 before_le b s = run_le (differs_from b) s
 
 -- a byte that is found in a part of a list
-pub found_part : (b m a : ℕ) (s : List ℕ) (i : ℕ) → find_byte b (take m (drop a s)) ≡ At i → (i < m) × (a + i < length s)
+pub found_part : (b m a : ℕ) (s : List ℕ) (i : ℕ) → find_byte b (take m (drop a s)) ≡ Some i → (i < m) × (a + i < length s)
 found_part b m a s i e =
     let h = simp (length-take, length-drop) at (found b (take m (drop a s)) i e).1 in
     (omega arith, omega arith)
@@ -211,20 +240,31 @@ module _ (p : Utf8State) (s : List ℕ) (i : ℕ) (q : Utf8State) (reached : sta
   unfolding state_after
   place_end h = rw (drop_of_length-le s h) at reached
 
--- ---- two spellings, compared one byte at a time
+-- ---- tables of texts
 
-module _ (a b : List ℕ) (i : ℕ) (t : Bool) (compared : same_bytes (drop i a) (drop i b) ≡ t) (ha : i < length a) (hb : i < length b) where
-  pub same_more : get_or a i 0 ≡ get_or b i 0 → same_bytes (drop (i + 1) a) (drop (i + 1) b) ≡ t
-  unfolding same_bytes
-  same_more e = rw add-one (rw (drop-cons a i 0 ha, drop-cons b i 0 hb, eq-eqb (get_or a i 0) (get_or b i 0) e, same_bytes) at compared)
+pub text_inside : (xs : List (Bor (List ℕ))) (k : ℕ) (t d : Bor (List ℕ)) → k < length xs → t ≡ get_or xs k d → t.now ≡ text_at xs k
+text_inside [] k t d h e = absurd (not-suc-le-zero h)
+text_inside (x ∷ xs) zero t d h e = ap (λ (b : Bor (List ℕ)). b.now) e
+text_inside (x ∷ xs) (suc k) t d h e = text_inside xs k t d (le_of_suc-le-suc h) e
 
-  pub same_less : (get_or a i 0 ≡ get_or b i 0 → ⊥) → false ≡ t
-  unfolding same_bytes
-  same_less e = rw (drop-cons a i 0 ha, drop-cons b i 0 hb, ne_eqb (get_or a i 0) (get_or b i 0) e, same_bytes) at compared
+-- what each case says is weakened
+pub match_weaker : {A : Type 0} {P P' : Type 0} {Q Q' : A → Type 0} (o : Option A) → (P → P') → ((a : A) → Q a → Q' a) → MatchOption o P Q → MatchOption o P' Q'
+match_weaker None f g h = f h
+match_weaker (Some a) f g h = g a h
 
-pub same_end : (a b : List ℕ) (i : ℕ) (t : Bool) → same_bytes (drop i a) (drop i b) ≡ t → length a ≤ i → length b ≤ i → true ≡ t
+-- ---- two spellings
+
+-- the library's `==` compares them as `same_bytes` does
+pub same-pointwise : (a b : List ℕ) → pointwise eqb a b ≡ same_bytes a b
 unfolding same_bytes
-same_end a b i t compared ha hb = rw (drop_of_length-le a ha, drop_of_length-le b hb) at compared
+same-pointwise [] [] = refl
+same-pointwise [] (y ∷ ys) = refl
+same-pointwise (x ∷ xs) [] = refl
+same-pointwise (x ∷ xs) (y ∷ ys) = go (eqb x y) (same-pointwise xs ys)
+  where
+    go : (t : Bool) → pointwise eqb xs ys ≡ same_bytes xs ys → t && pointwise eqb xs ys ≡ elim t as (λ (_ : Bool). Bool) [ true ↦ same_bytes xs ys | false ↦ false ]
+    go true e = e
+    go false e = refl
 
 pub same_length : (a b : List ℕ) → (length a ≡ length b → ⊥) → same_bytes a b ≡ false
 unfolding same_bytes
@@ -255,7 +295,7 @@ none_before A b (x ∷ xs) n =
     let r = none_before (A × (b ≡ x → ⊥)) b xs n in
     (r.0.0, rw (ne_eqb x b (λ e. r.0.1 (sym e)), count_while) (ap suc r.1))
 
-pub none_found : (b : ℕ) (xs : List ℕ) → NoneOf (Unit {0}) b xs → find_byte b xs ≡ Nothing
+pub none_found : (b : ℕ) (xs : List ℕ) → NoneOf (Unit {0}) b xs → find_byte b xs ≡ None
 none_found b xs n = sym (find_miss b xs (length xs) (sym (none_before (Unit {0}) b xs n).1) (omega arith))
 
 -- ---- a name, looked up by its first byte

@@ -9,7 +9,7 @@ use lib.Dec.{eqb}
 use lib.ListN.{get_or, take, drop, length-take}
 use lib.Seq.{length-take-le, drop-drop, get_or-drop}
 use borrow.Author.Tests.{eq-eqb, ne_eqb}
-use Rattle.lex.specs.declared.byte_search.Found.TheVariants.{At, Nothing}
+use Rattle.std.specs.Prelude.{Some, None}
 use Rattle.lex.specs.declared.tok.Piece.{Piece}
 use Rattle.lex.specs.Bytes.{or, between, is_digit, is_ident_start, is_num_cont, count_while, differs_from, before, find_byte}
 use Rattle.lex.specs.Kind.{k_i, k_d}
@@ -77,7 +77,7 @@ module _ (s : List ℕ) (d : ℕ) (front : d ≡ count_while is_digit s) where
     run-whole : count_while is_num_cont s ≡ d
     run-whole = digits-all s (rw front at h) ∙ sym front
 
-    dot_none : find_byte 46 (take (count_while is_num_cont s) s) ≡ Nothing
+    dot_none : find_byte 46 (take (count_while is_num_cont s) s) ≡ None
     dot_none =
         let n = count_while is_num_cont s in
         sym (find_miss 46 (take n s) d (front ∙ dot_behind s) (omega (arith, run-whole, length-take n s)))
@@ -86,7 +86,7 @@ module _ (s : List ℕ) (d : ℕ) (front : d ≡ count_while is_digit s) where
     dot_before : d < count_while is_num_cont s
     dot_before = rw front (dot_inside s (rw front at dot))
 
-    dot_found : find_byte 46 (take (count_while is_num_cont s) s) ≡ At d
+    dot_found : find_byte 46 (take (count_while is_num_cont s) s) ≡ Some d
     dot_found =
         let n = count_while is_num_cont s in
         sym (find_hit 46 (take n s) d (front ∙ dot_behind s) (omega (arith, dot_before, length-take-le n s (run_le is_num_cont s))))

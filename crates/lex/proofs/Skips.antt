@@ -45,14 +45,17 @@ comment (b ∷ bs) = go (eqb b 10) refl (comment bs)
     go false q h = simp (q, skipped, count_while, differs_from) (omega arith)
 
 -- spaces are blanks
-spaces : (bs : List ℕ) → count_while (eqb 32) bs + skipped false (drop (count_while (eqb 32) bs) bs) ≡ skipped false bs
+abbrev pub is_space : ℕ → Bool
+is_space b = eqb b 32
+
+spaces : (bs : List ℕ) → count_while is_space bs + skipped false (drop (count_while is_space bs) bs) ≡ skipped false bs
 unfolding skipped count_while
 spaces [] = refl
-spaces (b ∷ bs) = go (eqb 32 b) refl (spaces bs)
+spaces (b ∷ bs) = go (eqb b 32) refl (spaces bs)
   where
-    go : (t : Bool) → eqb 32 b ≡ t → count_while (eqb 32) bs + skipped false (drop (count_while (eqb 32) bs) bs) ≡ skipped false bs
-        → count_while (eqb 32) (b ∷ bs) + skipped false (drop (count_while (eqb 32) (b ∷ bs)) (b ∷ bs)) ≡ skipped false (b ∷ bs)
-    go true q h = simp (q, space_separates b (sym (eqb-true 32 b q)), skipped, count_while) (omega arith)
+    go : (t : Bool) → eqb b 32 ≡ t → count_while is_space bs + skipped false (drop (count_while is_space bs) bs) ≡ skipped false bs
+        → count_while is_space (b ∷ bs) + skipped false (drop (count_while is_space (b ∷ bs)) (b ∷ bs)) ≡ skipped false (b ∷ bs)
+    go true q h = simp (q, space_separates b (eqb-true b 32 q), skipped, count_while) (omega arith)
     go false q h = simp (q, count_while) (zero-add _)
 
 hash : (b next : ℕ) → begins_comment b next ≡ true → b ≡ 35
@@ -77,8 +80,8 @@ module _ (s : List ℕ) (i n : ℕ) (scanned : i + skipped false (drop i s) ≡ 
   unfolding skipped
   skip_end h = omega (arith, rw (drop_of_length-le s h) at scanned)
 
-  pub skip_spaces : (k : ℕ) → k ≡ i + count_while (eqb 32) (drop i s) → k + skipped false (drop k s) ≡ n
-  skip_spaces k e = rw (e, ← drop-drop (count_while (eqb 32) (drop i s)) i s) (omega (arith, spaces (drop i s)))
+  pub skip_spaces : (k : ℕ) → k ≡ i + count_while is_space (drop i s) → k + skipped false (drop k s) ≡ n
+  skip_spaces k e = rw (e, ← drop-drop (count_while is_space (drop i s)) i s) (omega (arith, spaces (drop i s)))
 
   module _ (h : i < length s) where
     pub skip_blank : is_ws (get_or s i 0) ≡ true → i + 1 + skipped false (drop (i + 1) s) ≡ n

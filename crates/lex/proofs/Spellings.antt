@@ -9,8 +9,7 @@ use native.Mathlib.Omega.{arith}
 use lib.Dec.{ltb, leb, eqb}
 use lib.ListN.{length, get_or, take, drop, length-take, length-drop}
 use borrow.Author.Tests.{ltb-true, eqb-true, leb-true, le-leb, lt-leb, ne_eqb}
-use Rattle.lex.specs.declared.byte_search.Found.{Found}
-use Rattle.lex.specs.declared.byte_search.Found.TheVariants.{At, Nothing}
+use Rattle.std.specs.Prelude.{Option, Some, None}
 use Rattle.lex.specs.declared.tok.Token.{Token}
 use Rattle.lex.specs.declared.tok.Piece.{Piece}
 use Rattle.lex.specs.declared.tok.Step.{Step}
@@ -36,25 +35,25 @@ pub has_spelling_lem : (k : ℕ) → k_s ≤ k → k ≤ k_doc → has_spelling 
 has_spelling_lem k h l = rw (le-leb k_s k h, le-leb k k_doc l, has_spelling)
 
 module _ (script : List ℕ) (t : Token) where
-  pub spelling_other : has_spelling t.kind ≡ false → spelling script t ≡ Nothing
+  pub spelling_other : has_spelling t.kind ≡ false → spelling script t ≡ None
   unfolding spelling
   spelling_other e = rw (e, spelling)
 
-  pub spelling_outside : length script < spelling_start script t + t.len → spelling script t ≡ Nothing
+  pub spelling_outside : length script < spelling_start script t + t.len → spelling script t ≡ None
   unfolding spelling
   spelling_outside h =
-      cases (λ (f : Found). f ≡ Nothing) (has_spelling t.kind) (λ e. rw (lt-leb (spelling_start script t + t.len) (length script) h)) (λ e. refl)
+      cases (λ (f : Option ℕ). f ≡ None) (has_spelling t.kind) (λ e. rw (lt-leb (spelling_start script t + t.len) (length script) h)) (λ e. refl)
 
-  pub spelling-inside : has_spelling t.kind ≡ true → spelling_start script t + t.len ≤ length script → spelling script t ≡ At (spelling_start script t)
+  pub spelling-inside : has_spelling t.kind ≡ true → spelling_start script t + t.len ≤ length script → spelling script t ≡ Some (spelling_start script t)
   unfolding spelling
   spelling-inside e h = rw (e, le-leb (spelling_start script t + t.len) (length script) h, spelling)
 
   -- what `spelling` finds lies in the script
-  pub spelling-found : (i : ℕ) → spelling script t ≡ At i → (i ≡ spelling_start script t) × (i + t.len ≤ length script)
+  pub spelling-found : (i : ℕ) → spelling script t ≡ Some i → (i ≡ spelling_start script t) × (i + t.len ≤ length script)
   unfolding spelling
   spelling-found i =
-      cases (λ (f : Found). f ≡ At i → (i ≡ spelling_start script t) × (i + t.len ≤ length script)) (has_spelling t.kind)
-      (λ e. cases (λ (f : Found). f ≡ At i → (i ≡ spelling_start script t) × (i + t.len ≤ length script)) (leb (spelling_start script t + t.len) (length script))
+      cases (λ (f : Option ℕ). f ≡ Some i → (i ≡ spelling_start script t) × (i + t.len ≤ length script)) (has_spelling t.kind)
+      (λ e. cases (λ (f : Option ℕ). f ≡ Some i → (i ≡ spelling_start script t) × (i + t.len ≤ length script)) (leb (spelling_start script t + t.len) (length script))
       (λ l q. let n : spelling_start script t ≡ i = cc in (sym n, rw n at (leb-true (spelling_start script t + t.len) (length script) l)))
       (λ l q. let z : ◌≡◌ {A = ℕ} 0 1 = cc in absurd (omega arith)))
       (λ e q. let z : ◌≡◌ {A = ℕ} 0 1 = cc in absurd (omega arith))
@@ -167,7 +166,7 @@ module _ (bs : List ℕ) where
 pub record Spelled (script : List ℕ) (t : Token) : Type 0 where
   pub least : 1 ≤ t.kind
   pub greatest : t.kind ≤ 43
-  pub within : has_spelling t.kind ≡ true → spelling script t ≡ At (spelling_start script t)
+  pub within : has_spelling t.kind ≡ true → spelling script t ≡ Some (spelling_start script t)
 
 abbrev pub Spells : List ℕ → Step → Type 0
 Spells script (Step.Token t next) = Spelled script t

@@ -7,11 +7,10 @@ use native.Mathlib.Omega.{arith}
 use lib.Dec.{ltb, leb}
 use lib.ListN.{length, get_or-eq_default}
 use borrow.Author.Tests.{le-leb, lt-leb, ltb-true, ltb-false, leb-true}
+use Rattle.std.specs.Prelude.{Option, Some, None}
 use Rattle.lex.specs.Bytes.{between}
 use Rattle.lex.specs.Kind.{k_s, k_doc, keywords, fixed_spellings, fixed_spelling}
 use Rattle.lex.specs.Spelling.{spelling_offset, spelling_start, has_spelling, spelling, well_formed, as_str_length}
-use Rattle.lex.specs.declared.byte_search.Found.{Found}
-use Rattle.lex.specs.declared.byte_search.Found.TheVariants.{At, Nothing}
 use Rattle.lex.specs.declared.tok.Token.{Token}
 use Rattle.lex.proofs.Laws.{cases, agree}
 use Rattle.lex.proofs.Spellings.{no-spelling-below, no-spelling_above, has_spelling_lem}
@@ -36,23 +35,23 @@ own-known k = cases (λ (h : Bool). h ≡ true → between 1 43 k ≡ true) (leb
 
 module _ (s : List ℕ) (t : Token) where
   -- a token is well formed if its spelling is found, or its kind has a fixed one
-  pub well_formed_is : well_formed s t ≡ elim (spelling s t) [ At i ↦ true | Nothing ↦ ltb 0 (length (fixed_spelling t.kind)) ]
+  pub well_formed_is : well_formed s t ≡ elim (spelling s t) [ Some i ↦ true | None ↦ ltb 0 (length (fixed_spelling t.kind)) ]
   unfolding well_formed spelling
   well_formed_is = go (between 1 43 t.kind) (has_spelling t.kind) (leb (spelling_start s t + t.len) (length s)) _ (own-known t.kind) (fixed_is t.kind)
     where
       go : (b h l f : Bool) → (h ≡ true → b ≡ true) → f ≡ (not h && b)
           → ◌≡◌ {A = Bool} (elim b [ true ↦ elim h [ true ↦ l | false ↦ true ] | false ↦ false ])
-          (elim (elim h as (λ (_ : Bool). Found) [ true ↦ elim l [ true ↦ At (spelling_start s t) | false ↦ Nothing ] | false ↦ Nothing ]) [ At i ↦ true | Nothing ↦ f ])
+          (elim (elim h as (λ (_ : Bool). Option ℕ) [ true ↦ elim l [ true ↦ Some (spelling_start s t) | false ↦ None ] | false ↦ None ]) [ Some i ↦ true | None ↦ f ])
       go true true true f k e = refl
       go true true false f k e = sym e
       go true false l f k e = sym e
       go false true l f k e = let z : false ≡ true = k refl in let o : ◌≡◌ {A = ℕ} 0 1 = cc in absurd (omega arith)
       go false false l f k e = sym e
 
-  pub well_formed-found : (i : ℕ) → spelling s t ≡ At i → well_formed s t ≡ true
+  pub well_formed-found : (i : ℕ) → spelling s t ≡ Some i → well_formed s t ≡ true
   well_formed-found i e = well_formed_is ∙ rw e
 
-  pub well_formed-nothing : spelling s t ≡ Nothing → well_formed s t ≡ ltb 0 (length (fixed_spelling t.kind))
+  pub well_formed-nothing : spelling s t ≡ None → well_formed s t ≡ ltb 0 (length (fixed_spelling t.kind))
   well_formed-nothing e = well_formed_is ∙ rw e
 
   -- the spelling of a well-formed token lies in the script

@@ -1,7 +1,5 @@
 -- The classes of bytes, runs of bytes, and the first place of a byte.
-use Rattle.std.specs.Prelude.{Bool, true, false, not, ◌&&◌, List, [], ◌∷◌, ℕ, zero, suc, ◌+◌, leb, ltb, eqb, length}
-use Rattle.lex.specs.declared.byte_search.Found.{Found}
-use Rattle.lex.specs.declared.byte_search.Found.TheVariants.{At, Nothing}
+use Rattle.std.specs.Prelude.{◌≡◌, Bool, true, false, not, ◌&&◌, List, [], ◌∷◌, ℕ, zero, suc, ◌+◌, leb, ltb, eqb, length, Option, Some, None}
 
 abbrev pub if : {A : Type 0} → Bool → A → A → A
 if true a b = a
@@ -56,6 +54,10 @@ classes_from b (suc n) = class_of b ∷ classes_from (suc b) n
 unfoldable pub class_table : List ℕ
 class_table = classes_from 0 256
 
+-- what a test may answer of a byte is whether it has the property
+abbrev pub Computes : (ℕ → Bool → Type 0) → (ℕ → Bool) → Type 0
+Computes post p = (b : ℕ) (r : Bool) → post b r → r ≡ p b
+
 -- how many bytes in front have the property
 unfoldable pub count_while : (ℕ → Bool) → List ℕ → ℕ
 count_while p [] = 0
@@ -68,22 +70,10 @@ differs_from b x = not (eqb x b)
 unfoldable pub is_plain : ℕ → ℕ → Bool
 is_plain except b = ltb b 0x80 && differs_from except b
 
--- the sets of bytes that scans pass over, by number; the last one has all bytes but `except`
-unfoldable pub in_set : ℕ → ℕ → ℕ → Bool
-in_set set except b =
-    elim (eqb set 0) [
-      | true ↦ is_ident_cont b
-      | false ↦
-          elim (eqb set 1) [
-            | true ↦ is_digit b
-            | false ↦ elim (eqb set 2) [ true ↦ is_plain except b | false ↦ differs_from except b ]
-          ]
-    ]
-
 -- how many bytes stand before the first `b`; all of them where there is none
 unfoldable pub before : ℕ → List ℕ → ℕ
 before b bs = count_while (differs_from b) bs
 
 -- the place of the first `b`
-unfoldable pub find_byte : ℕ → List ℕ → Found
-find_byte b bs = elim (ltb (before b bs) (length bs)) [ true ↦ At (before b bs) | false ↦ Nothing ]
+unfoldable pub find_byte : ℕ → List ℕ → Option ℕ
+find_byte b bs = elim (ltb (before b bs) (length bs)) [ true ↦ Some (before b bs) | false ↦ None ]

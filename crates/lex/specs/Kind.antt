@@ -1,7 +1,7 @@
 -- The kinds of token, numbered in the order of `Type`, the signs, the keyword table and the fixed
 -- spellings.
-use Rattle.std.specs.Prelude.{Bool, true, false, List, [], ◌∷◌, map, ℕ, eqb, get_or}
-use Rattle.lex.specs.declared.byte_search.Found.TheVariants.{At, Nothing}
+use Rattle.std.specs.Prelude.{◌≡◌, ◌<◌, Bool, true, false, List, [], ◌∷◌, map, ℕ, eqb, get_or, Some, None, codes}
+use Rattle.std.specs.Borrow.{Bor}
 use Rattle.lex.specs.Bytes.{find_byte}
 
 abbrev pub k_eof : ℕ
@@ -186,7 +186,32 @@ punctuator_kinds =
 
 -- the kind of a sign of one byte; 0 where the byte is none
 unfoldable pub punctuator_kind : ℕ → ℕ
-punctuator_kind b = elim (find_byte b punctuators) [ At i ↦ get_or punctuator_kinds i 0 | Nothing ↦ 0 ]
+punctuator_kind b = elim (find_byte b punctuators) [ Some i ↦ get_or punctuator_kinds i 0 | None ↦ 0 ]
+
+-- the kind of a sign
+pub record IsKindOf (b kind : ℕ) : Type 0 where
+  pub same : kind ≡ punctuator_kind b
+  pub some : 0 < kind
+
+-- the text at a number of a table; empty where it has none
+abbrev pub text_at : List (Bor (List ℕ)) → ℕ → List ℕ
+text_at table n = get_or (map (λ (t : Bor (List ℕ)). t.now) table) n []
+
+-- the names of the kinds; 0 is none
+unfoldable pub kind_names : List (List ℕ)
+kind_names =
+    [] ∷ codes "Eof" ∷ codes "BraceLeft" ∷ codes "BraceRight" ∷ codes "Plus" ∷ codes "Minus" ∷
+    codes "Asteriks" ∷ codes "Slash" ∷ codes "Percent" ∷ codes "Equal" ∷ codes "DoubleEqual" ∷
+    codes "LessThan" ∷ codes "GreaterThan" ∷ codes "Exclaim" ∷ codes "NotEqual" ∷
+    codes "Question" ∷ codes "Colon" ∷ codes "Dot" ∷ codes "BraketLeft" ∷ codes "BraketRight" ∷
+    codes "CurlyLeft" ∷ codes "CurlyRight" ∷ codes "S" ∷ codes "D" ∷ codes "I" ∷
+    codes "Ident" ∷ codes "Doc" ∷ codes "Import" ∷ codes "Extern" ∷ codes "Let" ∷ codes "Fn" ∷
+    codes "Match" ∷ codes "As" ∷ codes "True" ∷ codes "False" ∷ codes "Str" ∷ codes "Int" ∷
+    codes "Double" ∷ codes "Bool" ∷ codes "Void" ∷ codes "Option" ∷ codes "Array" ∷
+    codes "Foreign" ∷ codes "Record" ∷ []
+
+unfoldable pub kind_name : ℕ → List ℕ
+kind_name kind = get_or kind_names kind []
 
 -- the fixed spelling of each kind from 0 on; empty for S, D, I, Ident and Doc, whose tokens have
 -- their own

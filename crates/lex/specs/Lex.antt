@@ -1,6 +1,5 @@
 -- The lexer's rules: a script is cut into tokens and faults.
-use Rattle.std.specs.Prelude.{Bool, true, false, not, List, [], ◌∷◌, ℕ, zero, suc, ◌+◌, ◌-◌, ltb, eqb, length, get_or, take, drop}
-use Rattle.lex.specs.declared.byte_search.Found.TheVariants.{At, Nothing}
+use Rattle.std.specs.Prelude.{Bool, true, false, not, List, [], ◌∷◌, ℕ, zero, suc, ◌+◌, ◌-◌, ltb, eqb, length, get_or, take, drop, Some, None}
 use Rattle.lex.specs.declared.diagnostic.Diagnostic.{Diagnostic}
 use Rattle.lex.specs.declared.tok.Token.{Token}
 use Rattle.lex.specs.declared.tok.Fault.{Fault}
@@ -70,12 +69,12 @@ doc bs = doc_in (before 10 bs) bs
 unfoldable pub string : List ℕ → Piece
 string bs =
     elim (find_byte 34 bs) [
-      | At n ↦
+      | Some n ↦
           elim (utf8 (take n bs)) [
             | true ↦ Piece.Token k_s n (n + 2)
             | false ↦ Piece.Fault e_invalid_utf8 (n + 1) 0 (n + 2)
           ]
-      | Nothing ↦ Piece.Fault e_unterminated_string (before 10 bs + 1) 0 (before 10 bs + 1)
+      | None ↦ Piece.Fault e_unterminated_string (before 10 bs + 1) 0 (before 10 bs + 1)
     ]
 
 -- a number with a dot before `from`, in a run of `n` digits and dots: a second dot ends it where a
@@ -83,8 +82,8 @@ string bs =
 unfoldable pub double_in : ℕ → ℕ → List ℕ → Piece
 double_in n from bs =
     elim (find_byte 46 (take (n - from) (drop from bs))) [
-      | Nothing ↦ Piece.Token k_d n n
-      | At more ↦
+      | None ↦ Piece.Token k_d n n
+      | Some more ↦
           elim (is_ident_start (get_or bs (from + more + 1) 0)) [
             | true ↦ Piece.Token k_d (from + more) (from + more)
             | false ↦ Piece.Fault e_invalid_number n 0 n
@@ -95,8 +94,8 @@ double_in n from bs =
 unfoldable pub number_in : ℕ → List ℕ → Piece
 number_in n bs =
     elim (find_byte 46 (take n bs)) [
-      | Nothing ↦ Piece.Token k_i n n
-      | At first ↦
+      | None ↦ Piece.Token k_i n n
+      | Some first ↦
           elim (is_ident_start (get_or bs (first + 1) 0)) [
             | true ↦ Piece.Token k_i first first
             | false ↦ double_in n (first + 1) bs

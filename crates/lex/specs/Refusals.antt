@@ -1,5 +1,7 @@
 -- The numbers with which calls are refused: 1 to 4 are document 01's, the others 02's.
 use Rattle.std.specs.Prelude.{ℕ}
+use Rattle.lex.specs.declared.diagnostic.Refusal.{Refusal}
+use Rattle.lex.specs.declared.diagnostic.Refusal.TheVariants.{TooLong, TooShort, Outside, Malformed, LineTooShort, NoWords, NotCut, SheetTooShort, TooManyLines, PracticeTooShort, PositionsFall, PlacesTooShort}
 
 -- the script is over 65,536 bytes
 abbrev pub r_too_long : ℕ
@@ -48,3 +50,18 @@ r_positions_fall = 49
 -- the list for lines and columns is too short
 abbrev pub r_places_too_short : ℕ
 r_places_too_short = 50
+
+-- the number of each refusal
+abbrev pub number : Refusal → ℕ
+number TooLong = r_too_long
+number TooShort = r_too_short
+number Outside = r_outside
+number Malformed = r_malformed
+number LineTooShort = r_line_too_short
+number NoWords = r_no_words
+number NotCut = r_not_cut
+number SheetTooShort = r_sheet_too_short
+number TooManyLines = r_too_many_lines
+number PracticeTooShort = r_practice_too_short
+number PositionsFall = r_positions_fall
+number PlacesTooShort = r_places_too_short

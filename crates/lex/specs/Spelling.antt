@@ -1,8 +1,6 @@
 -- Where a token's own spelling begins, and whether a token is well formed. Only S, D, I, Ident and
 -- Doc take their spelling from the script.
-use Rattle.std.specs.Prelude.{Bool, true, false, List, ℕ, ◌+◌, leb, eqb, length, drop}
-use Rattle.lex.specs.declared.byte_search.Found.{Found}
-use Rattle.lex.specs.declared.byte_search.Found.TheVariants.{At, Nothing}
+use Rattle.std.specs.Prelude.{Bool, true, false, List, ℕ, ◌+◌, leb, eqb, length, drop, Option, Some, None}
 use Rattle.lex.specs.declared.tok.Token.{Token}
 use Rattle.lex.specs.Bytes.{if, between}
 use Rattle.lex.specs.Kind.{k_s, k_doc, fixed_spelling}
@@ -25,15 +23,15 @@ unfoldable pub spelling_start : List ℕ → Token → ℕ
 spelling_start script t = t.start + spelling_offset t.kind (drop t.start script)
 
 -- where the spelling of any token begins, if its kind has one and it lies within the script
-unfoldable pub spelling : List ℕ → Token → Found
+unfoldable pub spelling : List ℕ → Token → Option ℕ
 spelling script t =
     elim (has_spelling t.kind) [
       | true ↦
           elim (leb (spelling_start script t + t.len) (length script)) [
-            | true ↦ At (spelling_start script t)
-            | false ↦ Nothing
+            | true ↦ Some (spelling_start script t)
+            | false ↦ None
           ]
-      | false ↦ Nothing
+      | false ↦ None
     ]
 
 -- its kind is one of `Type`, and its spelling lies in the script

@@ -3,7 +3,7 @@ ghost use Rattle.std.specs.Prelude.{◌≡◌};
 ghost use Rattle.lex.specs.Bytes.{is_ws, is_letter, is_digit, is_ident_start};
 ghost use Rattle.lex.specs.Bytes.{is_ident_cont, is_num_cont, class_table};
 
-// The bits of a class: what the byte can be or begin.
+// The bits of a class: what the byte can be or begin. They and the table have prescribed forms.
 #[derive(Clone, Copy)]
 pub(crate) struct Class(pub u8);
 
@@ -20,7 +20,7 @@ impl Class {
 }
 
 // The class of each byte. The compiled code writes a constant array onto the stack at each use: so
-// who looks up many takes it once and lends it.
+// `Classes` has it once.
 pub const CLASS: [u8; 256] = [
     0, 0, 0, 0, 0, 0, 0, 0, 0, 16, 16, 0, 0, 16, 0, 0, 0, 0, 0, 0, 0, 0, 0, 0, 0, 0, 0, 0, 0, 0, 0,
     0, 16, 0, 0, 0, 0, 0, 0, 0, 0, 0, 0, 0, 0, 0, 8, 0, 13, 13, 13, 13, 13, 13, 13, 13, 13, 13, 0,
@@ -69,42 +69,50 @@ pub(crate) fn is_ident_cont(b: u8) -> bool
     is_letter(b) | is_digit(b) | (b == b'_')
 }
 
-// Whether the byte can begin a name, by the table; here and below it is taken once and lent.
-pub(crate) fn begins_name(classes: &[u8; 256], b: u8) -> bool
-    requires { classes.now ≡ class_table }
-    ensures { result ≡ is_ident_start b }
-{
-    classes[b as usize] & Class::IDENT_START != 0
+// The table of classes: made once, and lent to whoever looks up many bytes.
+#[derive(Drop)]
+pub struct Classes {
+    bits: [u8; 256],
+    ghost is_table: { bits ≡ class_table },
 }
 
-// Whether the byte can continue a name.
-pub(crate) fn continues_name(classes: &[u8; 256], b: u8) -> bool
-    requires { classes.now ≡ class_table }
-    ensures { result ≡ is_ident_cont b }
-{
-    classes[b as usize] & Class::IDENT_CONT != 0
-}
+impl Classes {
+    pub fn new() -> Classes {
+        Classes { bits: CLASS }
+    }
 
-// Whether the byte is a digit.
-pub(crate) fn begins_number(classes: &[u8; 256], b: u8) -> bool
-    requires { classes.now ≡ class_table }
-    ensures { result ≡ is_digit b }
-{
-    classes[b as usize] & Class::DIGIT != 0
-}
+    // Whether the byte can begin a name.
+    pub(crate) fn begins_name(&self, b: u8) -> bool
+        ensures { result ≡ is_ident_start b }
+    {
+        self.bits[b as usize] & Class::IDENT_START != 0
+    }
 
-// Whether the byte can continue a number.
-pub(crate) fn continues_number(classes: &[u8; 256], b: u8) -> bool
-    requires { classes.now ≡ class_table }
-    ensures { result ≡ is_num_cont b }
-{
-    classes[b as usize] & Class::NUM_CONT != 0
-}
+    // Whether the byte can continue a name.
+    pub(crate) fn continues_name(&self, b: u8) -> bool
+        ensures { result ≡ is_ident_cont b }
+    {
+        self.bits[b as usize] & Class::IDENT_CONT != 0
+    }
 
-// Whether the byte separates.
-pub(crate) fn separates(classes: &[u8; 256], b: u8) -> bool
-    requires { classes.now ≡ class_table }
-    ensures { result ≡ is_ws b }
-{
-    classes[b as usize] & Class::WS != 0
+    // Whether the byte is a digit.
+    pub(crate) fn begins_number(&self, b: u8) -> bool
+        ensures { result ≡ is_digit b }
+    {
+        self.bits[b as usize] & Class::DIGIT != 0
+    }
+
+    // Whether the byte can continue a number.
+    pub(crate) fn continues_number(&self, b: u8) -> bool
+        ensures { result ≡ is_num_cont b }
+    {
+        self.bits[b as usize] & Class::NUM_CONT != 0
+    }
+
+    // Whether the byte separates.
+    pub(crate) fn separates(&self, b: u8) -> bool
+        ensures { result ≡ is_ws b }
+    {
+        self.bits[b as usize] & Class::WS != 0
+    }
 }

@@ -1,8 +1,11 @@
 // Diagnostics: document 01's five numbers for an error of the script. Refusals: the papers' numbers.
+ghost use Rattle.std.specs.Prelude.{◌≡◌};
+ghost use Rattle.lex.specs.Refusals.{number};
 
-// An error: its number, where its span starts and how long it is, the wanted kind (0 but for 11)
+// The numbers stay numbers: cells of lent arrays have them, and an enum as a parameter would ask
+// more. An error: its number, where its span starts and how long it is, the wanted kind (0 but for 11)
 // and the seen kind (for 33 the byte).
-#[derive(Clone, Copy)]
+#[derive(Clone, Copy, Default)]
 pub struct Diagnostic {
     pub number: u32,
     pub start: u32,
@@ -51,32 +54,30 @@ impl Diagnostic {
     pub const INVALID_NUMBER: u32 = 34;
 }
 
-// Why a call is refused, by number. Nothing that is lent changes then.
-#[derive(Clone, Copy)]
-pub struct Refusal(pub u32);
+// Why a call is refused. Nothing that is lent changes then.
+#[derive(Clone, Copy, Debug, PartialEq, Eq)]
+pub enum Refusal {
+    TooLong = 1, // the script is over 65,536 bytes
+    TooShort = 2, // an array is shorter than its least length
+    Outside = 3, // what is asked about lies outside
+    Malformed = 4, // something visited is malformed
+    LineTooShort = 41, // the buffer for an error in words is too short
+    NoWords = 42, // the numbers are no error of a script
+    NotCut = 43, // the tables are not those that cutting the script gives
+    SheetTooShort = 44, // the buffer for a correction sheet is too short
+    TooManyLines = 47, // a practice sheet has at most 16 lines
+    PracticeTooShort = 48, // the buffer for a practice sheet is too short
+    PositionsFall = 49, // a position is below the one before it
+    PlacesTooShort = 50, // the list for lines and columns is too short
+}
 
-impl Refusal {
-    pub const TOO_LONG: u32 = 1; // the script is over 65,536 bytes
+// The papers' number of a refusal.
+impl From<Refusal> for u32 {
+    ghost from_gives = { λ refusal n. n ≡ number refusal };
 
-    pub const TOO_SHORT: u32 = 2; // an array is shorter than its least length
-
-    pub const OUTSIDE: u32 = 3; // what is asked about lies outside
-
-    pub const MALFORMED: u32 = 4; // something visited is malformed
-
-    pub const LINE_TOO_SHORT: u32 = 41; // the buffer for an error in words is too short
-
-    pub const NO_WORDS: u32 = 42; // the numbers are no error of a script
-
-    pub const NOT_CUT: u32 = 43; // the tables are not those that cutting the script gives
-
-    pub const SHEET_TOO_SHORT: u32 = 44; // the buffer for a correction sheet is too short
-
-    pub const TOO_MANY_LINES: u32 = 47; // a practice sheet has at most 16 lines
-
-    pub const PRACTICE_TOO_SHORT: u32 = 48; // the buffer for a practice sheet is too short
-
-    pub const POSITIONS_FALL: u32 = 49; // a position is below the one before it
-
-    pub const PLACES_TOO_SHORT: u32 = 50; // the list for lines and columns is too short
+    fn from(refusal: Refusal) -> u32
+        ensures { result ≡ number refusal }
+    {
+        refusal as u32
+    }
 }

@@ -9,20 +9,19 @@ mod utf8;
 
 ghost use Rattle.std.specs.Prelude.{◌≡◌, false, ◌+◌, ◌<◌, ◌≤◌, length, get_or, drop};
 ghost use Rattle.lex.specs.declared.tok.Piece.{Piece};
-ghost use Rattle.lex.specs.Bytes.{is_num_cont, count_while, class_table};
-ghost use Rattle.lex.specs.Kind.{punctuator_kind};
+ghost use Rattle.lex.specs.Bytes.{is_num_cont, count_while};
+ghost use Rattle.lex.specs.Kind.{punctuator_kind, IsKindOf};
 ghost use Rattle.lex.specs.Errors.{e_unknown_character};
 ghost use Rattle.lex.specs.Lex.{begins_comment, skipped, punctuation as punctuation_of};
 ghost use Rattle.lex.specs.Lex.{leading_space, doc as doc_of, string as string_of, double_in};
 ghost use Rattle.lex.specs.Lex.{number as number_of, name as name_of, symbol as symbol_of};
 ghost use Rattle.lex.specs.Lex.{piece as piece_of, step_at, next_at, is_prefix_sign};
 
-pub use byte_search::Found;
 use byte_search::{
-    find_byte, line_end, peek, skip_byte, skip_digits, skip_ident_cont, skip_num_cont, skip_plain,
+    count_each, find_byte, line_end, peek, skip_digits, skip_ident_cont, skip_num_cont, skip_plain,
 };
-pub use class::CLASS;
-use class::{begins_name, begins_number, is_ws, separates};
+use class::is_ws;
+pub use class::{CLASS, Classes};
 pub use diagnostic::{Diagnostic, Refusal};
 use tok::Piece;
 pub use tok::{
@@ -64,15 +63,14 @@ fn begins_comment(b: u8, next: u8) -> bool
 }
 
 // The position after blanks and comments.
-fn skip_separators(classes: &[u8; 256], script: &[u8], pos: usize) -> usize
-    requires { classes.now ≡ class_table }
+fn skip_separators(classes: &Classes, script: &[u8], pos: usize) -> usize
     ensures { result ≡ pos + skipped false (drop pos script.now) }
 {
     let mut p = pos;
     while p < script.len() {
         let b = script[p];
-        if separates(classes, b) {
-            p = skip_byte(b' ', script, p + 1);
+        if classes.separates(b) {
+            p += 1 + count_each(&script[p + 1..], |b| b == b' ');
         } else if begins_comment(b, peek(script, p + 1)) {
             p += line_end(&script[p..]);
         } else {
@@ -83,8 +81,7 @@ fn skip_separators(classes: &[u8; 256], script: &[u8], pos: usize) -> usize
 }
 
 // The position after blanks and comments: mostly one space, or nothing.
-fn skip_whitespace(classes: &[u8; 256], script: &[u8], pos: usize) -> usize
-    requires { classes.now ≡ class_table }
+fn skip_whitespace(classes: &Classes, script: &[u8], pos: usize) -> usize
     ensures { result ≡ pos + skipped false (drop pos script.now) }
 {
     let mut p = pos;
@@ -102,7 +99,7 @@ fn skip_whitespace(classes: &[u8; 256], script: &[u8], pos: usize) -> usize
 
 // A sign of two bytes, or that of one byte, which has this kind.
 fn punctuation(b: u8, kind: u32, next: u8) -> Piece
-    requires { (kind ≡ punctuator_kind b) × (0 < kind) }
+    requires { IsKindOf b kind }
     ensures { result ≡ punctuation_of b next }
 {
     if next != b'=' {
@@ -142,11 +139,10 @@ fn leading_space(line: &[u8]) -> usize
 
 // A doc, of which `rest` is what follows `#!`. Most are of ASCII and are read in one pass, as
 // strings are.
-fn doc(classes: &[u8; 256], rest: &[u8]) -> Piece
-    requires { classes.now ≡ class_table }
+fn doc(rest: &[u8]) -> Piece
     ensures { result ≡ doc_of rest.now }
 {
-    let plain = skip_plain(classes, b'\n', rest);
+    let plain = skip_plain(b'\n', rest);
     if peek(rest, plain) == b'\n' {
         return Piece::Token {
             kind: Type::DOC,
@@ -174,11 +170,10 @@ fn doc(classes: &[u8; 256], rest: &[u8]) -> Piece
 }
 
 // A string, of which `rest` is what follows the quote. Most are of ASCII and are read in one pass.
-fn string(classes: &[u8; 256], rest: &[u8]) -> Piece
-    requires { classes.now ≡ class_table }
+fn string(rest: &[u8]) -> Piece
     ensures { result ≡ string_of rest.now }
 {
-    let plain = skip_plain(classes, b'"', rest);
+    let plain = skip_plain(b'"', rest);
     if peek(rest, plain) == b'"' {
         return Piece::Token {
             kind: Type::S,
@@ -186,7 +181,7 @@ fn string(classes: &[u8; 256], rest: &[u8]) -> Piece
             taken: plain + 2,
         };
     }
-    let Found::At(n) = find_byte(b'"', rest) else {
+    let Some(n) = find_byte(b'"', rest) else {
         let line = line_end(rest) + 1;
         return Piece::Fault {
             number: Diagnostic::UNTERMINATED_STRING,
@@ -213,8 +208,8 @@ fn string(classes: &[u8; 256], rest: &[u8]) -> Piece
 
 // A number with a dot before `from`: digits; a second dot ends it where a name follows, and else is
 // a fault over the whole run of digits and dots.
-fn double(classes: &[u8; 256], rest: &[u8], from: usize) -> Piece
-    requires { (classes.now ≡ class_table) × (from ≤ length rest.now) }
+fn double(classes: &Classes, rest: &[u8], from: usize) -> Piece
+    requires { from ≤ length rest.now }
     ensures { let bytes = rest.now in
         result ≡ double_in (from + count_while is_num_cont (drop from bytes)) from bytes }
 {
@@ -226,7 +221,7 @@ fn double(classes: &[u8; 256], rest: &[u8], from: usize) -> Piece
             taken: second,
         };
     }
-    if begins_name(classes, peek(rest, second + 1)) {
+    if classes.begins_name(peek(rest, second + 1)) {
         return Piece::Token {
             kind: Type::D,
             len: second,
@@ -243,8 +238,7 @@ fn double(classes: &[u8; 256], rest: &[u8], from: usize) -> Piece
 }
 
 // A number: it ends at a dot that a name follows, which is the parser's.
-fn number(classes: &[u8; 256], rest: &[u8]) -> Piece
-    requires { classes.now ≡ class_table }
+fn number(classes: &Classes, rest: &[u8]) -> Piece
     ensures { result ≡ number_of rest.now }
 {
     let first = skip_digits(classes, rest);
@@ -255,7 +249,7 @@ fn number(classes: &[u8; 256], rest: &[u8]) -> Piece
             taken: first,
         };
     }
-    if begins_name(classes, peek(rest, first + 1)) {
+    if classes.begins_name(peek(rest, first + 1)) {
         return Piece::Token {
             kind: Type::I,
             len: first,
@@ -266,8 +260,7 @@ fn number(classes: &[u8; 256], rest: &[u8]) -> Piece
 }
 
 // A name or a keyword.
-fn name(classes: &[u8; 256], rest: &[u8]) -> Piece
-    requires { classes.now ≡ class_table }
+fn name(classes: &Classes, rest: &[u8]) -> Piece
     ensures { result ≡ name_of rest.now }
 {
     let n = skip_ident_cont(classes, rest);
@@ -292,9 +285,8 @@ fn unknown_character(b: u8) -> Piece
 }
 
 // A doc or an unknown character, where no sign stands.
-fn symbol(classes: &[u8; 256], rest: &[u8]) -> Piece
-    requires { (classes.now ≡ class_table)
-        × (0 < length rest.now)
+fn symbol(rest: &[u8]) -> Piece
+    requires { (0 < length rest.now)
         × (punctuator_kind (get_or rest.now 0 0) ≡ 0) }
     ensures { result ≡ symbol_of rest.now }
 {
@@ -305,34 +297,32 @@ fn symbol(classes: &[u8; 256], rest: &[u8]) -> Piece
     if peek(rest, 1) != b'!' {
         return unknown_character(b);
     }
-    doc(classes, &rest[2..])
+    doc(&rest[2..])
 }
 
 // What stands where no blank or comment begins.
-fn piece(classes: &[u8; 256], rest: &[u8]) -> Piece
-    requires { (classes.now ≡ class_table) × (0 < length rest.now) }
+fn piece(classes: &Classes, rest: &[u8]) -> Piece
+    requires { 0 < length rest.now }
     ensures { result ≡ piece_of rest.now }
 {
     let b = rest[0];
-    let kind = Type::from_punctuator(b);
-    if 0 < kind {
+    if let Some(kind) = Type::from_punctuator(b) {
         return punctuation(b, kind, peek(rest, 1));
     }
-    if begins_number(classes, b) {
+    if classes.begins_number(b) {
         return number(classes, rest);
     }
     if b == b'"' {
-        return string(classes, &rest[1..]);
+        return string(&rest[1..]);
     }
-    if begins_name(classes, b) {
+    if classes.begins_name(b) {
         return name(classes, rest);
     }
-    symbol(classes, rest)
+    symbol(rest)
 }
 
 // What stands at a position after blanks and comments, with the table of classes lent.
-pub fn step_with(classes: &[u8; 256], script: &[u8], pos: usize) -> Step
-    requires { classes.now ≡ class_table }
+pub fn step_with(classes: &Classes, script: &[u8], pos: usize) -> Step
     ensures { result ≡ step_at script.now pos }
 {
     let start = skip_whitespace(classes, script, pos);
@@ -365,8 +355,7 @@ pub fn step_with(classes: &[u8; 256], script: &[u8], pos: usize) -> Step
 pub fn step(script: &[u8], pos: usize) -> Step
     ensures { result ≡ step_at script.now pos }
 {
-    let classes = CLASS;
-    step_with(&classes, script, pos)
+    step_with(&Classes::new(), script, pos)
 }
 
 // The first token at a position or after it, past all faults, and the position after it; Eof at the

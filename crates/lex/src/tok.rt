@@ -1,11 +1,11 @@
 // Tokens: their kinds, the keyword table and their spellings.
-ghost use Rattle.std.specs.Prelude.{◌≡◌, [], ◌∷◌, length};
+ghost use Rattle.std.specs.Prelude.{◌≡◌, true, false, [], ◌∷◌, ◌<◌, ◌≤◌, length, MatchOption};
+ghost use Rattle.lex.specs.Bytes.{between};
 ghost use Rattle.lex.specs.Kind.{same_bytes, keywords, name_kind};
-ghost use Rattle.lex.specs.Kind.{punctuator_kind, fixed_spelling};
+ghost use Rattle.lex.specs.Kind.{punctuator_kind, IsKindOf, text_at, kind_name, fixed_spelling};
 ghost use Rattle.lex.specs.Spelling.{spelling_offset, spelling as spelling_of};
 ghost use Rattle.lex.specs.Spelling.{well_formed, as_str_length};
 
-use crate::byte_search::Found;
 use crate::leading_space;
 
 // A token: its kind, where it starts and how long its spelling is.
@@ -17,7 +17,7 @@ pub struct Token {
 }
 
 // A fault: its number, where its span starts and how long it is, and the byte that is seen; 0 but
-// for an unknown character.
+// for an unknown character. Who takes a fault writes both numbers: an enum would be turned back.
 #[derive(Clone, Copy)]
 pub struct Fault {
     pub number: u32,
@@ -27,7 +27,7 @@ pub struct Fault {
 }
 
 // What stands where no blank or comment begins: a token or a fault, its length, and how many bytes
-// are taken.
+// are taken. A fault is no failure: both go on behind what is taken, so this is no Result.
 #[derive(Clone, Copy)]
 pub enum Piece {
     Token {
@@ -59,7 +59,8 @@ pub struct Next {
     pub next: usize,
 }
 
-// The kinds of token are numbers, in the order of the Rust enum.
+// The kinds of token are numbers, in the order of the Rust enum: cells of lent arrays have them, and
+// an enum as a parameter would ask more.
 #[derive(Clone, Copy)]
 pub struct Type(pub u32);
 
@@ -154,20 +155,6 @@ impl Type {
 
     pub const RECORD: u32 = 43;
 
-    // The names of the kinds, one after the other.
-    pub const NAMES: [u8; 245] =
-        *b"EofBraceLeftBraceRightPlusMinusAsteriksSlashPercentEqualDoubleEqualLessThan\
-        GreaterThanExclaimNotEqualQuestionColonDotBraketLeftBraketRightCurlyLeftCurlyRight\
-        SDIIdentDocImportExternLetFnMatchAsTrueFalseStrIntDoubleBoolVoidOptionArrayForeign\
-        Record";
-
-    // Where each kind's name ends; the first begins at 0.
-    pub const NAME_ENDS: [usize; 44] = [
-        0, 3, 12, 22, 26, 31, 39, 44, 51, 56, 67, 75, 86, 93, 101, 109, 114, 117, 127, 138, 147,
-        157, 158, 159, 160, 165, 168, 174, 180, 183, 185, 190, 192, 196, 201, 204, 207, 213, 217,
-        221, 227, 232, 239, 245,
-    ];
-
     // The kind of a name: its keyword's, or IDENT.
     pub fn from_keyword(name: &[u8]) -> u32
         ensures { result ≡ name_kind keywords name.now }
@@ -201,31 +188,43 @@ impl Type {
         }
     }
 
-    // The kind of a sign of one byte; 0 where the byte is none.
-    pub(crate) fn from_punctuator(b: u8) -> u32
-        ensures { result ≡ punctuator_kind b }
+    // The kind of a sign of one byte.
+    pub(crate) fn from_punctuator(b: u8) -> Option<u32>
+        ensures { MatchOption result (punctuator_kind b ≡ 0) (IsKindOf b) }
     {
         match b {
-            b'(' => Type::BRACE_LEFT,
-            b')' => Type::BRACE_RIGHT,
-            b'+' => Type::PLUS,
-            b'-' => Type::MINUS,
-            b'*' => Type::ASTERIKS,
-            b'/' => Type::SLASH,
-            b'%' => Type::PERCENT,
-            b'=' => Type::EQUAL,
-            b'<' => Type::LESS_THAN,
-            b'>' => Type::GREATER_THAN,
-            b'!' => Type::EXCLAIM,
-            b'?' => Type::QUESTION,
-            b':' => Type::COLON,
-            b'.' => Type::DOT,
-            b'[' => Type::BRAKET_LEFT,
-            b']' => Type::BRAKET_RIGHT,
-            b'{' => Type::CURLY_LEFT,
-            b'}' => Type::CURLY_RIGHT,
-            _ => 0,
+            b'(' => Some(Type::BRACE_LEFT),
+            b')' => Some(Type::BRACE_RIGHT),
+            b'+' => Some(Type::PLUS),
+            b'-' => Some(Type::MINUS),
+            b'*' => Some(Type::ASTERIKS),
+            b'/' => Some(Type::SLASH),
+            b'%' => Some(Type::PERCENT),
+            b'=' => Some(Type::EQUAL),
+            b'<' => Some(Type::LESS_THAN),
+            b'>' => Some(Type::GREATER_THAN),
+            b'!' => Some(Type::EXCLAIM),
+            b'?' => Some(Type::QUESTION),
+            b':' => Some(Type::COLON),
+            b'.' => Some(Type::DOT),
+            b'[' => Some(Type::BRAKET_LEFT),
+            b']' => Some(Type::BRAKET_RIGHT),
+            b'{' => Some(Type::CURLY_LEFT),
+            b'}' => Some(Type::CURLY_RIGHT),
+            _ => None,
         }
+    }
+
+    // The name of a kind in the Rust enum; none for a number that is no kind.
+    pub fn name(kind: u32) -> Option<&'static str>
+        ensures { MatchOption result
+            (between 1 43 kind ≡ false)
+            (λ n. (between 1 43 kind ≡ true) × (n.now ≡ kind_name kind)) }
+    {
+        if kind < Type::EOF {
+            return None;
+        }
+        text_at(&KIND_NAMES, kind as usize)
     }
 
     // The length of `as_str`; 0 for a kind whose tokens have spellings of their own, and for a
@@ -233,19 +232,78 @@ impl Type {
     pub fn spelling_len(kind: u32) -> usize
         ensures { result ≡ length (fixed_spelling kind) }
     {
-        if kind < 44 {
-            let k = kind as usize;
-            SPELLING_LENS[k]
-        } else {
-            0
+        match text_at(&SPELLINGS, kind as usize) {
+            Some(text) => text.len(),
+            None => 0,
         }
     }
 }
 
-// The length of each kind's fixed spelling.
-const SPELLING_LENS: [usize; 44] = [
-    0, 3, 1, 1, 1, 1, 1, 1, 1, 1, 2, 1, 1, 1, 2, 1, 1, 1, 1, 1, 1, 1, 0, 0, 0, 0, 0, 6, 6, 3, 2, 5,
-    2, 4, 5, 3, 3, 6, 4, 4, 6, 5, 7, 6,
+// The text at a number, where the table has one.
+fn text_at(table: &[&'static str], n: usize) -> Option<&'static str>
+    ensures { MatchOption result
+        (length table.now ≤ n)
+        (λ t. (n < length table.now) × (t.now ≡ text_at table.now n)) }
+{
+    match table.get(n) {
+        Some(text) => Some(*text),
+        None => None,
+    }
+}
+
+// The name of each kind; 0 is none.
+const KIND_NAMES: [&str; 44] = [
+    "",
+    "Eof",
+    "BraceLeft",
+    "BraceRight",
+    "Plus",
+    "Minus",
+    "Asteriks",
+    "Slash",
+    "Percent",
+    "Equal",
+    "DoubleEqual",
+    "LessThan",
+    "GreaterThan",
+    "Exclaim",
+    "NotEqual",
+    "Question",
+    "Colon",
+    "Dot",
+    "BraketLeft",
+    "BraketRight",
+    "CurlyLeft",
+    "CurlyRight",
+    "S",
+    "D",
+    "I",
+    "Ident",
+    "Doc",
+    "Import",
+    "Extern",
+    "Let",
+    "Fn",
+    "Match",
+    "As",
+    "True",
+    "False",
+    "Str",
+    "Int",
+    "Double",
+    "Bool",
+    "Void",
+    "Option",
+    "Array",
+    "Foreign",
+    "Record",
+];
+
+// The fixed spelling of each number from 0 on; empty where there is none.
+const SPELLINGS: [&str; 44] = [
+    "", "eof", "(", ")", "+", "-", "*", "/", "%", "=", "==", "<", ">", "!", "!=", "?", ":", ".",
+    "[", "]", "{", "}", "", "", "", "", "", "import", "extern", "let", "fn", "match", "as", "true",
+    "false", "Str", "Int", "Double", "Bool", "Void", "Option", "Array", "Foreign", "Record",
 ];
 
 // The kind, where the name has the spelling; else IDENT.
@@ -264,17 +322,7 @@ fn kind_if(spelling: &[u8], kind: u32, name: &[u8]) -> u32
 pub fn same_bytes(a: &[u8], b: &[u8]) -> bool
     ensures { result ≡ same_bytes a.now b.now }
 {
-    if a.len() != b.len() {
-        return false;
-    }
-    let mut i = 0;
-    while i < a.len() {
-        if a[i] != b[i] {
-            return false;
-        }
-        i += 1;
-    }
-    true
+    a == b
 }
 
 // How many bytes of a token stand before its spelling, `rest` being what begins with it.
@@ -294,29 +342,29 @@ pub fn spelling_offset(kind: u32, rest: &[u8]) -> usize
 }
 
 // Where the spelling of any token begins, if its kind has one and it lies within the script.
-pub fn spelling(script: &[u8], t: Token) -> Found
+pub fn spelling(script: &[u8], t: Token) -> Option<usize>
     ensures { result ≡ spelling_of script.now t }
 {
     let kind = t.kind;
     let start = t.start;
     if kind < Type::S {
-        return Found::Nothing;
+        return None;
     }
     if Type::DOC < kind {
-        return Found::Nothing;
+        return None;
     }
     if script.len() < start {
-        return Found::Nothing;
+        return None;
     }
     let offset = spelling_offset(kind, &script[start..]);
     let left = script.len() - start;
     if left < offset {
-        return Found::Nothing;
+        return None;
     }
     if left - offset < t.len {
-        return Found::Nothing;
+        return None;
     }
-    Found::At(start + offset)
+    Some(start + offset)
 }
 
 // The kind is known, and a spelling from the script lies in it. A known kind has one of these, or a fixed one.
@@ -324,8 +372,8 @@ pub fn well_formed(script: &[u8], t: Token) -> bool
     ensures { result ≡ well_formed script.now t }
 {
     match spelling(script, t) {
-        Found::At(_) => true,
-        Found::Nothing => 0 < Type::spelling_len(t.kind),
+        Some(_) => true,
+        None => 0 < Type::spelling_len(t.kind),
     }
 }
 

@@ -5,7 +5,7 @@ ghost use Rattle.lex.specs.Bytes.{between};
 ghost use Rattle.lex.specs.Utf8.{least_second, greatest_second, after_lead};
 ghost use Rattle.lex.specs.Utf8.{is_boundary, state_after, utf8};
 
-use crate::byte_search::{ByteSet, peek, skip_set};
+use crate::byte_search::{count_run, peek};
 
 // Where a reading of bytes stands: between characters, inside one with `more` bytes to come, the
 // next of them from `low` to `high`, or behind a byte that no character has there.
@@ -118,7 +118,7 @@ fn completes(bytes: &[u8], at: usize, more: u8, low: u8, high: u8) -> bool
 pub fn is_utf8(bytes: &[u8]) -> bool
     ensures { result ≡ utf8 bytes.now }
 {
-    let mut i = skip_set(ByteSet::PLAIN, ByteSet::NO_ASCII, bytes, 0);
+    let mut i = count_run(bytes, |b| b < 0x80);
     while i < bytes.len() {
         let b = bytes[i];
         if is_between(0xc2, 0xdf, b) {

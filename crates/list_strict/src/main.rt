@@ -5,5 +5,5 @@
 use std::io;
 
 fn main(rt: HostRuntime) -> io::Result<()> {
-    list_script::print_input(&rt, &mut rt.stdin(), false)
+    list_script::print_input(&rt, &mut rt.stdin(), parser::parse)
 }

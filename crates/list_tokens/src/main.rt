@@ -26,15 +26,11 @@ fn count(script: &[u8]) -> usize
     }
 }
 
-fn print_count(rt: &impl Print, n: usize) -> io::Result<()> {
-    println!(rt; "(tokens {n})")
-}
-
 // Says that there is more than was shown, where another byte can be read.
 fn print_cut(rt: &impl Print, input: &mut impl Read) -> io::Result<()> {
     let mut next = [0u8; 1];
     if read_full(input, &mut next)? == 1 {
-        rt.write_all(b"(cut)\n")?;
+        println!(rt; "(cut)")?;
     }
     Ok(())
 }
@@ -44,6 +40,6 @@ fn main(rt: HostRuntime) -> io::Result<()> {
     let mut buf = [0u8; 4096];
     let n = read_full(&mut input, &mut buf)?;
     console::tokens::print_script(&rt, &buf[..n])?;
-    print_count(&rt, count(&buf[..n]))?;
+    println!(rt; "(tokens {})", count(&buf[..n]))?;
     print_cut(&rt, &mut input)
 }

@@ -3,7 +3,7 @@ use mathlib.Core.Path.{◌≡◌, refl, sym, ◌∙◌, ap}
 use mathlib.Core.Bool.{Bool, true, ◌&&◌}
 use mathlib.Core.Option.{Option}
 use mathlib.Core.List.{List, [], ◌∷◌, ◌++◌, map, flatten}
-use Prim.Native.Nat.{ℕ, zero, suc, ◌+◌, ◌-◌, ◌*◌, ◌<◌}
+use Prim.Native.Nat.{ℕ, ◌+◌, ◌-◌, ◌*◌, ◌<◌}
 use native.Mathlib.Nat.{add-zero}
 use native.Mathlib.Omega.{arith}
 use lib.Dec.{leb}
@@ -21,16 +21,10 @@ use Rattle.rules.specs.Promise.{Arrays, no_error, holding, outcome}
 use Rattle.ast.specs.Decode.{node_of, type_of, node_at, type_at}
 use Rattle.ast.proofs.LayoutLaws.{node-inside, type-inside, node-length, type-length, node_trip, type_trip}
 use Rattle.text.specs.Text.{bytes, number}
-use Rattle.listing.specs.Text.{gap, each}
+use Rattle.listing.specs.Text.{gap}
+use Rattle.listing.proofs.LineLaws.{each_same}
 use Rattle.listing.specs.Listing.{line, node_text, type_text, node_line, type_line, roots_line, numbers_line, tree_text, counts_of, listing_of, within, diagnostic_at, text_of}
 use Rattle.listing.proofs.Stored.{stored, get_d_is, length_stored}
-
--- texts that agree below n
-each_same : (f g : ℕ → List ℕ) (n : ℕ) → ((i : ℕ) → i < n → f i ≡ g i) → each f n ≡ each g n
-unfolding each
-each_same f g zero h = refl
-each_same f g (suc n) h =
-    ap (λ (l : List ℕ). l ++ f n) (each_same f g n (λ (i : ℕ) (l : i < n). h i (omega arith))) ∙ ap (λ (l : List ℕ). each g n ++ l) (h n (omega arith))
 
 module _ (zs : List ℕ) where
   node-held : (ns : List Node) (i : ℕ) → i < length ns → node_at (flatten (map node_cells ns) ++ zs) i ≡ get_elem? ns i

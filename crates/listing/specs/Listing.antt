@@ -1,25 +1,30 @@
 -- The listing of a reading, and of arrays whoever filled them; what of it goes into a lent buffer.
-use Rattle.std.specs.Prelude.{Bool, true, false, ◌&&◌, List, [], ◌∷◌, ◌++◌, ℕ, ◌+◌, ◌*◌, leb, ltb, eqb, length, get_or, take}
+use Rattle.std.specs.Prelude.{Bool, true, false, ◌&&◌, List, [], ◌∷◌, ◌++◌, ℕ, ◌*◌, leb, ltb, eqb, length, get_or, take, Result as Outcome, Ok, Err, MatchResult, ◌≡◌}
 use Rattle.std.proofs.Math.Option.{Option, none, some}
 use Rattle.std.proofs.Math.ListN.{get_elem?}
 use Rattle.lex.specs.declared.diagnostic.Diagnostic.{Diagnostic}
 use Rattle.ast.specs.declared.Counts.{Counts}
 use Rattle.ast.specs.declared.Node.{Node}
 use Rattle.ast.specs.declared.TypeExpr.{TypeExpr}
-use Rattle.ast.specs.declared.Parsed.{Parsed}
-use Rattle.ast.specs.declared.Parsed.TheVariants as P
+use Rattle.rules.specs.Parsed.{Parsed}
+use Rattle.rules.specs.Parsed as P
 use Rattle.lex.specs.Errors.{e_too_deep}
-use Rattle.lex.specs.Refusals.{r_too_short, r_malformed}
+use Rattle.lex.specs.Refusals.{r_too_short, r_malformed, number as refusal_number}
+use Rattle.ast.specs.declared.ReadError.{ReadError}
+use Rattle.ast.specs.declared.ReadError.TheVariants as E
 use Rattle.ast.specs.Layout.{node_width, type_width, diagnostic_width}
 use Rattle.rules.specs.Tree.{Tree}
 use Rattle.rules.specs.Parse.{Reading, read, ended}
-use Rattle.rules.specs.Promise.{Arrays, no_error}
+use Rattle.rules.specs.Promise.{Arrays, arrays_of, no_error}
 use Rattle.ast.specs.Decode.{node_at, type_at}
+use Rattle.ast.specs.Decode as D
 use Rattle.text.specs.Emit.{plain}
 use Rattle.text.specs.Answer as T
 use Rattle.text.specs.Answer.{Answer, Result, refuse, in_front}
-use Rattle.listing.specs.declared.Listing.{Listing}
-use Rattle.listing.specs.declared.Listing.TheVariants as L
+use Rattle.listing.specs.declared.Arrays.{Arrays as Lent}
+use Rattle.listing.specs.declared.emit.Malformed.{Malformed}
+use Rattle.listing.specs.declared.ListingError.{ListingError}
+use Rattle.listing.specs.declared.ListingError.TheVariants as L
 use Rattle.text.specs.Text.{bytes, number}
 use Rattle.listing.specs.Text.{malformed, form, gap, each, node, type_expr}
 
@@ -70,6 +75,11 @@ error_line e =
       | false ↦ numbers_line (bytes "error") e
     ]
 
+-- why there is no tree: an error of the script, or a refusal by its number
+abbrev pub failure_line : ReadError → List ℕ
+failure_line (E.Script e) = error_line e
+failure_line (E.Refused r) = line (bytes "refused") (number (refusal_number r) ∷ [])
+
 -- a tree by its counts and its records, wherever they are taken from
 unfoldable pub tree_text : Counts → List ℕ → (ℕ → Option Node) → (ℕ → Option TypeExpr)
     → (ℕ → ℕ) → (ℕ → Diagnostic) → List ℕ
@@ -102,6 +112,10 @@ listing_of (ended e) = error_line e
 
 -- ---- the listing of arrays
 
+-- what lent arrays hold
+abbrev pub held : Lent → Arrays
+held a = arrays_of a.nodes.now a.types.now a.lists.now a.roots.now a.diagnostics.now
+
 -- the arrays have what the counts say
 unfoldable pub within : Counts → Arrays → Bool
 within c a =
@@ -112,14 +126,7 @@ within c a =
     && leb (diagnostic_width * c.diagnostics) (length a.diagnostics))))
 
 abbrev pub diagnostic_at : List ℕ → ℕ → Diagnostic
-diagnostic_at xs i =
-    record {
-      number = get_or xs (diagnostic_width * i) 0;
-      start = get_or xs (diagnostic_width * i + 1) 0;
-      len = get_or xs (diagnostic_width * i + 2) 0;
-      wanted = get_or xs (diagnostic_width * i + 3) 0;
-      seen = get_or xs (diagnostic_width * i + 4) 0;
-    }
+diagnostic_at xs i = D.diagnostic_at xs (diagnostic_width * i)
 
 -- what is listed of an answer and of arrays whoever filled them; of a refusal without a place its
 -- number
@@ -136,11 +143,19 @@ text_of (P.Refused n) a = line (bytes "refused") (number n ∷ [])
 
 -- ---- into a buffer
 
+-- bytes only, and fewer than 2^64 - 1
+abbrev pub fits : List ℕ → Bool
+fits text = plain text && ltb (length text) 18446744073709551615
+
+-- how long a text is that fits
+abbrev pub Measures : List ℕ → Outcome ℕ Malformed → Type 0
+Measures text r = MatchResult r (λ n. (fits text ≡ true) × (n ≡ length text)) (λ _. fits text ≡ false)
+
 -- the text in front; refused, with the buffer as it was, where that is too short (2), and where the
 -- text has what is no byte, or 2^64 - 1 bytes or more (4)
 unfoldable pub into_buffer : List ℕ → List ℕ → Result
 into_buffer text buffer =
-    elim (plain text && ltb (length text) 18446744073709551615) [
+    elim (fits text) [
       | true ↦
           elim (leb (length text) (length buffer)) [
             | true ↦ in_front text buffer
@@ -150,7 +165,7 @@ into_buffer text buffer =
     ]
 
 -- document 01's number, or the length, for each case of an answer
-unfoldable pub listing_answer : Listing → Answer
-listing_answer (L.Written n) = T.written n
-listing_answer L.Short = T.refused r_too_short
-listing_answer L.Malformed = T.refused r_malformed
+unfoldable pub listing_answer : Outcome ℕ ListingError → Answer
+listing_answer (Ok n) = T.written n
+listing_answer (Err L.Short) = T.refused r_too_short
+listing_answer (Err L.Malformed) = T.refused r_malformed

@@ -1,32 +1,43 @@
-// What stands between forms, and what cannot be listed.
-ghost use Rattle.std.specs.Prelude.{◌+◌, [], ◌∷◌, ◌++◌};
+// What a text of the listing is written by, and what ends a listing.
+ghost use Rattle.std.specs.Prelude.{◌++◌, map};
 ghost use Rattle.text.specs.Text.{number};
-ghost use Rattle.listing.specs.Text.{malformed, gap};
-ghost use Rattle.text.specs.Emit.{Emits};
+ghost use Rattle.listing.specs.Text.{gap, form};
+ghost use Rattle.text.specs.Emit.{Writes};
 
-use text::{LAST, write_byte};
+use text::Writer;
 
-// What cannot be listed.
-pub(crate) fn write_malformed(out: &mut [u8], at: usize) -> usize
-    ensures { Emits malformed out.old at out.new result }
+// What cannot be listed: a kind that there is not, a list outside the cells, a tree outside the
+// arrays.
+#[derive(Clone, Copy)]
+pub(crate) struct Malformed;
+
+pub(crate) type Listed = Result<(), Malformed>;
+
+// The blank in front of what is not the first.
+pub(crate) fn write_gap(before: usize, w: &mut Writer)
+    ensures { Writes (gap before) w.old w.new }
 {
-    LAST
-}
-
-// The blank in front of what is not the first of its form.
-pub(crate) fn write_gap(before: usize, out: &mut [u8], at: usize) -> usize
-    ensures { Emits (gap before) out.old at out.new result }
-{
-    if before == 0 {
-        return at;
+    if 0 < before {
+        w.write_byte(b' ');
     }
-    write_byte(b' ', out, at)
 }
 
-// A number, with a blank in front where something stands before it.
-pub(crate) fn write_number(before: usize, n: usize, out: &mut [u8], at: usize) -> usize
-    ensures { Emits (gap before ++ number n) out.old at out.new result }
+// A number behind something else.
+pub(crate) fn write_next_number(n: usize, w: &mut Writer)
+    ensures { Writes (gap 1 ++ number n) w.old w.new }
 {
-    let a = write_gap(before, out, at);
-    text::write_number(n, out, a)
+    write_gap(1, w);
+    w.write_number(n);
+}
+
+// A form of numbers, as `(nodes 3)`.
+pub(crate) fn write_numbers(name: &[u8], numbers: &[u32], w: &mut Writer)
+    ensures { Writes (form name.now (map number numbers.now)) w.old w.new }
+{
+    w.write_byte(b'(');
+    w.write_text(name);
+    for n in numbers {
+        write_next_number(*n as usize, w);
+    }
+    w.write_byte(b')');
 }

@@ -1,123 +1,191 @@
-// Tokens and lists. Each form has a blank in front where something stands before it.
-ghost use Rattle.std.specs.Prelude.{◌++◌, ◌+◌, ◌<◌};
-ghost use Rattle.ast.specs.Schema.{members_of};
-ghost use Rattle.listing.specs.Text.{gap, kind_name, token, pair, member, list};
-ghost use Rattle.text.specs.Emit.{Emits};
+// Tokens and lists, and forms of them.
+ghost use Rattle.std.specs.Prelude.{ℕ, List, [], ◌∷◌, ◌+◌, ◌<◌, map};
+ghost use Rattle.listing.specs.Text.{kind_name, token, pair, branch, extern_fn, listed};
+ghost use Rattle.listing.specs.Text.{tokens, ids, pairs, tuple, form};
+ghost use Rattle.listing.specs.Field.{field_text};
+ghost use Rattle.listing.specs.Lists.{Lists, ListsEach};
 
-use crate::emit::{write_gap, write_malformed, write_number};
+use crate::emit::{Listed, Malformed, write_gap, write_next_number};
 use ast::Run;
 use ast::decode::{cell, run_at, token_at};
-use ast::schema::{Sort, member_width};
+use ast::schema::{CASE_WIDTH, FN_WIDTH, NODE_WIDTH, PARAM_WIDTH, TOKEN_WIDTH};
 use lex::{Token, Type};
-use text::{write_byte, write_text};
+use text::Writer;
 
-fn write_kind(kind: u32, out: &mut [u8], at: usize) -> usize
-    ensures { Emits (kind_name kind) out.old at out.new result }
+fn write_kind(kind: u32, w: &mut Writer) -> Listed
+    ensures { Lists (kind_name kind) w.old w.new result }
 {
-    if kind < Type::EOF {
-        return write_malformed(out, at);
-    }
-    if Type::RECORD < kind {
-        return write_malformed(out, at);
-    }
-    let k = kind as usize;
-    let from = Type::NAME_ENDS[k - 1];
-    let to = Type::NAME_ENDS[k];
-    write_text(&Type::NAMES[from..to], out, at)
+    let Some(name) = Type::name(kind) else {
+        return Err(Malformed);
+    };
+    w.write_text(name.as_bytes());
+    Ok(())
 }
 
-pub(crate) fn write_token(before: usize, t: Token, out: &mut [u8], at: usize) -> usize
-    ensures { Emits (gap before ++ token t) out.old at out.new result }
+fn write_token(t: Token, w: &mut Writer) -> Listed
+    ensures { Lists (token t) w.old w.new result }
 {
-    let a = write_gap(before, out, at);
-    let b = write_byte(b'(', out, a);
-    let c = write_kind(t.kind, out, b);
-    let d = write_number(1, t.start, out, c);
-    let e = write_number(1, t.len, out, d);
-    write_byte(b')', out, e)
+    w.write_byte(b'(');
+    write_kind(t.kind, w)?;
+    write_next_number(t.start, w);
+    write_next_number(t.len, w);
+    w.write_byte(b')');
+    Ok(())
+}
+
+// A run of members of `width` cells, each by `write_member` from its first cell.
+fn write_list<F: Fn(usize, &mut Writer) -> Listed>(
+    lists: &[u32],
+    width: usize,
+    run: Run,
+    w: &mut Writer,
+    write_member: F,
+) -> Listed
+    requires narrow { width < 9 }
+    requires callable { (j : ℕ) (u : _) → j < 1099511627776 → F.pre write_member j u }
+    ensures { (member : ℕ → List ℕ) → ListsEach (F.post write_member) 1099511627776 member
+        → Lists (listed width lists.now member run) w.old w.new result }
+{
+    let start = run.start as usize;
+    let len = run.len as usize;
+    if lists.len() < start + width * len {
+        return Err(Malformed);
+    }
+    w.write_byte(b'(');
+    for i in 0..len {
+        write_gap(i, w);
+        write_member(start + width * i, w)?;
+    }
+    w.write_byte(b')');
+    Ok(())
+}
+
+fn write_tokens(lists: &[u32], run: Run, w: &mut Writer) -> Listed
+    ensures { Lists (tokens lists.now run) w.old w.new result }
+{
+    write_list(
+        lists,
+        TOKEN_WIDTH,
+        run,
+        w,
+        |j, w| write_token(token_at(lists, j), w),
+    )
+}
+
+// The nodes of a body, of arguments, of an array.
+fn write_ids(lists: &[u32], run: Run, w: &mut Writer) -> Listed
+    ensures { Lists (ids lists.now run) w.old w.new result }
+{
+    write_list(lists, NODE_WIDTH, run, w, |j, w| {
+        w.write_number(cell(lists, j, 0) as usize);
+        Ok(())
+    })
 }
 
 // A token and a number, from cell `j` on.
-fn write_pair(before: usize, lists: &[u32], j: usize, out: &mut [u8], at: usize) -> usize
-    ensures { let text = gap before ++ pair lists.now j in
-        Emits text out.old at out.new result }
+fn write_pair(lists: &[u32], j: usize, w: &mut Writer) -> Listed
+    ensures { Lists (pair lists.now j) w.old w.new result }
 {
-    let a = write_gap(before, out, at);
-    let b = write_byte(b'(', out, a);
-    let c = write_token(0, token_at(lists, j), out, b);
-    let d = write_number(1, cell(lists, j, 3) as usize, out, c);
-    write_byte(b')', out, d)
+    w.write_byte(b'(');
+    write_token(token_at(lists, j), w)?;
+    write_next_number(cell(lists, j, 3) as usize, w);
+    w.write_byte(b')');
+    Ok(())
 }
 
-// A member from cell `j` on, by the sort of its list. A case has `((token condition) body)`, a fn
-// of an extern `(docs name arguments type)`, and the lists that these name have members that name
-// none.
-#[cycle(members)]
-fn write_member(
-    before: usize,
-    lists: &[u32],
-    sort: u64,
-    j: usize,
-    out: &mut [u8],
-    at: usize,
-) -> usize
+fn write_pairs(lists: &[u32], run: Run, w: &mut Writer) -> Listed
+    ensures { Lists (pairs lists.now run) w.old w.new result }
+{
+    write_list(lists, PARAM_WIDTH, run, w, |j, w| write_pair(lists, j, w))
+}
+
+// A case of a match, `((token condition) body)`.
+fn write_branch(lists: &[u32], j: usize, w: &mut Writer) -> Listed
+    requires { j + 4 < 18446744073709551616 }
+    ensures { Lists (branch lists.now j) w.old w.new result }
+{
+    w.write_byte(b'(');
+    write_pair(lists, j, w)?;
+    w.write_byte(b' ');
+    write_ids(lists, run_at(lists, j + 4), w)?;
+    w.write_byte(b')');
+    Ok(())
+}
+
+// A fn of an extern, `(docs name arguments type)`.
+fn write_extern_fn(lists: &[u32], j: usize, w: &mut Writer) -> Listed
     requires { j + 5 < 18446744073709551616 }
-    ensures { let text = gap before ++ member lists.now (members_of sort) j in
-        Emits text out.old at out.new result }
+    ensures { Lists (extern_fn lists.now j) w.old w.new result }
 {
-    if sort == Sort::NODES {
-        return write_number(before, cell(lists, j, 0) as usize, out, at);
-    }
-    if sort == Sort::PARAMS {
-        return write_pair(before, lists, j, out, at);
-    }
-    if sort == Sort::FIELDS {
-        return write_pair(before, lists, j, out, at);
-    }
-    if sort == Sort::CASES {
-        let a = write_gap(before, out, at);
-        let b = write_byte(b'(', out, a);
-        let c = write_pair(0, lists, j, out, b);
-        let d = write_list(1, lists, Sort::NODES, run_at(lists, j + 4), out, c);
-        return write_byte(b')', out, d);
-    }
-    if sort == Sort::FNS {
-        let a = write_gap(before, out, at);
-        let b = write_byte(b'(', out, a);
-        let c = write_list(0, lists, Sort::TOKENS, run_at(lists, j), out, b);
-        let d = write_token(1, token_at(lists, j + 2), out, c);
-        let e = write_list(1, lists, Sort::PARAMS, run_at(lists, j + 5), out, d);
-        let f = write_number(1, cell(lists, j, 7) as usize, out, e);
-        return write_byte(b')', out, f);
-    }
-    write_token(before, token_at(lists, j), out, at)
+    w.write_byte(b'(');
+    write_tokens(lists, run_at(lists, j), w)?;
+    w.write_byte(b' ');
+    write_token(token_at(lists, j + 2), w)?;
+    w.write_byte(b' ');
+    write_pairs(lists, run_at(lists, j + 5), w)?;
+    write_next_number(cell(lists, j, 7) as usize, w);
+    w.write_byte(b')');
+    Ok(())
 }
 
-// The list of a run, by its sort.
-#[cycle(members)]
-pub(crate) fn write_list(
-    before: usize,
-    lists: &[u32],
-    sort: u64,
-    run: Run,
-    out: &mut [u8],
-    at: usize,
-) -> usize
-    ensures { let text = gap before ++ list lists.now (members_of sort) run in
-        Emits text out.old at out.new result }
+// What a form has behind its name.
+#[derive(Clone, Copy)]
+pub(crate) enum Field {
+    Number(u32),
+    Token(Token),
+    Tokens(Run),
+    Ids(Run),
+    Pairs(Run),
+    Branches(Run),
+    ExternFns(Run),
+    Default(Token, Run), // a token and the body behind it
+}
+
+fn write_field(lists: &[u32], field: Field, w: &mut Writer) -> Listed
+    ensures { Lists (field_text lists.now field) w.old w.new result }
 {
-    let a = write_gap(before, out, at);
-    let start = run.start as usize;
-    let len = run.len as usize;
-    let width = member_width(sort);
-    if lists.len() < start + width * len {
-        return write_malformed(out, a);
+    match field {
+        Field::Number(n) => {
+            w.write_number(n as usize);
+            Ok(())
+        }
+        Field::Token(t) => write_token(t, w),
+        Field::Tokens(run) => write_tokens(lists, run, w),
+        Field::Ids(run) => write_ids(lists, run, w),
+        Field::Pairs(run) => write_pairs(lists, run, w),
+        Field::Branches(run) => {
+            write_list(lists, CASE_WIDTH, run, w, |j, w| write_branch(lists, j, w))
+        }
+        Field::ExternFns(run) => {
+            write_list(lists, FN_WIDTH, run, w, |j, w| write_extern_fn(lists, j, w))
+        }
+        Field::Default(t, body) => write_default(lists, t, body, w),
     }
-    let mut to = write_byte(b'(', out, a);
-    let mut i = 0;
-    while i < len {
-        to = write_member(i, lists, sort, start + width * i, out, to);
-        i += 1;
+}
+
+// The token and the body of a match's default.
+fn write_default(lists: &[u32], t: Token, body: Run, w: &mut Writer) -> Listed
+    ensures { Lists (tuple (token t) (ids lists.now body ∷ [])) w.old w.new result }
+{
+    w.write_byte(b'(');
+    write_token(t, w)?;
+    w.write_byte(b' ');
+    write_ids(lists, body, w)?;
+    w.write_byte(b')');
+    Ok(())
+}
+
+// `(name field field ..)`.
+pub(crate) fn write_form(lists: &[u32], name: &[u8], fields: &[Field], w: &mut Writer) -> Listed
+    ensures { let texts = map (field_text lists.now) fields.now in
+        Lists (form name.now texts) w.old w.new result }
+{
+    w.write_byte(b'(');
+    w.write_text(name);
+    for field in fields {
+        w.write_byte(b' ');
+        write_field(lists, *field, w)?;
     }
-    write_byte(b')', out, to)
+    w.write_byte(b')');
+    Ok(())
 }

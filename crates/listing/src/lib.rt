@@ -6,57 +6,88 @@ mod forms;
 mod lines;
 mod records;
 
-ghost use Rattle.std.specs.Prelude.{◌≡◌};
-ghost use Rattle.text.specs.Answer.{Result};
-ghost use Rattle.rules.specs.Promise.{arrays_of};
-ghost use Rattle.listing.specs.Listing.{text_of, into_buffer, listing_answer};
+ghost use Rattle.std.specs.Prelude.{◌≡◌, ◌≤◌, length, IfOk};
+ghost use Rattle.text.specs.Answer.{Result as Left};
+ghost use Rattle.rules.specs.Parsed.{parsed_of};
+ghost use Rattle.listing.specs.Listing.{held, within, text_of, into_buffer, Measures};
+ghost use Rattle.listing.specs.Listing.{listing_answer};
 
+use crate::emit::Malformed;
 use crate::lines::write_answer;
-use ast::Parsed;
-use text::LAST;
+use ast::{Counts, DIAGNOSTIC_WIDTH, Node, Parsed, TypeExpr};
+use text::{LAST, Writer};
 
-// How many bytes were written; or that the buffer is too short, or that the arrays hold no tree.
-// The buffer is unchanged then.
+// The arrays that a reading fills.
 #[derive(Clone, Copy)]
-pub enum Listing {
-    Written(usize),
+pub struct Arrays<'a> {
+    pub nodes: &'a [u32],
+    pub types: &'a [u32],
+    pub lists: &'a [u32],
+    pub roots: &'a [u32],
+    pub diagnostics: &'a [u32],
+}
+
+impl Arrays<'_> {
+    // Whether they have what the counts say.
+    #[tactic(auto, unfolding(crate::specs::Listing::within))]
+    fn holds(&self, c: Counts) -> bool
+        ensures { result ≡ within c (held self.now) }
+    {
+        Node::WIDTH * c.nodes as usize <= self.nodes.len()
+            && TypeExpr::WIDTH * c.types as usize <= self.types.len()
+            && c.cells as usize <= self.lists.len()
+            && c.roots as usize <= self.roots.len()
+            && DIAGNOSTIC_WIDTH * c.diagnostics as usize <= self.diagnostics.len()
+    }
+}
+
+// Why nothing is listed: the buffer is too short, or the arrays hold no tree. The buffer is
+// unchanged then.
+#[derive(Clone, Copy, Debug, PartialEq, Eq)]
+pub enum ListingError {
     Short,
     Malformed,
 }
 
-// The text is counted on an empty buffer before it is written, so that a buffer that is too short
-// stays as it is.
-pub fn write_listing(
-    answer: Parsed,
-    nodes: &[u32],
-    types: &[u32],
-    lists: &[u32],
-    roots: &[u32],
-    diagnostics: &[u32],
-    out: &mut [u8],
-) -> Listing
-    ensures { let tree =
-        arrays_of nodes.now types.now lists.now
-        roots.now diagnostics.now
-        in
-        let left : Result = record { answer = listing_answer result; buffer = out.new } in
-        left ≡ into_buffer (text_of answer tree) out.old }
+impl From<Malformed> for ListingError {
+    ghost use Rattle.listing.specs.declared.ListingError.{ListingError};
+
+    ghost from_gives = { λ malformed error. error ≡ ListingError.Malformed };
+
+    fn from(_malformed: Malformed) -> ListingError
+        ensures { result ≡ ListingError.Malformed }
+    {
+        ListingError::Malformed
+    }
+}
+
+// How many bytes the text of an answer has: counted on a buffer that has no room.
+fn text_length(answer: Parsed, arrays: &Arrays) -> Result<usize, Malformed>
+    ensures { Measures (text_of (parsed_of answer) (held arrays.now)) result }
 {
-    let n = write_answer(
-        answer,
-        nodes,
-        types,
-        lists,
-        roots,
-        diagnostics,
-        &mut out[..0],
-        0,
-    );
-    if n == LAST {
-        return Listing::Malformed;
+    let mut w = Writer {
+        out: &mut [],
+        at: 0,
+    };
+    write_answer(answer, arrays, &mut w)?;
+    if w.at == LAST {
+        return Err(Malformed);
     }
-    if out.len() < n {
-        return Listing::Short;
+    Ok(w.at)
+}
+
+// How many bytes were written. They are counted first, so that a buffer that is too short stays as
+// it is.
+pub fn write_listing(answer: Parsed, arrays: &Arrays, out: &mut [u8]) -> Result<usize, ListingError>
+    ensures listed { let left : Left = record { answer = listing_answer result; buffer = out.new } in
+        left ≡ into_buffer (text_of (parsed_of answer) (held arrays.now)) out.old }
+    ensures inside { IfOk result (λ n. n ≤ length out.new) }
+{
+    let length = text_length(answer, arrays)?;
+    if out.len() < length {
+        return Err(ListingError::Short);
     }
-    Listing::Written(write_answer(answer, nodes, types, lists, roots, diagnostics, out, 0))
+    let mut w = Writer { out, at: 0 };
+    write_answer(answer, arrays, &mut w)?;
+    Ok(length)
 }

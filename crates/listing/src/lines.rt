@@ -1,301 +1,161 @@
 // The lines of the listing.
-ghost use Rattle.std.specs.Prelude.{◌+◌, ◌*◌, ◌<◌, ◌≡◌, [], ◌∷◌, ◌++◌, get_or};
+ghost use Rattle.std.specs.Prelude.{ℕ, List, [], ◌∷◌, ◌++◌, ◌≡◌, ◌<◌, map};
 ghost use Rattle.ast.specs.Decode.{node_at, type_at};
 ghost use Rattle.text.specs.Text.{bytes, number};
-ghost use Rattle.listing.specs.Text.{gap, each, fields};
-ghost use Rattle.rules.specs.Promise.{arrays_of};
-ghost use Rattle.listing.specs.Listing.{line, node_text, type_text, counts_line, roots_line};
-ghost use Rattle.listing.specs.Listing.{numbers_line, error_line, tree_text, within};
-ghost use Rattle.listing.specs.Listing.{diagnostic_at, text_of, node_line, type_line};
-ghost use Rattle.text.specs.Emit.{Emits};
+ghost use Rattle.text.specs.Emit.{Writes};
+ghost use Rattle.rules.specs.Parsed.{parsed_of, Parsed as Answer};
+ghost use Rattle.listing.specs.Text.{each};
+ghost use Rattle.listing.specs.Listing.{line, node_text, type_text, counts_line, numbers_line};
+ghost use Rattle.listing.specs.Listing.{error_line, failure_line, diagnostic_at, held, text_of};
+ghost use Rattle.listing.specs.Lists.{Lists, ListsEach};
 
-use crate::emit::{write_malformed, write_number};
-use crate::records::{write_node, write_one_number, write_type};
-use ast::decode::{NodeRead, TypeRead, cell};
-use ast::{Counts, DIAGNOSTIC_WIDTH, Node, NodeId, Parsed, TypeExpr, TypeExprId};
+use crate::Arrays;
+use crate::emit::{Listed, Malformed, write_next_number, write_numbers};
+use crate::records::{write_node, write_type};
+use ast::decode::{diagnostic_at, node, type_expr};
+use ast::{Counts, DIAGNOSTIC_WIDTH, NodeId, Parsed, ReadError, TypeExprId};
 use lex::Diagnostic;
-use text::{write_byte, write_text};
+use text::Writer;
+
+// A line of numbers.
+fn write_line(name: &[u8], numbers: &[u32], w: &mut Writer)
+    ensures { Writes (line name.now (map number numbers.now)) w.old w.new }
+{
+    write_numbers(name, numbers, w);
+    w.write_byte(b'\n');
+}
 
 // How many nodes, types and values there are.
-fn write_counts(c: Counts, out: &mut [u8], at: usize) -> usize
-    ensures { let text = counts_line c.nodes c.types c.values in
-        Emits text out.old at out.new result }
+fn write_counts(c: Counts, w: &mut Writer)
+    ensures { Writes (counts_line c.nodes c.types c.values) w.old w.new }
 {
-    let a = write_text(b"(tree", out, at);
-    let b = write_one_number(b" (nodes", c.nodes as usize, out, a);
-    let d = write_one_number(b" (types", c.types as usize, out, b);
-    let e = write_one_number(b" (values", c.values as usize, out, d);
-    let f = write_byte(b')', out, e);
-    write_byte(b'\n', out, f)
+    w.write_text(b"(tree ");
+    write_numbers(b"nodes", &[c.nodes], w);
+    w.write_byte(b' ');
+    write_numbers(b"types", &[c.types], w);
+    w.write_byte(b' ');
+    write_numbers(b"values", &[c.values], w);
+    w.write_byte(b')');
+    w.write_byte(b'\n');
 }
 
-// Node `i`; its record is asked of the nodes.
-fn write_node_field(nodes: &[u32], lists: &[u32], i: u32, out: &mut [u8], at: usize) -> usize
-    ensures { let text = gap 1 ++ node_text lists.now (node_at nodes.now i) in
-        Emits text out.old at out.new result }
+fn write_node_at(nodes: &[u32], lists: &[u32], i: u32, w: &mut Writer) -> Listed
+    ensures { Lists (node_text lists.now (node_at nodes.now i)) w.old w.new result }
 {
-    let a = write_byte(b' ', out, at);
-    match ast::decode::node(nodes, NodeId(i)) {
-        NodeRead::Known(n) => write_node(lists, n, out, a),
-        NodeRead::Unknown => write_malformed(out, a),
+    match node(nodes, NodeId(i)) {
+        Some(n) => write_node(lists, n, w),
+        None => Err(Malformed),
     }
 }
 
-fn write_node_line(nodes: &[u32], lists: &[u32], i: u32, out: &mut [u8], at: usize) -> usize
-    ensures { let text = node_line lists.now (node_at nodes.now) i in
-        Emits text out.old at out.new result }
+fn write_type_at(types: &[u32], lists: &[u32], i: u32, w: &mut Writer) -> Listed
+    ensures { Lists (type_text lists.now (type_at types.now i)) w.old w.new result }
 {
-    let a = write_text(b"(node", out, at);
-    let b = write_number(1, i as usize, out, a);
-    let c = write_node_field(nodes, lists, i, out, b);
-    let d = write_byte(b')', out, c);
-    write_byte(b'\n', out, d)
-}
-
-fn write_nodes(nodes: &[u32], lists: &[u32], n: u32, out: &mut [u8], at: usize) -> usize
-    ensures { let text = each (node_line lists.now (node_at nodes.now)) n in
-        Emits text out.old at out.new result }
-{
-    let mut to = at;
-    let mut i = 0;
-    while i < n {
-        to = write_node_line(nodes, lists, i, out, to);
-        i += 1;
-    }
-    to
-}
-
-// Type `i`; its record is asked of the types.
-fn write_type_field(types: &[u32], lists: &[u32], i: u32, out: &mut [u8], at: usize) -> usize
-    ensures { let text = gap 1 ++ type_text lists.now (type_at types.now i) in
-        Emits text out.old at out.new result }
-{
-    let a = write_byte(b' ', out, at);
-    match ast::decode::type_expr(types, TypeExprId(i)) {
-        TypeRead::Known(t) => write_type(lists, t, out, a),
-        TypeRead::Unknown => write_malformed(out, a),
+    match type_expr(types, TypeExprId(i)) {
+        Some(t) => write_type(lists, t, w),
+        None => Err(Malformed),
     }
 }
 
-fn write_type_line(types: &[u32], lists: &[u32], i: u32, out: &mut [u8], at: usize) -> usize
-    ensures { let text = type_line lists.now (type_at types.now) i in
-        Emits text out.old at out.new result }
+// A line `(name i record)` for each of `n` records, which `write_record` writes.
+fn write_records<F: Fn(u32, &mut Writer) -> Listed>(
+    name: &[u8],
+    n: u32,
+    w: &mut Writer,
+    write_record: F,
+) -> Listed
+    requires callable { (i : ℕ) (u : _) → i < n → F.pre write_record i u }
+    ensures { (text : ℕ → List ℕ) → ListsEach (F.post write_record) n text
+        → Lists (each (λ i. line name.now (number i ∷ text i ∷ [])) n) w.old w.new result }
 {
-    let a = write_text(b"(type", out, at);
-    let b = write_number(1, i as usize, out, a);
-    let c = write_type_field(types, lists, i, out, b);
-    let d = write_byte(b')', out, c);
-    write_byte(b'\n', out, d)
-}
-
-fn write_types(types: &[u32], lists: &[u32], n: u32, out: &mut [u8], at: usize) -> usize
-    ensures { let text = each (type_line lists.now (type_at types.now)) n in
-        Emits text out.old at out.new result }
-{
-    let mut to = at;
-    let mut i = 0;
-    while i < n {
-        to = write_type_line(types, lists, i, out, to);
-        i += 1;
+    for i in 0..n {
+        w.write_byte(b'(');
+        w.write_text(name);
+        write_next_number(i as usize, w);
+        w.write_byte(b' ');
+        write_record(i, w)?;
+        w.write_byte(b')');
+        w.write_byte(b'\n');
     }
-    to
-}
-
-fn write_root_ids(roots: &[u32], n: usize, out: &mut [u8], at: usize) -> usize
-    ensures { let text = each (λ i. gap 1 ++ number (get_or roots.now i 0)) n in
-        Emits text out.old at out.new result }
-{
-    let mut to = at;
-    let mut i = 0;
-    while i < n {
-        to = write_number(1, cell(roots, i, 0) as usize, out, to);
-        i += 1;
-    }
-    to
-}
-
-fn write_roots(roots: &[u32], n: usize, out: &mut [u8], at: usize) -> usize
-    ensures { let text = roots_line (λ i. get_or roots.now i 0) n in
-        Emits text out.old at out.new result }
-{
-    let a = write_text(b"(roots", out, at);
-    let b = write_root_ids(roots, n, out, a);
-    write_text(b")\n", out, b)
+    Ok(())
 }
 
 // The five numbers of an error.
-fn write_numbers(name: &[u8], e: Diagnostic, out: &mut [u8], at: usize) -> usize
-    ensures { let numbers =
-        number e.number ∷ number e.start ∷ number e.len ∷
-        number e.wanted ∷ number e.seen ∷ []
-        in
-        let text = (name.now ++ fields numbers) ++ (10 ∷ []) in
-        Emits text out.old at out.new result }
+fn write_diagnostic(name: &[u8], e: Diagnostic, w: &mut Writer)
+    ensures { Writes (numbers_line name.now e) w.old w.new }
 {
-    let a = write_text(name, out, at);
-    let b = write_number(1, e.number as usize, out, a);
-    let c = write_number(1, e.start as usize, out, b);
-    let d = write_number(1, e.len as usize, out, c);
-    let f = write_number(1, e.wanted as usize, out, d);
-    let g = write_number(1, e.seen as usize, out, f);
-    let h = write_byte(b')', out, g);
-    write_byte(b'\n', out, h)
+    write_line(name, &[e.number, e.start, e.len, e.wanted, e.seen], w);
 }
 
-// Error `i` of the diagnostics.
-fn diagnostic_at(diagnostics: &[u32], i: u32) -> Diagnostic
-    ensures { result ≡ diagnostic_at diagnostics.now i }
-{
-    let at = DIAGNOSTIC_WIDTH * i as usize;
-    let number = cell(diagnostics, at, 0);
-    let start = cell(diagnostics, at, 1);
-    let len = cell(diagnostics, at, 2);
-    let wanted = cell(diagnostics, at, 3);
-    let seen = cell(diagnostics, at, 4);
-    Diagnostic {
-        number,
-        start,
-        len,
-        wanted,
-        seen,
-    }
-}
-
-fn write_diagnostic(diagnostics: &[u32], i: u32, out: &mut [u8], at: usize) -> usize
-    ensures { let text = numbers_line (bytes "diag") (diagnostic_at diagnostics.now i) in
-        Emits text out.old at out.new result }
-{
-    write_numbers(b"(diag", diagnostic_at(diagnostics, i), out, at)
-}
-
-fn write_diagnostics(diagnostics: &[u32], n: u32, out: &mut [u8], at: usize) -> usize
+fn write_diagnostics(diagnostics: &[u32], n: u32, w: &mut Writer)
     ensures { let error = diagnostic_at diagnostics.now in
-        let text = each (λ i. numbers_line (bytes "diag") (error i)) n in
-        Emits text out.old at out.new result }
+        Writes (each (λ i. numbers_line (bytes "diag") (error i)) n) w.old w.new }
 {
-    let mut to = at;
-    let mut i = 0;
-    while i < n {
-        to = write_diagnostic(diagnostics, i, out, to);
-        i += 1;
+    for i in 0..n {
+        write_diagnostic(
+            b"diag",
+            diagnostic_at(diagnostics, DIAGNOSTIC_WIDTH * i as usize),
+            w,
+        );
     }
-    to
 }
 
-// A tree; `lists` is the used part of the list cells.
-fn write_tree(
-    c: Counts,
-    nodes: &[u32],
-    types: &[u32],
-    lists: &[u32],
-    roots: &[u32],
-    diagnostics: &[u32],
-    out: &mut [u8],
-    at: usize,
-) -> usize
-    ensures { let text =
-        tree_text c lists.now (node_at nodes.now)
-        (type_at types.now) (λ i. get_or roots.now i 0)
-        (diagnostic_at diagnostics.now)
-        in
-        Emits text out.old at out.new result }
+fn write_tree(c: Counts, arrays: &Arrays, w: &mut Writer) -> Listed
+    ensures { Lists (text_of (Answer.Tree c) (held arrays.now)) w.old w.new result }
 {
-    let a = write_counts(c, out, at);
-    let b = write_nodes(nodes, lists, c.nodes, out, a);
-    let d = write_types(types, lists, c.types, out, b);
-    let e = write_roots(roots, c.roots as usize, out, d);
-    write_diagnostics(diagnostics, c.diagnostics, out, e)
+    if !arrays.holds(c) {
+        return Err(Malformed);
+    }
+    let nodes = arrays.nodes;
+    let types = arrays.types;
+    let lists = &arrays.lists[..c.cells as usize];
+    write_counts(c, w);
+    write_records(
+        b"node",
+        c.nodes,
+        w,
+        |i, w| write_node_at(nodes, lists, i, w),
+    )?;
+    write_records(
+        b"type",
+        c.types,
+        w,
+        |i, w| write_type_at(types, lists, i, w),
+    )?;
+    write_line(b"roots", &arrays.roots[..c.roots as usize], w);
+    write_diagnostics(arrays.diagnostics, c.diagnostics, w);
+    Ok(())
 }
 
-// An error that ended the reading; 10 is a refusal.
-fn write_error(e: Diagnostic, out: &mut [u8], at: usize) -> usize
-    ensures { Emits (error_line e) out.old at out.new result }
+// An error that ended the reading; one of too much depth is a refusal, and has no kinds.
+fn write_error(e: Diagnostic, w: &mut Writer)
+    ensures { Writes (error_line e) w.old w.new }
 {
-    let number = e.number;
-    if number == Diagnostic::TOO_DEEP {
-        let a = write_text(b"(refused", out, at);
-        let b = write_number(1, number as usize, out, a);
-        let c = write_number(1, e.start as usize, out, b);
-        let d = write_number(1, e.len as usize, out, c);
-        let f = write_byte(b')', out, d);
-        return write_byte(b'\n', out, f);
+    if e.number == Diagnostic::TOO_DEEP {
+        write_line(b"refused", &[e.number, e.start, e.len], w);
+    } else {
+        write_diagnostic(b"error", e, w);
     }
-    write_numbers(b"(error", e, out, at)
 }
 
-fn write_refused(n: u32, out: &mut [u8], at: usize) -> usize
-    ensures { let text = line (bytes "refused") (number n ∷ []) in
-        Emits text out.old at out.new result }
+// Why there is no tree.
+fn write_failure(failure: ReadError, w: &mut Writer)
+    ensures { Writes (failure_line failure) w.old w.new }
 {
-    let a = write_one_number(b"(refused", n as usize, out, at);
-    write_byte(b'\n', out, a)
+    match failure {
+        ReadError::Script(e) => write_error(e, w),
+        ReadError::Refused(refusal) => write_line(b"refused", &[refusal.into()], w),
+    }
 }
 
-// Whether the arrays have what the counts say.
-fn holds_counts(
-    c: Counts,
-    nodes: &[u32],
-    types: &[u32],
-    lists: &[u32],
-    roots: &[u32],
-    diagnostics: &[u32],
-) -> bool
-    ensures { let tree =
-        arrays_of nodes.now types.now lists.now
-        roots.now diagnostics.now
-        in
-        result ≡ within c tree }
-{
-    if nodes.len() < Node::WIDTH * c.nodes as usize {
-        return false;
-    }
-    if types.len() < TypeExpr::WIDTH * c.types as usize {
-        return false;
-    }
-    if lists.len() < c.cells as usize {
-        return false;
-    }
-    if roots.len() < c.roots as usize {
-        return false;
-    }
-    DIAGNOSTIC_WIDTH * c.diagnostics as usize <= diagnostics.len()
-}
-
-pub(crate) fn write_answer(
-    answer: Parsed,
-    nodes: &[u32],
-    types: &[u32],
-    lists: &[u32],
-    roots: &[u32],
-    diagnostics: &[u32],
-    out: &mut [u8],
-    at: usize,
-) -> usize
-    ensures { let tree =
-        arrays_of nodes.now types.now lists.now
-        roots.now diagnostics.now
-        in
-        Emits (text_of answer tree) out.old at out.new result }
+pub(crate) fn write_answer(answer: Parsed, arrays: &Arrays, w: &mut Writer) -> Listed
+    ensures { Lists (text_of (parsed_of answer) (held arrays.now)) w.old w.new result }
 {
     match answer {
-        Parsed::Tree(c) => {
-            if holds_counts(c, nodes, types, lists, roots, diagnostics) {
-                let cells = c.cells as usize;
-                write_tree(
-                    c,
-                    nodes,
-                    types,
-                    &lists[..cells],
-                    roots,
-                    diagnostics,
-                    out,
-                    at,
-                )
-            } else {
-                write_malformed(out, at)
-            }
+        Ok(counts) => write_tree(counts, arrays, w),
+        Err(failure) => {
+            write_failure(failure, w);
+            Ok(())
         }
-        Parsed::Error(e) => write_error(e, out, at),
-        Parsed::Refused(n) => write_refused(n, out, at),
     }
 }

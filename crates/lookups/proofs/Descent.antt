@@ -3,11 +3,11 @@ use mathlib.Core.Path.{◌≡◌, refl, sym, ◌∙◌, ap}
 use mathlib.Core.Bool.{Bool, true, false}
 use mathlib.Core.Option.{Option, none, some}
 use mathlib.Core.List.{List}
-use Prim.Native.Nat.{ℕ, ◌+◌, ◌-◌, ◌%◌, ◌<◌, ◌≤◌}
+use Prim.Native.Nat.{ℕ, ◌<◌, ◌≤◌}
 use native.Mathlib.Omega.{arith}
 use lib.Dec.{ltb, eqb}
 use lib.ListN.{get_or}
-use borrow.Author.Tests.{lt-ltb, le-ltb, ltb-true, ltb-false, ne_eqb}
+use borrow.Author.Tests.{lt-ltb, le-ltb, ltb-true, ltb-false}
 use Rattle.lex.specs.Spelling.{well_formed}
 use Rattle.ast.specs.Lists.{and_then}
 use Rattle.lex.specs.declared.tok.Token.{Token}
@@ -18,37 +18,13 @@ use Rattle.ast.specs.declared.Node.TheVariants as N
 use Rattle.ast.specs.declared.TypeExpr.{TypeExpr}
 use Rattle.ast.specs.declared.TypeExpr.TheVariants as T
 use Rattle.lex.specs.Bytes.{if}
-use Rattle.ast.specs.Decode.{low32, token_at, node_at, type_at, node_read, type_read}
+use Rattle.ast.specs.Decode.{low32, token_at, node_at, type_at}
 use Rattle.ast.specs.Tabulate.{entries_below, entry_at}
 use Rattle.ast.proofs.Tabulate.{entries_below_lem, entries_past}
 use Rattle.lookups.specs.Lookup.{inside, token_start, or_else, match_start, start_of, start_row, start_at, type_token_of, type_token_row, type_token_at}
-use Rattle.lookups.specs.Descent.{as_start, start_or, array_step, step_of, decode_start, inner_of, Innermost}
-use Rattle.ast.specs.declared.decode.NodeRead.{NodeRead}
-use Rattle.ast.specs.declared.decode.NodeRead.TheVariants as NR
-use Rattle.ast.specs.declared.decode.TypeRead.{TypeRead}
-use Rattle.ast.specs.declared.decode.TypeRead.TheVariants as TR
-use Rattle.lookups.specs.declared.Start.{Start}
-use Rattle.lookups.specs.declared.Start.TheVariants as S
-use Rattle.lookups.specs.declared.Step.{Step}
-use Rattle.lookups.specs.declared.Step.TheVariants as St
-
--- ---- what a read record says of its array
-
-pub node_is : {r : NodeRead} {x : Option Node} {n m : Node} → node_read r ≡ x → r ≡ NR.Known n → n ≡ m → x ≡ some m
-unfolding node_read
-node_is e k q = sym e ∙ ap node_read k ∙ ap some q
-
-pub node_is_none : {r : NodeRead} {x : Option Node} → node_read r ≡ x → r ≡ NR.Unknown → x ≡ none
-unfolding node_read
-node_is_none e k = sym e ∙ ap node_read k
-
-pub type_is : {r : TypeRead} {x : Option TypeExpr} {n m : TypeExpr} → type_read r ≡ x → r ≡ TR.Known n → n ≡ m → x ≡ some m
-unfolding type_read
-type_is e k q = sym e ∙ ap type_read k ∙ ap some q
-
-pub type_is_none : {r : TypeRead} {x : Option TypeExpr} → type_read r ≡ x → r ≡ TR.Unknown → x ≡ none
-unfolding type_read
-type_is_none e k = sym e ∙ ap type_read k
+use Rattle.lookups.specs.Descent.{as_start, start_or, Start, Step, done, descend, array_step, step_of, inner_of, own_token, Innermost}
+use Rattle.std.specs.Prelude.{Err}
+use Rattle.lex.specs.declared.diagnostic.Refusal.TheVariants.{Malformed}
 
 -- ---- an answer that no other stands in for
 
@@ -79,22 +55,22 @@ module _ (script cells nodes : List ℕ) where
 
   -- what comes of a step of record `i`
   unfoldable pub finish : ℕ → Step → Start
-  finish i (St.Done s) = s
-  finish i (St.Descend j o) = if (ltb j.0 i) (start_or o (as_start (start_at script cells nodes j.0))) (S.Refused 4)
+  finish i (done s) = s
+  finish i (descend j o) = if (ltb j.0 i) (start_or o (as_start (start_at script cells nodes j.0))) (Err Malformed)
 
-  pub finish_below : (i : ℕ) (j : NodeId) (o : Start) → j.0 < i → finish i (St.Descend j o) ≡ start_or o (as_start (start_at script cells nodes j.0))
+  pub finish_below : (i : ℕ) (j : NodeId) (o : Start) → j.0 < i → finish i (descend j o) ≡ start_or o (as_start (start_at script cells nodes j.0))
   unfolding finish
   finish_below i j o h = rw (lt-ltb j.0 i h)
 
-  pub finish_past : (i : ℕ) (j : NodeId) (o : Start) → i ≤ j.0 → finish i (St.Descend j o) ≡ S.Refused 4
+  pub finish_past : (i : ℕ) (j : NodeId) (o : Start) → i ≤ j.0 → finish i (descend j o) ≡ Err Malformed
   unfolding finish
   finish_past i j o h = rw (le-ltb j.0 i h)
 
-  finish_descend : (i : ℕ) (j : NodeId) (o : Start) → finish i (St.Descend j o) ≡ start_or o (as_start (before i j.0))
+  finish_descend : (i : ℕ) (j : NodeId) (o : Start) → finish i (descend j o) ≡ start_or o (as_start (before i j.0))
   unfolding start_or as_start before entries_below
   finish_descend i j o = go (ltb j.0 i) refl
     where
-      go : (b : Bool) → ltb j.0 i ≡ b → finish i (St.Descend j o) ≡ start_or o (as_start (before i j.0))
+      go : (b : Bool) → ltb j.0 i ≡ b → finish i (descend j o) ≡ start_or o (as_start (before i j.0))
       go true e = finish_below i j o (ltb-true j.0 i e) ∙ ap (λ x. start_or o (as_start x)) (sym (entries_below_lem (start_row script cells) (node_at nodes) i j.0 (ltb-true j.0 i e)))
       go false e = finish_past i j o (ltb-false j.0 i e) ∙ ap (λ x. start_or o (as_start x)) (sym (entries_past (start_row script cells) (node_at nodes) i j.0 (ltb-false j.0 i e)))
 
@@ -106,7 +82,7 @@ module _ (script cells nodes : List ℕ) where
   operator other b (some (some p)) h = refl
 
   members : (other : Start) (i j : ℕ) (a e : Bool)
-      → finish i (if a (if e (St.Done other) (St.Descend (record { 0 = j }) other)) (St.Done (S.Refused 4))) ≡ start_or other (as_start (if a (if e (some none) (before i j)) none))
+      → finish i (if a (if e (done other) (descend (record { 0 = j }) other)) (done (Err Malformed))) ≡ start_or other (as_start (if a (if e (some none) (before i j)) none))
   unfolding finish as_start start_or
   members other i j true true = refl
   members other i j true false = finish_descend i (record { 0 = j }) other
@@ -135,44 +111,39 @@ module _ (script cells nodes : List ℕ) where
   unfolding entry_at before
   steps other i = step other i (node_at nodes i)
 
--- ---- a start as one number
-
-pub code_at : (p : ℕ) → p < 4294967296 → decode_start p ≡ S.At p
-unfolding decode_start
-code_at p h = rw (lt-ltb p 4294967296 h)
-
-pub code-nothing : (c : ℕ) → c ≡ 4294967296 → decode_start c ≡ S.Nothing
-unfolding decode_start
-code-nothing c h = rw h
-
-pub code-refused : (c : ℕ) → 4294967296 < c → decode_start c ≡ S.Refused ((c - 4294967296 - 1) % 4294967296)
-unfolding decode_start
-code-refused c h = rw (le-ltb c 4294967296 (omega arith), ne_eqb c 4294967296 (λ (e : c ≡ 4294967296). omega arith))
-
-pub code-number : (n : ℕ) → n < 4294967296 → decode_start (4294967296 + 1 + n) ≡ S.Refused n
-code-number n h = code-refused (4294967296 + 1 + n) (omega arith) ∙ ap S.Refused (let e : (4294967296 + 1 + n - 4294967296 - 1) % 4294967296 ≡ n = omega arith in e)
-
 -- ---- the token of a type
 
 module _ (script types : List ℕ) where
   unfoldable pub inner : ℕ → ℕ → Option Token
   inner = entries_below (type_token_row script) (type_at types)
 
-  pub token-none : (i : ℕ) → type_at types i ≡ none → type_token_at script types i ≡ none
+  token-none : (i : ℕ) → type_at types i ≡ none → type_token_at script types i ≡ none
   unfolding entry_at and_then
   token-none i e = rw e
 
-  pub token-some : (i : ℕ) {t : TypeExpr} → type_at types i ≡ some t → type_token_at script types i ≡ type_token_of script (inner i) t
+  token-some : (i : ℕ) {t : TypeExpr} → type_at types i ≡ some t → type_token_at script types i ≡ type_token_of script (inner i) t
   unfolding entry_at and_then inner
   token-some i e = rw e
 
-  pub inner_below : (i j : ℕ) → j < i → inner i j ≡ type_token_at script types j
+  inner_below : (i j : ℕ) → j < i → inner i j ≡ type_token_at script types j
   unfolding inner
   inner_below i j h = entries_below_lem (type_token_row script) (type_at types) i j h
 
-  pub inner_past : (i j : ℕ) → i ≤ j → inner i j ≡ none
+  inner_past : (i j : ℕ) → i ≤ j → inner i j ≡ none
   unfolding inner
   inner_past i j h = entries_past (type_token_row script) (type_at types) i j h
+
+  pub own_is : (i : ℕ) → i ≤ inner_of (type_at types i) i → own_token script (type_at types i) ≡ type_token_at script types i
+  unfolding own_token inner_of type_token_of
+  own_is i h = go (type_at types i) refl h
+    where
+      go : (o : Option TypeExpr) → type_at types i ≡ o → i ≤ inner_of o i → own_token script o ≡ type_token_at script types i
+      go none e h = sym (token-none i e)
+      go (some (T.Atom t)) e h = sym (token-some i e)
+      go (some (T.Foreign t)) e h = sym (token-some i e)
+      go (some (T.Option j)) e h = sym (token-some i e ∙ inner_past i j.0 h)
+      go (some (T.Array j)) e h = sym (token-some i e ∙ inner_past i j.0 h)
+      go (some (T.Record t fs)) e h = sym (token-some i e)
 
 -- a step down a type
 module _ (types : List ℕ) where
@@ -192,7 +163,3 @@ module _ (types : List ℕ) where
 
   pub innermost_here : (i j : ℕ) → j ≡ inner_of (type_at types i) i → i ≤ j → Innermost types i i
   innermost_here i j e h = record { ends = rw e at h; same = λ script. refl }
-
-  -- the inner type of one at the bottom is not below it
-  pub not_below : (script : List ℕ) (i : ℕ) (t : TypeExpr) → type_at types i ≡ some t → i ≤ inner_of (type_at types i) i → i ≤ inner_of (some t) i
-  not_below script i t e h = rw e at h

@@ -1,5 +1,6 @@
 -- What a lookup answers: where a node starts, and the token of a type.
-use Rattle.std.specs.Prelude.{Bool, List, ℕ, ◌+◌, ◌*◌, leb, ltb, eqb, length, get_or}
+use Rattle.std.specs.Prelude.{Bool, List, ℕ, ◌+◌, ◌*◌, leb, ltb, eqb, length, get_or, Result, Ok, Err}
+use Rattle.std.specs.Prelude as R
 use Rattle.std.proofs.Math.Option.{Option, none, some}
 use Rattle.lex.specs.declared.tok.Token.{Token}
 use Rattle.ast.specs.Layout.{node_width, type_width}
@@ -11,17 +12,14 @@ use Rattle.ast.specs.declared.Node.TheVariants as N
 use Rattle.ast.specs.declared.TypeExpr.{TypeExpr}
 use Rattle.ast.specs.declared.TypeExpr.TheVariants as T
 use Rattle.lex.specs.Bytes.{if}
-use Rattle.ast.specs.Decode.{fits, low32, token_at, node_at, type_at}
+use Rattle.ast.specs.Decode.{fits, low32, token_at, node_at, type_at, option_of}
 use Rattle.ast.specs.Tabulate.{entry_at}
 use Rattle.lex.specs.Answer.{Answer, refused, answer}
-use Rattle.lex.specs.Refusals.{r_outside, r_malformed}
+use Rattle.lex.specs.Refusals.{r_outside, r_malformed, number}
+use Rattle.lex.specs.declared.diagnostic.Refusal.{Refusal}
 use Rattle.ast.specs.Schema as Sc
 use Rattle.ast.specs.Schema.{member_width}
 use Rattle.ast.specs.Answer.{unless, Lent, refusal, cells_of}
-use Rattle.lookups.specs.declared.Start.{Start}
-use Rattle.lookups.specs.declared.Start.TheVariants as S
-use Rattle.lookups.specs.declared.TypeToken.{TypeToken}
-use Rattle.lookups.specs.declared.TypeToken.TheVariants as TT
 
 -- ---- refusals
 
@@ -126,13 +124,8 @@ type_token l i =
     record_asked l l.counts.types type_width l.types i
     (unless_malformed (type_token_at l.script l.types i))
 
--- ---- document 01's values for each case of an answer
+-- ---- the answer that a result of the code is
 
-unfoldable pub start_answer : Start → Answer (Option ℕ)
-start_answer (S.At p) = answer (some p)
-start_answer S.Nothing = answer none
-start_answer (S.Refused n) = refused n
-
-unfoldable pub type_token_answer : TypeToken → Answer Token
-type_token_answer (TT.Found t) = answer t
-type_token_answer (TT.Refused n) = refused n
+unfoldable pub start_answer : Result (R.Option ℕ) Refusal → Answer (Option ℕ)
+start_answer (Ok o) = answer (option_of o)
+start_answer (Err r) = refused (number r)

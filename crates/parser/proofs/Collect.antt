@@ -1,4 +1,5 @@
 -- The roots of a script where errors are gathered.
+use Rattle.std.specs.Prelude.{Some}
 use mathlib.Core.Path.{◌≡◌, refl, sym, ap, subst, ◌∙◌}
 use mathlib.Core.Bool.{Bool, true, false}
 use mathlib.Core.Option.{none}
@@ -34,10 +35,8 @@ use Rattle.diagnostics.proofs.Records.{cells-length, holding-pushed, holding-non
 use Rattle.diagnostics.specs.Faults.{diagnostics_in, early, late}
 use Rattle.diagnostics.proofs.Faults.{late_more, late_out}
 use Rattle.diagnostics.proofs.Order.{Ordered, ordered-start, ordered-error, ordered_end, ordered-room}
-use Rattle.parser_state.specs.Represents.{Failed, Code, code, is_going, ahead, Represents, FailedAt}
+use Rattle.parser_state.specs.Represents.{Failed, Code, is_going, ahead, Represents, FailedAt}
 use Rattle.parser_state.specs.Refines.{Ends, stack_unchanged, Refines, rules_of, deeper, member_follows}
-use Rattle.parser_state.specs.declared.Parser.{Parser}
-use Rattle.parser_state.specs.declared.Status.{Status}
 use Rattle.parser_state.proofs.Steps.{true≢false, current_represents, represents_less, represents_going}
 use Rattle.parser_state.proofs.Rounds.{after, iterate-suc, if_kind_is_yes, if_kind_is_no}
 use Rattle.parser_state.proofs.Loops.{member-going, member-eof}
@@ -128,42 +127,44 @@ module _ (script : List ℕ) (g : Gathered) (e : Diagnostic) (m : State) where
   recover_goes_on z w = recover_by ∙ ap (λ (b : Bool). by_number b (synchronize_root m)) z ∙ ap (by_number false) w
 
 -- by how the root ends
-pub collect_turn : {script tokens errors nodes types lists nodes' types' lists' roots diagnostics : List ℕ} {p : Parser} {id : NodeId} {s' : Code} (c : RootsCollected) (g : Gathered) (m : State) → member_follows p k_eof ≡ true
-    → Represents tokens (code nodes types lists p) 0 0 [] m → Refines tokens 0 0 (deeper (rules_of script) max_levels).prefix (λ a. a ≡ id) stack_unchanged 1 0 8 (code nodes types lists p) s'
-    → ((a : NodeId) (m₁ : State) → a ≡ id → Represents tokens s' 0 0 [] m₁ → TurnEnds script tokens errors nodes' types' lists' roots diagnostics c (ok (continue (record { roots = g.roots ++ (a.0 ∷ []); errors = g.errors })) m₁))
-    → ((e : Diagnostic) (m₁ : State) → FailedAt tokens s' e 0 0 [] m₁ → TurnEnds script tokens errors nodes' types' lists' roots diagnostics c (recover stage_one script g e m₁))
-    → TurnEnds script tokens errors nodes' types' lists' roots diagnostics c (collect_step script g m)
-collect_turn {script} {tokens} {errors} {nodes' = nodes'} {types'} {lists'} {roots} {diagnostics} {p} {id} {s'} c g m w h q f k =
-    let cur : current m.left ≡ token_of p.cur = current_represents h.related in
-    subst (TurnEnds script tokens errors nodes' types' lists' roots diagnostics c) (sym (if_kind_is_no k_eof _ _ m (rw cur (member-eof p k_eof w)))) (go ((deeper (rules_of script) max_levels).prefix m) (q.simulates 0 0 [] m h))
+pub collect_turn : {script tokens errors roots diagnostics : List ℕ} {s : Code} {id : NodeId} {s' : Code} (c : RootsCollected) (g : Gathered) (m : State) → member_follows s.parser k_eof ≡ true
+    → Represents tokens s 0 0 [] m → Refines tokens 0 0 (deeper (rules_of script) max_levels).prefix (λ a. a ≡ id) stack_unchanged 1 0 8 s s'
+    → ((a : NodeId) (m₁ : State) → a ≡ id → Represents tokens s' 0 0 [] m₁ → TurnEnds script tokens errors roots diagnostics c (ok (continue (record { roots = g.roots ++ (a.0 ∷ []); errors = g.errors })) m₁))
+    → ((e : Diagnostic) (m₁ : State) → FailedAt tokens s' e 0 0 [] m₁ → TurnEnds script tokens errors roots diagnostics c (recover stage_one script g e m₁))
+    → TurnEnds script tokens errors roots diagnostics c (collect_step script g m)
+collect_turn {script} {tokens} {errors} {roots = roots} {diagnostics} {s} {id} {s'} c g m w h q f k =
+    let cur : current m.left ≡ token_of s.parser.cur = current_represents h.related in
+    subst (TurnEnds script tokens errors roots diagnostics c) (sym (if_kind_is_no k_eof _ _ m (rw cur (member-eof s.parser k_eof w)))) (go ((deeper (rules_of script) max_levels).prefix m) (q.simulates 0 0 [] m h))
   where
     go : (r : Result NodeId) → Ends tokens (λ a. a ≡ id) stack_unchanged s' 0 0 0 8 [] r
-        → TurnEnds script tokens errors nodes' types' lists' roots diagnostics c (elim r as (λ _. Result (ControlFlow Gathered)) [ ok n s₁ ↦ ok (continue (record { roots = g.roots ++ (n.0 ∷ []); errors = g.errors })) s₁ | err e s₁ ↦ recover stage_one script g e s₁ ])
+        → TurnEnds script tokens errors roots diagnostics c (elim r as (λ _. Result (ControlFlow Gathered)) [ ok n s₁ ↦ ok (continue (record { roots = g.roots ++ (n.0 ∷ []); errors = g.errors })) s₁ | err e s₁ ↦ recover stage_one script g e s₁ ])
     go (ok a m₁) z = f a m₁ z.0 (represents_less _ _ (omega arith) (omega arith) z.1)
     go (err e m₁) z = k e m₁ z
 
 -- 10 ends the reading
-pub ended_by_ten : (script errors : List ℕ) {tokens nodes types lists : List ℕ} {d : Diagnostic} (roots array : List ℕ) (c : RootsCollected) (g : Gathered) (e : Diagnostic) (m : State) → d ≡ c.parser.status.error → eqb d.number 10 ≡ true
-    → FailedAt tokens (code nodes types lists c.parser) e 0 0 [] m → TurnEnds script tokens errors nodes types lists roots array c (recover stage_one script g e m)
-ended_by_ten script errors {tokens} {nodes} {types} {lists} {d} roots array c g e m failed ten h =
-    let named : d ≡ e = failed ∙ ap (λ (s : Status). s.error) h.status in
-    subst (TurnEnds script tokens errors nodes types lists roots array c) (sym (recover-ends script g e m (ap (λ (x : Diagnostic). eqb x.number 10) (sym named) ∙ ten))) h.status
+pub ended_by_ten : (script errors : List ℕ) {tokens : List ℕ} {d : Diagnostic} (roots array : List ℕ) (c : RootsCollected) (g : Gathered) (e : Diagnostic) (m : State) → c.code.parser.error ≡ Some d → eqb d.number 10 ≡ true
+    → FailedAt tokens c.code e 0 0 [] m → TurnEnds script tokens errors roots array c (recover stage_one script g e m)
+ended_by_ten script errors {tokens} {d} roots array c g e m failed ten h =
+    let both : Some d ≡ Some e = sym failed ∙ h.status in
+    let named : d ≡ e = cc in
+    subst (TurnEnds script tokens errors roots array c) (sym (recover-ends script g e m (ap (λ (x : Diagnostic). eqb x.number 10) (sym named) ∙ ten))) h.status
 
 -- an error is gathered, and the reading goes on
-pub gathered_error : (script : List ℕ) {tokens errors nodes types lists roots array array₁ array₂ : List ℕ} {c : RootsCollected} {n₁ n₂ : ℕ} (listed₁ : ℕ) {d : Diagnostic} {q₁ q₂ : Parser} {at : ℕ} (g : Gathered) (e : Diagnostic) (m : State) → at ≡ c.parser.at → d ≡ c.parser.status.error → eqb d.number 10 ≡ false
+pub gathered_error : (script : List ℕ) {tokens errors roots array array₁ array₂ : List ℕ} {c : RootsCollected} {n₁ n₂ : ℕ} (listed₁ : ℕ) {d : Diagnostic} {q₁ q₂ : Code} {at : ℕ} (g : Gathered) (e : Diagnostic) (m : State) → at ≡ c.code.parser.at → c.code.parser.error ≡ Some d → eqb d.number 10 ≡ false
     → diagnostics array₁ n₁ ≡ foldl pushed (diagnostics array c.diagnostics) (diagnostics_in (early at (errors_from errors c.listed))) → errors_from errors listed₁ ≡ late at (errors_from errors c.listed) → length array₁ ≡ length array → diagnostics array₂ n₂ ≡ pushed (diagnostics array₁ n₁) d
-    → Resumes tokens (code nodes types lists c.parser) (code nodes types lists q₁) → Refines tokens 0 0 synchronizing (λ n. n ≡ 0) stack_unchanged 0 0 0 (code nodes types lists q₁) (code nodes types lists q₂)
-    → Room script roots array g → tokens_from tokens 0 ≡ tokens_of (cut script) → FailedAt tokens (code nodes types lists c.parser) e 0 0 [] m → GatheredAre script tokens errors nodes types lists roots array c g
-    → TurnEnds script tokens errors nodes types lists roots array₂ (record { parser = q₂; members = c.members; diagnostics = n₂; listed = listed₁ }) (recover stage_one script g e m)
-gathered_error script {tokens} {errors} {nodes} {types} {lists} {roots} {array} {array₁} {array₂} {c} {n₁} {n₂} listed₁ {d} {q₁} {q₂} {at} g e m place failed ten faults leaves same pushes resumes goes room all h z =
-    let named : d ≡ e = failed ∙ ap (λ (s : Status). s.error) h.status in
+    → Resumes tokens c.code q₁ → Refines tokens 0 0 synchronizing (λ n. n ≡ 0) stack_unchanged 0 0 0 q₁ q₂
+    → Room script roots array g → tokens_from tokens 0 ≡ tokens_of (cut script) → FailedAt tokens c.code e 0 0 [] m → GatheredAre script tokens errors roots array c g
+    → TurnEnds script tokens errors roots array₂ (record { code = q₂; members = c.members; diagnostics = n₂; listed = listed₁ }) (recover stage_one script g e m)
+gathered_error script {tokens} {errors} {roots} {array} {array₁} {array₂} {c} {n₁} {n₂} listed₁ {d} {q₁} {q₂} {at} g e m place failed ten faults leaves same pushes resumes goes room all h z =
+    let both : Some d ≡ Some e = sym failed ∙ h.status in
+    let named : d ≡ e = cc in
     let r = recovered h resumes goes in
-    let last : RootsCollected = record { parser = q₂; members = c.members; diagnostics = n₂; listed = listed₁ } in
-    let left : length m.left ≡ length (ahead tokens (code nodes types lists c.parser)) = ap length h.related.left in
-    let left₂ : length r.after.left ≡ length (ahead tokens (code nodes types lists q₂)) = ap length r.represents.related.left in
+    let last : RootsCollected = record { code = q₂; members = c.members; diagnostics = n₂; listed = listed₁ } in
+    let left : length m.left ≡ length (ahead tokens c.code) = ap length h.related.left in
+    let left₂ : length r.after.left ≡ length (ahead tokens q₂) = ap length r.represents.related.left in
     let count : at ≡ length (begin script).left - length m.left = omega (arith, begin-left script, h.related.taken, ap length all) in
     let one = error-pushed listed₁ at room.small room.diagnostics_long (omega (arith, room.few_errors)) z.diagnostics_held faults leaves same e room.few_errors (pushes ∙ ap (pushed (diagnostics array₁ n₁)) named) in
-    subst (TurnEnds script tokens errors nodes types lists roots array₂ last) (sym (recover_goes_on script g e m (ap (λ (x : Diagnostic). eqb x.number 10) (sym named) ∙ ten) r.comes)) (
+    subst (TurnEnds script tokens errors roots array₂ last) (sym (recover_goes_on script g e m (ap (λ (x : Diagnostic). eqb x.number 10) (sym named) ∙ ten) r.comes)) (
       r.represents,
       record {
         roots_held = record { held = z.roots_held.held; counted = z.roots_held.counted; few = omega (arith, z.roots_held.few, r.fewer) };
@@ -172,21 +173,21 @@ gathered_error script {tokens} {errors} {nodes} {types} {lists} {roots} {array} 
     )
 
 -- what is gathered stays while tokens are taken
-pub gathers_on : {script tokens errors nodes types lists nodes' types' lists' roots array : List ℕ} {c : RootsCollected} {q : Parser} {g : Gathered} → GatheredAre script tokens errors nodes types lists roots array c g
-    → length (ahead tokens (code nodes' types' lists' q)) ≤ length (ahead tokens (code nodes types lists c.parser))
-    → GatheredAre script tokens errors nodes' types' lists' roots array (record { parser = q; members = c.members; diagnostics = c.diagnostics; listed = c.listed }) g
+pub gathers_on : {script tokens errors roots array : List ℕ} {c : RootsCollected} {q : Code} {g : Gathered} → GatheredAre script tokens errors roots array c g
+    → length (ahead tokens q) ≤ length (ahead tokens c.code)
+    → GatheredAre script tokens errors roots array (record { code = q; members = c.members; diagnostics = c.diagnostics; listed = c.listed }) g
 gathers_on z h = record { roots_held = record { held = z.roots_held.held; counted = z.roots_held.counted; few = omega (arith, z.roots_held.few) }; diagnostics_held = z.diagnostics_held }
 
 -- a root is read
-pub gathered_root : {script tokens errors nodes types lists nodes' types' lists' roots roots' array : List ℕ} {c : RootsCollected} {q : Parser} {n : ℕ} {id : NodeId} {m : State} (g : Gathered) (a : NodeId) (m₁ : State) → a ≡ id → Room script roots array g
-    → Represents tokens (code nodes types lists c.parser) 0 0 [] m → GatheredAre script tokens errors nodes types lists roots array c g
-    → Refines tokens 0 0 (deeper (rules_of script) max_levels).prefix (λ a. a ≡ id) stack_unchanged 1 0 8 (code nodes types lists c.parser) (code nodes' types' lists' q) → Represents tokens (code nodes' types' lists' q) 0 0 [] m₁
+pub gathered_root : {script tokens errors roots roots' array : List ℕ} {c : RootsCollected} {q : Code} {n : ℕ} {id : NodeId} {m : State} (g : Gathered) (a : NodeId) (m₁ : State) → a ≡ id → Room script roots array g
+    → Represents tokens c.code 0 0 [] m → GatheredAre script tokens errors roots array c g
+    → Refines tokens 0 0 (deeper (rules_of script) max_levels).prefix (λ a. a ≡ id) stack_unchanged 1 0 8 c.code q → Represents tokens q 0 0 [] m₁
     → (c.members < length roots → c.members < max_bytes → (roots' ≡ set roots c.members id.0) × (n ≡ c.members + 1))
-    → TurnEnds script tokens errors nodes' types' lists' roots' array (record { parser = q; members = n; diagnostics = c.diagnostics; listed = c.listed }) (ok (continue (record { roots = g.roots ++ (a.0 ∷ []); errors = g.errors })) m₁)
-gathered_root {script} {tokens} {errors} {nodes} {types} {lists} {nodes'} {types'} {lists'} {c = c} {q} g a m₁ e room h z p k f = (
+    → TurnEnds script tokens errors roots' array (record { code = q; members = n; diagnostics = c.diagnostics; listed = c.listed }) (ok (continue (record { roots = g.roots ++ (a.0 ∷ []); errors = g.errors })) m₁)
+gathered_root {script} {tokens} {errors} {c = c} {q} g a m₁ e room h z p k f = (
   k,
   record {
-    roots_held = root-pushed script tokens (code nodes types lists c.parser) (code nodes' types' lists' q) g.roots a e z.roots_held room.small room.roots_long (p.progress (represents_going k)) (some-ahead k.related) f;
+    roots_held = root-pushed script tokens c.code q g.roots a e z.roots_held room.small room.roots_long (p.progress (represents_going k)) (some-ahead k.related) f;
     diagnostics_held = z.diagnostics_held;
   },
 )
@@ -214,75 +215,75 @@ last-left (t ∷ (u ∷ ts)) e h w = absurd (w.0 (eqb-true _ _ h))
 
 module _ (script tokens errors : List ℕ) where
   -- the rule has come as far as the code, or has ended with the code's error
-  pub record Live (nodes types lists roots diagnostics : List ℕ) (c : RootsCollected) : Type 0 where
+  pub record Live (roots diagnostics : List ℕ) (c : RootsCollected) : Type 0 where
     pub fuel : ℕ
     pub g : Gathered
     pub m : State
     pub comes : parse_roots_collect stage_one script (begin script) ≡ iterate fuel (collect_step script) g m
     pub fuelled : pending m ≤ fuel
     pub counts : Counting.Gathers script g m
-    pub represents : Represents tokens (code nodes types lists c.parser) 0 0 [] m
-    pub gathers : GatheredAre script tokens errors nodes types lists roots diagnostics c g
+    pub represents : Represents tokens c.code 0 0 [] m
+    pub gathers : GatheredAre script tokens errors roots diagnostics c g
 
-  pub data Progress (nodes types lists roots diagnostics : List ℕ) (c : RootsCollected) : Type 0 where
-    live : Live nodes types lists roots diagnostics c → Progress nodes types lists roots diagnostics c
-    over : (e : Diagnostic) (m : State) → parse_roots_collect stage_one script (begin script) ≡ err e m → c.parser.status ≡ Failed e → Progress nodes types lists roots diagnostics c
+  pub data Progress (roots diagnostics : List ℕ) (c : RootsCollected) : Type 0 where
+    live : Live roots diagnostics c → Progress roots diagnostics c
+    over : (e : Diagnostic) (m : State) → parse_roots_collect stage_one script (begin script) ≡ err e m → c.code.parser.error ≡ Failed e → Progress roots diagnostics c
 
   -- what is pending, while the reading goes on
-  abbrev pub to_go : List ℕ → List ℕ → List ℕ → RootsCollected → ℕ
-  to_go nodes types lists c = elim (is_going c.parser.status) as (λ _. ℕ) [ true ↦ suc (c.parser.used.docs + length (ahead tokens (code nodes types lists c.parser))) | false ↦ 0 ]
+  abbrev pub to_go : RootsCollected → ℕ
+  to_go c = elim (is_going c.code.parser.error) as (λ _. ℕ) [ true ↦ suc (c.code.parser.used.docs + length (ahead tokens c.code)) | false ↦ 0 ]
 
-  to_go_live : (nodes types lists : List ℕ) (c : RootsCollected) (m : State) → Represents tokens (code nodes types lists c.parser) 0 0 [] m → to_go nodes types lists c ≡ suc (pending m)
-  to_go_live nodes types lists c m h =
-      let all : ℕ = suc (c.parser.used.docs + length (ahead tokens (code nodes types lists c.parser))) in
+  to_go_live : (c : RootsCollected) (m : State) → Represents tokens c.code 0 0 [] m → to_go c ≡ suc (pending m)
+  to_go_live c m h =
+      let all : ℕ = suc (c.code.parser.used.docs + length (ahead tokens c.code)) in
       ap (λ (b : Bool). elim b as (λ _. ℕ) [ true ↦ all | false ↦ 0 ]) (represents_going h) ∙ omega (arith, h.related.types.doc_counted, ap length h.related.left)
 
-  to_go_over : (nodes types lists : List ℕ) (c : RootsCollected) (e : Diagnostic) → c.parser.status ≡ Failed e → to_go nodes types lists c ≡ 0
-  to_go_over nodes types lists c e h =
-      let all : ℕ = suc (c.parser.used.docs + length (ahead tokens (code nodes types lists c.parser))) in
+  to_go_over : (c : RootsCollected) (e : Diagnostic) → c.code.parser.error ≡ Failed e → to_go c ≡ 0
+  to_go_over c e h =
+      let all : ℕ = suc (c.code.parser.used.docs + length (ahead tokens c.code)) in
       ap (λ (b : Bool). elim b as (λ _. ℕ) [ true ↦ all | false ↦ 0 ]) (ap is_going h)
 
-  pub record Turn (nodes types lists roots diagnostics nodes' types' lists' roots' diagnostics' : List ℕ) (c c' : RootsCollected) : Type 0 where
-    pub progress : Progress nodes' types' lists' roots' diagnostics' c'
-    pub less : to_go nodes' types' lists' c' < to_go nodes types lists c
+  pub record Turn (roots diagnostics roots' diagnostics' : List ℕ) (c c' : RootsCollected) : Type 0 where
+    pub progress : Progress roots' diagnostics' c'
+    pub less : to_go c' < to_go c
 
-  pub turn : {nodes types lists roots diagnostics nodes' types' lists' roots' diagnostics' : List ℕ} {c c' : RootsCollected} → member_follows c.parser k_eof ≡ true → length script ≤ max_bytes → length script ≤ length roots → diagnostic_width * length script ≤ length diagnostics → tokens_from tokens 0 ≡ tokens_of (cut script)
-      → Progress nodes types lists roots diagnostics c
-      → ((g : Gathered) (m : State) → Room script roots diagnostics g → tokens_from tokens 0 ≡ tokens_of (cut script) → Represents tokens (code nodes types lists c.parser) 0 0 [] m → GatheredAre script tokens errors nodes types lists roots diagnostics c g → TurnEnds script tokens errors nodes' types' lists' roots' diagnostics' c' (collect_step script g m))
-      → Turn nodes types lists roots diagnostics nodes' types' lists' roots' diagnostics' c c'
+  pub turn : {roots diagnostics roots' diagnostics' : List ℕ} {c c' : RootsCollected} → member_follows c.code.parser k_eof ≡ true → length script ≤ max_bytes → length script ≤ length roots → diagnostic_width * length script ≤ length diagnostics → tokens_from tokens 0 ≡ tokens_of (cut script)
+      → Progress roots diagnostics c
+      → ((g : Gathered) (m : State) → Room script roots diagnostics g → tokens_from tokens 0 ≡ tokens_of (cut script) → Represents tokens c.code 0 0 [] m → GatheredAre script tokens errors roots diagnostics c g → TurnEnds script tokens errors roots' diagnostics' c' (collect_step script g m))
+      → Turn roots diagnostics roots' diagnostics' c c'
   unfolding after
-  turn {nodes} {types} {lists} {roots} {diagnostics} {nodes'} {types'} {lists'} {roots'} {diagnostics'} {c} {c'} w small long room all i f = go i
+  turn {roots} {diagnostics} {roots'} {diagnostics'} {c} {c'} w small long room all i f = go i
     where
-      next : (n : ℕ) (g : Gathered) (m : State) → pending m ≤ suc n → Represents tokens (code nodes types lists c.parser) 0 0 [] m → (r : Result (ControlFlow Gathered))
-          → parse_roots_collect stage_one script (begin script) ≡ after (collect_step script) n r → Results.Ends (Counting.Turn stage_one no-eof script m) (Reached script) r → TurnEnds script tokens errors nodes' types' lists' roots' diagnostics' c' r
-          → Turn nodes types lists roots diagnostics nodes' types' lists' roots' diagnostics' c c'
+      next : (n : ℕ) (g : Gathered) (m : State) → pending m ≤ suc n → Represents tokens c.code 0 0 [] m → (r : Result (ControlFlow Gathered))
+          → parse_roots_collect stage_one script (begin script) ≡ after (collect_step script) n r → Results.Ends (Counting.Turn stage_one no-eof script m) (Reached script) r → TurnEnds script tokens errors roots' diagnostics' c' r
+          → Turn roots diagnostics roots' diagnostics' c c'
       next n g m k h r e (Results.holds {a = continue b} {s = m₁} (Results.again counts l)) t = record {
         progress = live (record { fuel = n; g = b; m = m₁; comes = e; fuelled = omega arith; counts = counts; represents = t.0; gathers = t.1 });
-        less = omega (arith, to_go_live nodes types lists c m h, to_go_live nodes' types' lists' c' m₁ t.0);
+        less = omega (arith, to_go_live c m h, to_go_live c' m₁ t.0);
       }
       next n g m k h r e (Results.holds {a = break b} {s = m₁} z) t = absurd t
-      next n g m k h r e (Results.fails {e = x} {s = m₁} z) t = record { progress = over x m₁ e t; less = omega (arith, to_go_live nodes types lists c m h, to_go_over nodes' types' lists' c' x t) }
+      next n g m k h r e (Results.fails {e = x} {s = m₁} z) t = record { progress = over x m₁ e t; less = omega (arith, to_go_live c m h, to_go_over c' x t) }
 
-      one : (n : ℕ) (g : Gathered) (m : State) → parse_roots_collect stage_one script (begin script) ≡ iterate n (collect_step script) g m → pending m ≤ n → Counting.Gathers script g m → Represents tokens (code nodes types lists c.parser) 0 0 [] m
-          → GatheredAre script tokens errors nodes types lists roots diagnostics c g → Turn nodes types lists roots diagnostics nodes' types' lists' roots' diagnostics' c c'
+      one : (n : ℕ) (g : Gathered) (m : State) → parse_roots_collect stage_one script (begin script) ≡ iterate n (collect_step script) g m → pending m ≤ n → Counting.Gathers script g m → Represents tokens c.code 0 0 [] m
+          → GatheredAre script tokens errors roots diagnostics c g → Turn roots diagnostics roots' diagnostics' c c'
       one zero g m e k q h z = absurd (omega (arith, Counting.some_pending stage_one no-eof script q.reached))
       one (suc n) g m e k q h z =
-          let cur : current m.left ≡ token_of c.parser.cur = current_represents h.related in
-          let two : 2 ≤ length m.left = two_left m.left q.reached.ended (rw cur (eqb-false _ _ (member-eof c.parser k_eof w))) in
+          let cur : current m.left ≡ token_of c.code.parser.cur = current_represents h.related in
+          let two : 2 ≤ length m.left = two_left m.left q.reached.ended (rw cur (eqb-false _ _ (member-eof c.code.parser k_eof w))) in
           next n g m k h (collect_step script g m) (e ∙ iterate-suc (collect_step script) n g m) (Counting.turn_ends stage_one no-eof script g m q)
           (f g m (record { small = small; roots_long = long; diagnostics_long = room; few_errors = omega (arith, q.few_errors, begin-left script) }) all h z)
 
-      go : Progress nodes types lists roots diagnostics c → Turn nodes types lists roots diagnostics nodes' types' lists' roots' diagnostics' c c'
+      go : Progress roots diagnostics c → Turn roots diagnostics roots' diagnostics' c c'
       go (live v) = one v.fuel v.g v.m v.comes v.fuelled v.counts v.represents v.gathers
-      go (over e m z s) = absurd (true≢false (member-going c.parser k_eof w) (ap is_going s))
+      go (over e m z s) = absurd (true≢false (member-going c.code.parser k_eof w) (ap is_going s))
 
   -- ---- the beginning and the end
 
-  pub start : {nodes types lists roots diagnostics : List ℕ} (p : Parser) → Begun script tokens nodes types lists roots → FirstToken tokens p → errors ≡ padded (length errors) (error_table script)
-      → Progress nodes types lists roots diagnostics (record { parser = p; members = 0; diagnostics = 0; listed = 0 })
+  pub start : {roots diagnostics : List ℕ} (s : Code) → Begun script tokens s.nodes s.types s.lists roots → FirstToken tokens s.parser → errors ≡ padded (length errors) (error_table script)
+      → Progress roots diagnostics (record { code = s; members = 0; diagnostics = 0; listed = 0 })
   unfolding parse_roots_collect loop
-  start {roots = roots} {diagnostics = array} p h e z =
-      let b = begun p h e in
+  start {roots = roots} {diagnostics = array} s h e z =
+      let b = begun s h e in
       let all : errors_from errors 0 ≡ faults_of 0 (cut script) = ap (λ (t : List ℕ). errors_from t 0) z ∙ table_errors script (length errors) 0 (omega arith) in
       live (record {
         fuel = length (begin script).left;
@@ -304,31 +305,31 @@ module _ (script tokens errors : List ℕ) where
       })
 
   -- 10 has ended it
-  pub ended_by : {nodes types lists roots diagnostics : List ℕ} {c : RootsCollected} → is_going c.parser.status ≡ false → Progress nodes types lists roots diagnostics c → CollectEnds script nodes types lists roots diagnostics c (parse_roots_collect stage_one script (begin script))
+  pub ended_by : {roots diagnostics : List ℕ} {c : RootsCollected} → is_going c.code.parser.error ≡ false → Progress roots diagnostics c → CollectEnds script roots diagnostics c (parse_roots_collect stage_one script (begin script))
   ended_by g (live v) = absurd (true≢false (represents_going v.represents) g)
-  ended_by {nodes} {types} {lists} {roots} {diagnostics} {c} g (over e m z s) = subst (CollectEnds script nodes types lists roots diagnostics c) (sym z) s
+  ended_by {roots} {diagnostics} {c} g (over e m z s) = subst (CollectEnds script roots diagnostics c) (sym z) s
 
   -- all roots are read
-  pub ends : {nodes types lists roots array array' : List ℕ} {c : RootsCollected} {q : Parser} {n : ℕ} (listed : ℕ) {at : ℕ} → at ≡ c.parser.at → member_follows c.parser k_eof ≡ false → is_going c.parser.status ≡ true → length script ≤ max_bytes → diagnostic_width * length script ≤ length array → tokens_from tokens 0 ≡ tokens_of (cut script) → Progress nodes types lists roots array c
+  pub ends : {roots array array' : List ℕ} {c : RootsCollected} {q : Code} {n : ℕ} (listed : ℕ) {at : ℕ} → at ≡ c.code.parser.at → member_follows c.code.parser k_eof ≡ false → is_going c.code.parser.error ≡ true → length script ≤ max_bytes → diagnostic_width * length script ≤ length array → tokens_from tokens 0 ≡ tokens_of (cut script) → Progress roots array c
       → diagnostics array' n ≡ foldl pushed (diagnostics array c.diagnostics) (diagnostics_in (early at (errors_from errors c.listed))) → errors_from errors listed ≡ late at (errors_from errors c.listed) → length array' ≡ length array
-      → Refines tokens 0 0 drop_docs (λ n. n ≡ 0) stack_unchanged 0 0 0 (code nodes types lists c.parser) (code nodes types lists q)
-      → CollectEnds script nodes types lists roots array' (record { parser = q; members = c.members; diagnostics = n; listed = listed }) (parse_roots_collect stage_one script (begin script))
+      → Refines tokens 0 0 drop_docs (λ n. n ≡ 0) stack_unchanged 0 0 0 c.code q
+      → CollectEnds script roots array' (record { code = q; members = c.members; diagnostics = n; listed = listed }) (parse_roots_collect stage_one script (begin script))
   unfolding after pure
-  ends {nodes} {types} {lists} {roots} {array} {array'} {c} {q} {n} listed {at} place w g small room all i p leaves same d = go i
+  ends {roots} {array} {array'} {c} {q} {n} listed {at} place w g small room all i p leaves same d = go i
     where
       last : RootsCollected
-      last = record { parser = q; members = c.members; diagnostics = n; listed = listed }
+      last = record { code = q; members = c.members; diagnostics = n; listed = listed }
 
-      one : (f : ℕ) (t : Gathered) (m : State) → parse_roots_collect stage_one script (begin script) ≡ iterate f (collect_step script) t m → pending m ≤ f → Counting.Gathers script t m → Represents tokens (code nodes types lists c.parser) 0 0 [] m
-          → GatheredAre script tokens errors nodes types lists roots array c t → CollectEnds script nodes types lists roots array' last (parse_roots_collect stage_one script (begin script))
+      one : (f : ℕ) (t : Gathered) (m : State) → parse_roots_collect stage_one script (begin script) ≡ iterate f (collect_step script) t m → pending m ≤ f → Counting.Gathers script t m → Represents tokens c.code 0 0 [] m
+          → GatheredAre script tokens errors roots array c t → CollectEnds script roots array' last (parse_roots_collect stage_one script (begin script))
       one zero t m e k s h z = absurd (omega (arith, Counting.some_pending stage_one no-eof script s.reached))
       one (suc f) t m e k s h z =
           let eof = at-eof w h in
           let out : parse_roots_collect stage_one script (begin script) ≡ ok t m = e ∙ iterate-suc (collect_step script) f t m ∙ ap (after (collect_step script) f) (if_kind_is_yes k_eof _ _ m eof) in
           let one_left : length m.left ≤ 1 = last-left m.left refl eof s.reached.ended in
           let pushes = all-pushed listed at small room (omega (arith, s.few_errors, begin-left script, Counting.some_pending stage_one no-eof script s.reached)) z.diagnostics_held p leaves same (omega (arith, h.related.taken, ap length all, place)) in
-          subst (CollectEnds script nodes types lists roots array' last) (sym out) (tree-held h z.roots_held d, pushes.0, pushes.1)
+          subst (CollectEnds script roots array' last) (sym out) (tree-held h z.roots_held d, pushes.0, pushes.1)
 
-      go : Progress nodes types lists roots array c → CollectEnds script nodes types lists roots array' last (parse_roots_collect stage_one script (begin script))
+      go : Progress roots array c → CollectEnds script roots array' last (parse_roots_collect stage_one script (begin script))
       go (live v) = one v.fuel v.g v.m v.comes v.fuelled v.counts v.represents v.gathers
       go (over e m z s) = absurd (true≢false g (ap is_going s))

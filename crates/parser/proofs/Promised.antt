@@ -1,4 +1,5 @@
 -- What a reading promises, from how the roots end.
+use Rattle.std.specs.Prelude.{Some, None, Result as Answered, Ok, Err}
 use mathlib.Core.Path.{◌≡◌, refl, sym, ap, ◌∙◌}
 use mathlib.Core.Bool.{Bool, true, false}
 use mathlib.Core.List.{List, [], ◌++◌, map, flatten}
@@ -7,25 +8,26 @@ use native.Mathlib.Omega.{arith}
 use lib.Dec.{eqb, ltb}
 use lib.ListN.{length, take}
 use borrow.Author.Tests.{ltb-false, eqb-true, eqb-false}
-use Rattle.lex.specs.Answer.{max_bytes}
+use Rattle.lex.specs.Answer.{max_bytes, Answer}
+use Rattle.tokens.specs.declared.TableCounts.{TableCounts}
 use Rattle.lex.specs.Bytes.{or}
 use Rattle.lex.specs.Cells.{zeros, padded}
-use Rattle.lex.specs.Refusals.{r_not_cut}
+use Rattle.lex.specs.Refusals.{r_not_cut, number}
+use Rattle.lex.specs.declared.diagnostic.Refusal.{Refusal}
+use Rattle.lex.specs.declared.diagnostic.Refusal.TheVariants.{TooLong, TooShort, Outside, Malformed, LineTooShort, NoWords, NotCut, SheetTooShort, TooManyLines, PracticeTooShort, PositionsFall, PlacesTooShort}
 use Rattle.lex.specs.declared.diagnostic.Diagnostic.{Diagnostic}
 use Rattle.tokens.specs.Tables as T
 use Rattle.tokens.specs.Tables.{token_width, error_width, token_table, error_table, is_cut}
-use Rattle.tokens.specs.declared.Cutting.{Cutting}
 use Rattle.tokens.proofs.Promised as TP
 use Rattle.rules.specs.Tree.{State, Result, ok, err}
 use Rattle.rules.specs.Rules.{stage_one}
 use Rattle.rules.specs.Parse.{Reading, read, ended, Gathered, begin, parse, parse_roots, parse_collect, parse_roots_collect}
 use Rattle.ast.specs.Layout.{node_width, type_width, diagnostic_width, node_cells, type_cells, diagnostic_cells}
 use Rattle.rules.specs.Promise.{Arrays, arrays_of, Outcome, too_short, zeroed, holding, outcome}
-use Rattle.ast.specs.declared.Parsed.{Parsed}
-use Rattle.ast.specs.declared.Parsed.TheVariants as P
-use Rattle.parser_state.specs.Represents.{is_going}
+use Rattle.ast.specs.Answer.{refusal_number}
+use Rattle.rules.specs.Parsed.{Parsed}
+use Rattle.rules.specs.Parsed as P
 use Rattle.parser_state.specs.declared.Used.{Used}
-use Rattle.parser_state.specs.declared.Status.{Status}
 use Rattle.parser_state.proofs.Steps.{true≢false}
 use Rattle.parser_state.proofs.Cells.{nodes-length, types-length}
 use Rattle.diagnostics.proofs.Records.{cells-length}
@@ -42,19 +44,19 @@ tree_of u roots n = P.Tree (record { nodes = u.nodes; types = u.types; cells = u
 held_as : (a a₁ a₂ f : List ℕ) (n : ℕ) → length a₁ ≡ length a → take n a₁ ≡ f → n ≡ length f → a₂ ≡ behind n a₁ → padded (length a) f ≡ a₂
 held_as a a₁ a₂ f n same e count w = sym (w ∙ (λ i. e i ++ zeros (same i - count i)))
 
-module _ (x : Reading) (ns ts ls rs ds ns₁ ts₁ ls₁ rs₁ ns₂ ts₂ ls₂ rs₂ ds₂ : List ℕ) where
-  pub tree-outcome : {xs : List ℕ} {m : State} (r : RootsRead) (es : List Diagnostic) (n : ℕ) → x ≡ read (record { arena = m.arena; roots = xs }) es → Holds ns₁ ts₁ ls₁ rs₁ r xs m
-      → length ns₁ ≡ length ns → length ts₁ ≡ length ts → length ls₁ ≡ length ls → length rs₁ ≡ length rs
-      → ns₂ ≡ behind (node_width * r.parser.used.nodes) ns₁ → ts₂ ≡ behind (type_width * r.parser.used.types) ts₁ → ls₂ ≡ behind r.parser.used.cells ls₁ → rs₂ ≡ behind r.members rs₁
+module _ (x : Reading) (ns ts ls rs ds rs₁ ns₂ ts₂ ls₂ rs₂ ds₂ : List ℕ) where
+  pub tree-outcome : {xs : List ℕ} {m : State} (r : RootsRead) (es : List Diagnostic) (n : ℕ) → x ≡ read (record { arena = m.arena; roots = xs }) es → Holds rs₁ r xs m
+      → length r.code.nodes ≡ length ns → length r.code.types ≡ length ts → length r.code.lists ≡ length ls → length rs₁ ≡ length rs
+      → ns₂ ≡ behind (node_width * r.code.parser.used.nodes) r.code.nodes → ts₂ ≡ behind (type_width * r.code.parser.used.types) r.code.types → ls₂ ≡ behind r.code.parser.used.cells r.code.lists → rs₂ ≡ behind r.members rs₁
       → n ≡ length es → padded (length ds) (flatten (map diagnostic_cells es)) ≡ ds₂
-      → outcome x (arrays_of ns ts ls rs ds) ≡ record { answer = tree_of r.parser.used r.members n; arrays = arrays_of ns₂ ts₂ ls₂ rs₂ ds₂ }
+      → outcome x (arrays_of ns ts ls rs ds) ≡ record { answer = tree_of r.code.parser.used r.members n; arrays = arrays_of ns₂ ts₂ ls₂ rs₂ ds₂ }
   unfolding outcome holding
   tree-outcome {xs} {m} r es n e h a b c d a' b' c' d' k z = ap (λ (y : Reading). outcome y (arrays_of ns ts ls rs ds)) e ∙ (λ i. record {
     answer = P.Tree (record { nodes = sym h.node_count i; types = sym h.type_count i; cells = sym h.cell_count i; roots = sym h.root_count i; values = sym h.value_count i; diagnostics = sym k i });
     arrays = arrays_of
-        (held_as ns ns₁ ns₂ (flatten (map node_cells m.arena.nodes)) (node_width * r.parser.used.nodes) a h.nodes_held (omega (arith, nodes-length m.arena.nodes, h.node_count)) a' i)
-        (held_as ts ts₁ ts₂ (flatten (map type_cells m.arena.types)) (type_width * r.parser.used.types) b h.types_held (omega (arith, types-length m.arena.types, h.type_count)) b' i)
-        (held_as ls ls₁ ls₂ m.arena.cells r.parser.used.cells c h.lists_held h.cell_count c' i) (held_as rs rs₁ rs₂ xs r.members d h.roots_held h.root_count d' i) (z i);
+        (held_as ns r.code.nodes ns₂ (flatten (map node_cells m.arena.nodes)) (node_width * r.code.parser.used.nodes) a h.nodes_held (omega (arith, nodes-length m.arena.nodes, h.node_count)) a' i)
+        (held_as ts r.code.types ts₂ (flatten (map type_cells m.arena.types)) (type_width * r.code.parser.used.types) b h.types_held (omega (arith, types-length m.arena.types, h.type_count)) b' i)
+        (held_as ls r.code.lists ls₂ m.arena.cells r.code.parser.used.cells c h.lists_held h.cell_count c' i) (held_as rs rs₁ rs₂ xs r.members d h.roots_held h.root_count d' i) (z i);
   })
 
 pub error-outcome : (x : Reading) (ns ts ls rs ds ns₂ ts₂ ls₂ rs₂ ds₂ : List ℕ) (e : Diagnostic) → x ≡ ended e → ns₂ ≡ zeros (length ns) → ts₂ ≡ zeros (length ts) → ls₂ ≡ zeros (length ls) → rs₂ ≡ zeros (length rs) → ds₂ ≡ zeros (length ds)
@@ -72,31 +74,33 @@ parse_ending : (script : List ℕ) → parse stage_one script ≡ ending (parse_
 unfolding parse ending
 parse_ending script = refl
 
-module _ (script ns ts ls rs ds ns₁ ts₁ ls₁ rs₁ : List ℕ) (r : RootsRead) (ends : RootsEnd ns₁ ts₁ ls₁ rs₁ r (parse_roots stage_one script (begin script)))
-    (n : length ns₁ ≡ length ns) (t : length ts₁ ≡ length ts) (c : length ls₁ ≡ length ls) (o : length rs₁ ≡ length rs) where
-  pub strict_tree : (ns₂ ts₂ ls₂ rs₂ ds₂ : List ℕ) {u v : Used} → is_going r.parser.status ≡ true → u ≡ r.parser.used → v ≡ r.parser.used
-      → ns₂ ≡ behind (node_width * v.nodes) ns₁ → ts₂ ≡ behind (type_width * v.types) ts₁ → ls₂ ≡ behind v.cells ls₁ → rs₂ ≡ behind r.members rs₁ → ds₂ ≡ behind 0 ds
-      → outcome (parse stage_one script) (arrays_of ns ts ls rs ds) ≡ record { answer = tree_of u r.members 0; arrays = arrays_of ns₂ ts₂ ls₂ rs₂ ds₂ }
+module _ (script ns ts ls rs ds rs₁ : List ℕ) (r : RootsRead) (ends : RootsEnd rs₁ r (parse_roots stage_one script (begin script)))
+    (n : length r.code.nodes ≡ length ns) (t : length r.code.types ≡ length ts) (c : length r.code.lists ≡ length ls) (o : length rs₁ ≡ length rs) where
+  pub strict_tree : (ns₂ ts₂ ls₂ rs₂ ds₂ : List ℕ) → r.code.parser.error ≡ None
+      → ns₂ ≡ behind (node_width * r.code.parser.used.nodes) r.code.nodes → ts₂ ≡ behind (type_width * r.code.parser.used.types) r.code.types → ls₂ ≡ behind r.code.parser.used.cells r.code.lists → rs₂ ≡ behind r.members rs₁ → ds₂ ≡ behind 0 ds
+      → outcome (parse stage_one script) (arrays_of ns ts ls rs ds) ≡ record { answer = tree_of r.code.parser.used r.members 0; arrays = arrays_of ns₂ ts₂ ls₂ rs₂ ds₂ }
   unfolding ending flatten
-  strict_tree ns₂ ts₂ ls₂ rs₂ ds₂ {u} {v} g same same₂ a b x d z =
+  strict_tree ns₂ ts₂ ls₂ rs₂ ds₂ g a b x d z =
       go (parse_roots stage_one script (begin script)) (parse_ending script) ends
     where
-      go : (res : Result (List ℕ)) → parse stage_one script ≡ ending res → RootsEnd ns₁ ts₁ ls₁ rs₁ r res → outcome (parse stage_one script) (arrays_of ns ts ls rs ds) ≡ record { answer = tree_of u r.members 0; arrays = arrays_of ns₂ ts₂ ls₂ rs₂ ds₂ }
-      go (ok xs m) e h = tree-outcome (parse stage_one script) ns ts ls rs ds ns₁ ts₁ ls₁ rs₁ ns₂ ts₂ ls₂ rs₂ ds₂ r [] 0 e h n t c o
-          (a ∙ ap (λ (w : Used). behind (node_width * w.nodes) ns₁) same₂) (b ∙ ap (λ (w : Used). behind (type_width * w.types) ts₁) same₂) (x ∙ ap (λ (w : Used). behind w.cells ls₁) same₂) d refl
+      go : (res : Result (List ℕ)) → parse stage_one script ≡ ending res → RootsEnd rs₁ r res → outcome (parse stage_one script) (arrays_of ns ts ls rs ds) ≡ record { answer = tree_of r.code.parser.used r.members 0; arrays = arrays_of ns₂ ts₂ ls₂ rs₂ ds₂ }
+      go (ok xs m) e h = tree-outcome (parse stage_one script) ns ts ls rs ds rs₁ ns₂ ts₂ ls₂ rs₂ ds₂ r [] 0 e h n t c o
+          a b x d refl
           (sym z)
-          ∙ ap (λ (w : Used). record { answer = tree_of w r.members 0; arrays = arrays_of ns₂ ts₂ ls₂ rs₂ ds₂ }) (sym same)
-      go (err y m) e h = absurd (true≢false g (ap is_going h))
+      go (err y m) e h = let f : None ≡ Some y = sym g ∙ h in absurd (cc)
 
-  pub strict-error : (ns₂ ts₂ ls₂ rs₂ ds₂ : List ℕ) {d₀ : Diagnostic} → is_going r.parser.status ≡ false → d₀ ≡ r.parser.status.error
-      → ns₂ ≡ zeros (length ns₁) → ts₂ ≡ zeros (length ts₁) → ls₂ ≡ zeros (length ls₁) → rs₂ ≡ zeros (length rs₁) → ds₂ ≡ zeros (length ds)
+  pub strict-error : (ns₂ ts₂ ls₂ rs₂ ds₂ : List ℕ) {d₀ : Diagnostic} → r.code.parser.error ≡ Some d₀
+      → ns₂ ≡ zeros (length r.code.nodes) → ts₂ ≡ zeros (length r.code.types) → ls₂ ≡ zeros (length r.code.lists) → rs₂ ≡ zeros (length rs₁) → ds₂ ≡ zeros (length ds)
       → outcome (parse stage_one script) (arrays_of ns ts ls rs ds) ≡ record { answer = P.Error d₀; arrays = arrays_of ns₂ ts₂ ls₂ rs₂ ds₂ }
   unfolding ending
-  strict-error ns₂ ts₂ ls₂ rs₂ ds₂ {d₀} g same a b x d z = go (parse_roots stage_one script (begin script)) (parse_ending script) ends
+  strict-error ns₂ ts₂ ls₂ rs₂ ds₂ {d₀} g a b x d z = go (parse_roots stage_one script (begin script)) (parse_ending script) ends
     where
-      go : (res : Result (List ℕ)) → parse stage_one script ≡ ending res → RootsEnd ns₁ ts₁ ls₁ rs₁ r res → outcome (parse stage_one script) (arrays_of ns ts ls rs ds) ≡ record { answer = P.Error d₀; arrays = arrays_of ns₂ ts₂ ls₂ rs₂ ds₂ }
-      go (ok xs m) w h = absurd (true≢false (ap is_going h.going) g)
-      go (err y m) w h = error-outcome (parse stage_one script) ns ts ls rs ds ns₂ ts₂ ls₂ rs₂ ds₂ d₀ (w ∙ ap ended (sym (same ∙ ap (λ (s : Status). s.error) h))) (a ∙ ap zeros n) (b ∙ ap zeros t) (x ∙ ap zeros c) (d ∙ ap zeros o) z
+      same : (y : Diagnostic) → r.code.parser.error ≡ Some y → y ≡ d₀
+      same y h = let f : Some y ≡ Some d₀ = sym h ∙ g in cc
+
+      go : (res : Result (List ℕ)) → parse stage_one script ≡ ending res → RootsEnd rs₁ r res → outcome (parse stage_one script) (arrays_of ns ts ls rs ds) ≡ record { answer = P.Error d₀; arrays = arrays_of ns₂ ts₂ ls₂ rs₂ ds₂ }
+      go (ok xs m) w h = let f : None ≡ Some d₀ = sym h.going ∙ g in absurd (cc)
+      go (err y m) w h = error-outcome (parse stage_one script) ns ts ls rs ds ns₂ ts₂ ls₂ rs₂ ds₂ d₀ (w ∙ ap ended (same y h)) (a ∙ ap zeros n) (b ∙ ap zeros t) (x ∙ ap zeros c) (d ∙ ap zeros o) z
 
 -- ---- collecting
 
@@ -107,36 +111,58 @@ collect_ending_lem : (script : List ℕ) → parse_collect stage_one script ≡ 
 unfolding parse_collect collect_ending
 collect_ending_lem script = refl
 
-module _ (script ns ts ls rs ds ns₁ ts₁ ls₁ rs₁ ds₁ : List ℕ) (r : RootsCollected) (ends : CollectEnds script ns₁ ts₁ ls₁ rs₁ ds₁ r (parse_roots_collect stage_one script (begin script)))
-    (n : length ns₁ ≡ length ns) (t : length ts₁ ≡ length ts) (c : length ls₁ ≡ length ls) (o : length rs₁ ≡ length rs) (k : length ds₁ ≡ length ds) where
+module _ (script ns ts ls rs ds rs₁ ds₁ : List ℕ) (r : RootsCollected) (ends : CollectEnds script rs₁ ds₁ r (parse_roots_collect stage_one script (begin script)))
+    (n : length r.code.nodes ≡ length ns) (t : length r.code.types ≡ length ts) (c : length r.code.lists ≡ length ls) (o : length rs₁ ≡ length rs) (k : length ds₁ ≡ length ds) where
   abbrev roots : RootsRead
-  roots = record { parser = r.parser; members = r.members }
+  roots = record { code = r.code; members = r.members }
 
-  pub collect_tree : (ns₂ ts₂ ls₂ rs₂ ds₂ : List ℕ) {u v : Used} → is_going r.parser.status ≡ true → u ≡ r.parser.used → v ≡ r.parser.used
-      → ns₂ ≡ behind (node_width * v.nodes) ns₁ → ts₂ ≡ behind (type_width * v.types) ts₁ → ls₂ ≡ behind v.cells ls₁ → rs₂ ≡ behind r.members rs₁ → ds₂ ≡ behind (diagnostic_width * r.diagnostics) ds₁
-      → outcome (parse_collect stage_one script) (arrays_of ns ts ls rs ds) ≡ record { answer = tree_of u r.members r.diagnostics; arrays = arrays_of ns₂ ts₂ ls₂ rs₂ ds₂ }
+  pub collect_tree : (ns₂ ts₂ ls₂ rs₂ ds₂ : List ℕ) → r.code.parser.error ≡ None
+      → ns₂ ≡ behind (node_width * r.code.parser.used.nodes) r.code.nodes → ts₂ ≡ behind (type_width * r.code.parser.used.types) r.code.types → ls₂ ≡ behind r.code.parser.used.cells r.code.lists → rs₂ ≡ behind r.members rs₁ → ds₂ ≡ behind (diagnostic_width * r.diagnostics) ds₁
+      → outcome (parse_collect stage_one script) (arrays_of ns ts ls rs ds) ≡ record { answer = tree_of r.code.parser.used r.members r.diagnostics; arrays = arrays_of ns₂ ts₂ ls₂ rs₂ ds₂ }
   unfolding collect_ending
-  collect_tree ns₂ ts₂ ls₂ rs₂ ds₂ {u} {v} g same same₂ a b x d z =
+  collect_tree ns₂ ts₂ ls₂ rs₂ ds₂ g a b x d z =
       go (parse_roots_collect stage_one script (begin script)) (collect_ending_lem script) ends
     where
-      go : (res : Result Gathered) → parse_collect stage_one script ≡ collect_ending script res → CollectEnds script ns₁ ts₁ ls₁ rs₁ ds₁ r res → outcome (parse_collect stage_one script) (arrays_of ns ts ls rs ds) ≡ record { answer = tree_of u r.members r.diagnostics; arrays = arrays_of ns₂ ts₂ ls₂ rs₂ ds₂ }
-      go (ok w m) e h = tree-outcome (parse_collect stage_one script) ns ts ls rs ds ns₁ ts₁ ls₁ rs₁ ns₂ ts₂ ls₂ rs₂ ds₂ roots (in_order script w) r.diagnostics e h.0 n t c o
-          (a ∙ ap (λ (w : Used). behind (node_width * w.nodes) ns₁) same₂) (b ∙ ap (λ (w : Used). behind (type_width * w.types) ts₁) same₂) (x ∙ ap (λ (w : Used). behind w.cells ls₁) same₂) d h.2
+      go : (res : Result Gathered) → parse_collect stage_one script ≡ collect_ending script res → CollectEnds script rs₁ ds₁ r res → outcome (parse_collect stage_one script) (arrays_of ns ts ls rs ds) ≡ record { answer = tree_of r.code.parser.used r.members r.diagnostics; arrays = arrays_of ns₂ ts₂ ls₂ rs₂ ds₂ }
+      go (ok w m) e h = tree-outcome (parse_collect stage_one script) ns ts ls rs ds rs₁ ns₂ ts₂ ls₂ rs₂ ds₂ roots (in_order script w) r.diagnostics e h.0 n t c o
+          a b x d h.2
           (held_as ds ds₁ ds₂ (flatten (map diagnostic_cells (in_order script w))) (diagnostic_width * r.diagnostics) k h.1 (omega (arith, h.2, cells-length (in_order script w))) z)
-          ∙ ap (λ (w : Used). record { answer = tree_of w r.members r.diagnostics; arrays = arrays_of ns₂ ts₂ ls₂ rs₂ ds₂ }) (sym same)
-      go (err y m) e h = absurd (true≢false g (ap is_going h))
+      go (err y m) e h = let f : None ≡ Some y = sym g ∙ h in absurd (cc)
 
-  pub collect_error : (ns₂ ts₂ ls₂ rs₂ ds₂ : List ℕ) {d₀ : Diagnostic} → is_going r.parser.status ≡ false → d₀ ≡ r.parser.status.error
-      → ns₂ ≡ zeros (length ns₁) → ts₂ ≡ zeros (length ts₁) → ls₂ ≡ zeros (length ls₁) → rs₂ ≡ zeros (length rs₁) → ds₂ ≡ zeros (length ds₁)
+  pub collect_error : (ns₂ ts₂ ls₂ rs₂ ds₂ : List ℕ) {d₀ : Diagnostic} → r.code.parser.error ≡ Some d₀
+      → ns₂ ≡ zeros (length r.code.nodes) → ts₂ ≡ zeros (length r.code.types) → ls₂ ≡ zeros (length r.code.lists) → rs₂ ≡ zeros (length rs₁) → ds₂ ≡ zeros (length ds₁)
       → outcome (parse_collect stage_one script) (arrays_of ns ts ls rs ds) ≡ record { answer = P.Error d₀; arrays = arrays_of ns₂ ts₂ ls₂ rs₂ ds₂ }
   unfolding collect_ending
-  collect_error ns₂ ts₂ ls₂ rs₂ ds₂ {d₀} g same a b x d z = go (parse_roots_collect stage_one script (begin script)) (collect_ending_lem script) ends
+  collect_error ns₂ ts₂ ls₂ rs₂ ds₂ {d₀} g a b x d z = go (parse_roots_collect stage_one script (begin script)) (collect_ending_lem script) ends
     where
-      go : (res : Result Gathered) → parse_collect stage_one script ≡ collect_ending script res → CollectEnds script ns₁ ts₁ ls₁ rs₁ ds₁ r res → outcome (parse_collect stage_one script) (arrays_of ns ts ls rs ds) ≡ record { answer = P.Error d₀; arrays = arrays_of ns₂ ts₂ ls₂ rs₂ ds₂ }
-      go (ok w m) v h = absurd (true≢false (ap is_going h.0.going) g)
-      go (err y m) v h = error-outcome (parse_collect stage_one script) ns ts ls rs ds ns₂ ts₂ ls₂ rs₂ ds₂ d₀ (v ∙ ap ended (sym (same ∙ ap (λ (s : Status). s.error) h))) (a ∙ ap zeros n) (b ∙ ap zeros t) (x ∙ ap zeros c) (d ∙ ap zeros o) (z ∙ ap zeros k)
+      same : (y : Diagnostic) → r.code.parser.error ≡ Some y → y ≡ d₀
+      same y h = let f : Some y ≡ Some d₀ = sym h ∙ g in cc
+
+      go : (res : Result Gathered) → parse_collect stage_one script ≡ collect_ending script res → CollectEnds script rs₁ ds₁ r res → outcome (parse_collect stage_one script) (arrays_of ns ts ls rs ds) ≡ record { answer = P.Error d₀; arrays = arrays_of ns₂ ts₂ ls₂ rs₂ ds₂ }
+      go (ok w m) v h = let f : None ≡ Some d₀ = sym h.0.going ∙ g in absurd (cc)
+      go (err y m) v h = error-outcome (parse_collect stage_one script) ns ts ls rs ds ns₂ ts₂ ls₂ rs₂ ds₂ d₀ (v ∙ ap ended (same y h)) (a ∙ ap zeros n) (b ∙ ap zeros t) (x ∙ ap zeros c) (d ∙ ap zeros o) (z ∙ ap zeros k)
 
 -- ---- the calls
+
+-- no refusal has the number 0
+pub some_number : (r : Refusal) → ¬ (number r ≡ 0)
+some_number TooLong e = omega arith
+some_number TooShort e = omega arith
+some_number Outside e = omega arith
+some_number Malformed e = omega arith
+some_number LineTooShort e = omega arith
+some_number NoWords e = omega arith
+some_number NotCut e = omega arith
+some_number SheetTooShort e = omega arith
+some_number TooManyLines e = omega arith
+some_number PracticeTooShort e = omega arith
+some_number PositionsFall e = omega arith
+some_number PlacesTooShort e = omega arith
+
+-- what is not refused has the number 0
+pub unrefused : {n : ℕ} (r : Answered (Unit {0}) Refusal) → ((x : Refusal) → r ≡ Err x → ⊥) → refusal_number r ≡ n → 0 ≡ n
+unrefused (Ok u) f e = e
+unrefused (Err x) f e = absurd (f x refl)
 
 abbrev refusal_of : List ℕ → List ℕ → List ℕ → Arrays → ℕ
 refusal_of script tokens errors l = refusal (length script) (length l.nodes) (length l.types) (length l.lists) (length l.roots) (length l.diagnostics) (length tokens) (length errors)
@@ -242,7 +268,7 @@ module _ (how : List ℕ → Reading) (script tokens errors : List ℕ) (l : Arr
     pub is_read_lem : is_cut script tokens errors ≡ true → read_promised how script tokens errors l ≡ outcome (how script) l
     is_read_lem e = read_by ∙ (λ i. reads (a.not_long i) (a.not_short i) (e i))
 
-    pub is_parsed : {tokens' errors' : List ℕ} {answer : Cutting} {o : Outcome} → T.promised script tokens errors ≡ record { answer = answer; tokens = tokens'; errors = errors' } → outcome (how script) l ≡ o
+    pub is_parsed : {tokens' errors' : List ℕ} {answer : Answer TableCounts} {o : Outcome} → T.promised script tokens errors ≡ record { answer = answer; tokens = tokens'; errors = errors' } → outcome (how script) l ≡ o
         → parse_promised how script tokens errors l ≡ record { answer = o.answer; arrays = o.arrays; tokens = tokens'; errors = errors' }
     unfolding T.tabled
     is_parsed {tokens'} {errors'} e w =
@@ -250,7 +276,7 @@ module _ (how : List ℕ → Reading) (script tokens errors : List ℕ) (l : Arr
         parse_by ∙ (λ i. parses (a.not_long i) (a.not_short i)) ∙ (λ i. record { answer = (w i).answer; arrays = (w i).arrays; tokens = ap (λ (x : T.Outcome). x.tokens) t i; errors = ap (λ (x : T.Outcome). x.errors) t i })
 
     -- what cutting leaves
-    pub tables_are : {tokens' errors' : List ℕ} {answer : Cutting} → T.promised script tokens errors ≡ record { answer = answer; tokens = tokens'; errors = errors' } → length tokens' ≡ length tokens → length errors' ≡ length errors
+    pub tables_are : {tokens' errors' : List ℕ} {answer : Answer TableCounts} → T.promised script tokens errors ≡ record { answer = answer; tokens = tokens'; errors = errors' } → length tokens' ≡ length tokens → length errors' ≡ length errors
         → (tokens' ≡ padded (length tokens') (token_table script)) × (errors' ≡ padded (length errors') (error_table script))
     unfolding T.tabled
     tables_are e m n =

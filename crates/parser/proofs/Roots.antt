@@ -23,12 +23,11 @@ use Rattle.rules.specs.Rules.{max_levels, stage_one}
 use Rattle.rules.specs.Parse.{begin, parse_roots}
 use Rattle.ast.specs.Layout.{node_width, type_width, node_cells, type_cells}
 use Rattle.ast.specs.declared.NodeId.{NodeId}
-use Rattle.parser_state.specs.Represents.{with_used, Code, code, going, is_going, ahead, from, Near, doc_cells, Related, Represents}
+use Rattle.parser_state.specs.Represents.{Reading, with_used, Code, going, is_going, ahead, from, Near, doc_cells, Related, Represents}
 use Rattle.parser_state.specs.Refines.{Ends, stack_unchanged, Refines, rules_of, deeper, member_follows}
-use Rattle.parser_state.specs.declared.Parser.{Parser}
 use Rattle.parser_state.specs.declared.Used.{Used}
 use Rattle.parser_state.proofs.Steps.{either, true≢false, and_both, left-some, current_represents, represents_less, represents_going, failed-fails}
-use Rattle.parser_state.proofs.Leaves.{through_used, from_at}
+use Rattle.parser_state.proofs.Leaves.{from_at}
 use Rattle.parser_state.proofs.Cells.{types-length, nodes-length}
 use Rattle.parser_state.proofs.Rounds.{Again, Turned, LoopInvariant, round_start_at, round_out, if_kind_is_yes, if_kind_is_no}
 use Rattle.parser_state.proofs.Loops.{member-eof, no_member}
@@ -39,10 +38,11 @@ use Rattle.parser.specs.Whole.{RootsRead, has_cell, RootPushed, Begun, FirstToke
 abbrev pub undocumented : Used → Used
 undocumented u = record { nodes = u.nodes; values = u.values; types = u.types; docs = 0; cells = u.cells; scratch = u.scratch }
 
-docs_dropped : (tokens nodes types lists : List ℕ) (p : Parser) → is_going p.status ≡ true
-    → Refines tokens 0 0 drop_docs (λ n. n ≡ 0) stack_unchanged 0 0 0 (code nodes types lists p) (code nodes types lists (with_used p (undocumented p.used)))
+pub dropping : (tokens : List ℕ) (s : Code) → going s ≡ true
+    → Refines tokens 0 0 drop_docs (λ n. n ≡ 0) stack_unchanged 0 0 0 s (with_used s (undocumented s.parser.used))
 unfolding drop_docs with_docs flatten
-docs_dropped tokens nodes types lists p g = record {
+dropping tokens s g = record {
+  same = refl;
   sticky = λ z. absurd (true≢false g z);
   monotone = omega arith;
   progress = λ _. omega arith;
@@ -69,35 +69,29 @@ docs_dropped tokens nodes types lists p g = record {
       );
 }
 
-pub dropping : (tokens nodes types lists : List ℕ) {p q : Parser} {u : Used} → is_going p.status ≡ true → u ≡ p.used → q ≡ with_used p (undocumented u)
-    → Refines tokens 0 0 drop_docs (λ n. n ≡ 0) stack_unchanged 0 0 0 (code nodes types lists p) (code nodes types lists q)
-dropping tokens nodes types lists {p} g e w = through_used p undocumented
-    (λ (u : Used) (q : Parser). Refines tokens 0 0 drop_docs (λ n. n ≡ 0) stack_unchanged 0 0 0 (code nodes types lists p) (code nodes types lists q))
-    e w (docs_dropped tokens nodes types lists p g)
-
 -- ---- one more root
 
-module _ (p : Parser) (n : ℕ) (roots : List ℕ) where
-  has_cell_lem : has_cell p n roots ≡ true → (is_going p.status ≡ true) × (n < length roots) × (n < max_bytes)
+module _ (p : Reading) (n : ℕ) (roots : List ℕ) where
+  has_cell_lem : has_cell p n roots ≡ true → (is_going p.error ≡ true) × (n < length roots) × (n < max_bytes)
   unfolding has_cell
   has_cell_lem e =
-      let a = and_both (is_going p.status) (ltb n (length roots) && ltb n max_bytes) e in
+      let a = and_both (is_going p.error) (ltb n (length roots) && ltb n max_bytes) e in
       let b = and_both (ltb n (length roots)) (ltb n max_bytes) a.1 in
       (a.0, ltb-true _ _ b.0, ltb-true _ _ b.1)
 
-  cell_there : is_going p.status ≡ true → n < length roots → n < max_bytes → has_cell p n roots ≡ true
+  cell_there : is_going p.error ≡ true → n < length roots → n < max_bytes → has_cell p n roots ≡ true
   unfolding has_cell
   cell_there g h k = rw (g, lt-ltb _ _ h, lt-ltb _ _ k) refl
 
 -- with a cell its number is written, without one all stays
-module _ {p : Parser} {n : ℕ} {roots : List ℕ} where
-  pub root-written : {id : ℕ} → is_going p.status ≡ true → n < length roots → n < max_bytes → RootPushed p roots n id (set roots n id) (n + 1)
+module _ {p : Reading} {n : ℕ} {roots : List ℕ} where
+  pub root-written : {id : ℕ} → is_going p.error ≡ true → n < length roots → n < max_bytes → RootPushed p roots n id (set roots n id) (n + 1)
   root-written g h k = record { pushed = λ _. (refl, refl); left_out = λ e. absurd (true≢false (cell_there p n roots g h k) e) }
 
-  pub root-left_out : {id : ℕ} → (is_going p.status ≡ true → n < length roots → n < max_bytes → ⊥) → RootPushed p roots n id roots n
+  pub root-left_out : {id : ℕ} → (is_going p.error ≡ true → n < length roots → n < max_bytes → ⊥) → RootPushed p roots n id roots n
   root-left_out f = record { pushed = λ e. let t = has_cell_lem p n roots e in absurd (f t.0 t.1 t.2); left_out = λ _. (refl, refl) }
 
-  pub root_there : {id n' : ℕ} {roots' : List ℕ} → RootPushed p roots n id roots' n' → is_going p.status ≡ true → n < length roots → n < max_bytes → (roots' ≡ set roots n id) × (n' ≡ n + 1)
+  pub root_there : {id n' : ℕ} {roots' : List ℕ} → RootPushed p roots n id roots' n' → is_going p.error ≡ true → n < length roots → n < max_bytes → (roots' ≡ set roots n id) × (n' ≡ n + 1)
   root_there h g l k = h.pushed (cell_there p n roots g l k)
 
 pub some-ahead : {tokens : List ℕ} {s : Code} {r l : ℕ} {stack : List ℕ} {m : State} → Related tokens s r l stack m → 1 ≤ length (ahead tokens s)
@@ -131,6 +125,7 @@ module _ (script : List ℕ) {tokens roots roots' : List ℕ} {n n' : ℕ} {id :
       → Again tokens (root_step script) stack_unchanged (RootsAre script tokens roots n s) (RootsAre script tokens roots' n' s') s s'
   unfolding ◌>>=◌ pure
   root_again w small long p f = record {
+    same = p.same;
     monotone = p.monotone;
     progress = p.progress;
     flow_value = λ R L stack xs m q h.
@@ -149,22 +144,22 @@ module _ (script : List ℕ) {tokens roots roots' : List ℕ} {n n' : ℕ} {id :
 -- ---- the end
 
 -- a loop over roots that is left by a parser that goes on has come to Eof
-pub at-eof : {tokens nodes types lists stack : List ℕ} {r l : ℕ} {q : Parser} {m : State} → member_follows q k_eof ≡ false → Represents tokens (code nodes types lists q) r l stack m → eqb (current m.left).kind k_eof ≡ true
-at-eof {q = q} w g =
-    let cur : current _ ≡ token_of q.cur = current_represents g.related in
-    either (eqb q.cur.kind k_eof)
+pub at-eof : {tokens stack : List ℕ} {r l : ℕ} {s : Code} {m : State} → member_follows s.parser k_eof ≡ false → Represents tokens s r l stack m → eqb (current m.left).kind k_eof ≡ true
+at-eof {s = s} w g =
+    let cur : current _ ≡ token_of s.parser.cur = current_represents g.related in
+    either (eqb s.parser.cur.kind k_eof)
     (λ z. rw cur z)
-    (λ z. absurd (true≢false (no_member q k_eof (represents_going g) w z) z))
+    (λ z. absurd (true≢false (no_member s.parser k_eof (represents_going g) w z) z))
 
 -- the arrays hold the tree once the docs that wait are dropped
-pub tree-held : {script tokens nodes types lists roots xs : List ℕ} {q : Parser} {r : RootsRead} {m : State}
-    → Represents tokens (code nodes types lists q) 0 0 [] m → RootsAre script tokens roots r.members (code nodes types lists q) xs
-    → Refines tokens 0 0 drop_docs (λ n. n ≡ 0) stack_unchanged 0 0 0 (code nodes types lists q) (code nodes types lists r.parser)
-    → Holds nodes types lists roots r xs m
+pub tree-held : {script tokens roots xs : List ℕ} {s : Code} {r : RootsRead} {m : State}
+    → Represents tokens s 0 0 [] m → RootsAre script tokens roots r.members s xs
+    → Refines tokens 0 0 drop_docs (λ n. n ≡ 0) stack_unchanged 0 0 0 s r.code
+    → Holds roots r xs m
 unfolding drop_docs with_docs flatten
-tree-held {script} {tokens} {nodes} {types} {lists} {roots} {xs} {r = r} {m} h k p =
-    let d : Represents tokens (code nodes types lists r.parser) 0 0 [] (with_docs [] m) = (p.simulates 0 0 [] m h).1 in
-    let u : Used = r.parser.used in
+tree-held {script} {tokens} {roots} {xs} {r = r} {m} h k p =
+    let d : Represents tokens r.code 0 0 [] (with_docs [] m) = (p.simulates 0 0 [] m h).1 in
+    let u : Used = r.code.parser.used in
     let ns = d.related.nodes in
     let ts = d.related.types in
     let ls = d.related.lists in
@@ -196,52 +191,52 @@ module _ (script : List ℕ) {tokens : List ℕ} (small : length script ≤ max_
       (λ b. let h : i < length (tokens_of (cut script)) = ltb-true _ _ b in omega (arith, ap (λ (t : Token). t.start) (table_token script (length tokens) i h), (token_in_range script i h).start))
       (λ b. omega (arith, past_start script (length tokens) i (ltb-false _ _ b))))
 
-module _ {script tokens nodes types lists roots : List ℕ} (p : Parser) (h : Begun script tokens nodes types lists roots) (e : FirstToken tokens p) where
-  pub begun : Represents tokens (code nodes types lists p) 0 0 [] (begin script)
+module _ {script tokens roots : List ℕ} (s : Code) (h : Begun script tokens s.nodes s.types s.lists roots) (e : FirstToken tokens s.parser) where
+  pub begun : Represents tokens s 0 0 [] (begin script)
   unfolding begin flatten
   begun =
       let small : length script ≤ max_bytes = h.lent.small in
       let all : tokens_from tokens 0 ≡ tokens_of (cut script) = tokens-all script small h.tabled in
       let few : length (tokens_from tokens 0) ≤ length script + 1 = tokens-few script small h.tabled in
-      let left : tokens_of (cut script) ≡ from tokens (token_of p.cur) p.at = sym all ∙ from_at tokens 0 ∙ (λ i. from tokens (sym e.cur i) (sym e.at i)) in
-      let zero-nodes : p.used.nodes ≡ 0 = ap (λ (u : Used). u.nodes) e.used in
-      let zero-values : p.used.values ≡ 0 = ap (λ (u : Used). u.values) e.used in
-      let zero-types : p.used.types ≡ 0 = ap (λ (u : Used). u.types) e.used in
-      let zero-docs : p.used.docs ≡ 0 = ap (λ (u : Used). u.docs) e.used in
-      let zero-cells : p.used.cells ≡ 0 = ap (λ (u : Used). u.cells) e.used in
-      let zero-scratch : p.used.scratch ≡ 0 = ap (λ (u : Used). u.scratch) e.used in
+      let left : tokens_of (cut script) ≡ from tokens (token_of s.parser.cur) s.parser.at = sym all ∙ from_at tokens 0 ∙ (λ i. from tokens (sym e.cur i) (sym e.at i)) in
+      let zero-nodes : s.parser.used.nodes ≡ 0 = ap (λ (u : Used). u.nodes) e.used in
+      let zero-values : s.parser.used.values ≡ 0 = ap (λ (u : Used). u.values) e.used in
+      let zero-types : s.parser.used.types ≡ 0 = ap (λ (u : Used). u.types) e.used in
+      let zero-docs : s.parser.used.docs ≡ 0 = ap (λ (u : Used). u.docs) e.used in
+      let zero-cells : s.parser.used.cells ≡ 0 = ap (λ (u : Used). u.cells) e.used in
+      let zero-scratch : s.parser.used.scratch ≡ 0 = ap (λ (u : Used). u.scratch) e.used in
       let many : length (tokens_of (cut script)) ≡ length (tokens_from tokens 0) = ap length (sym all) in
       record {
-        status = e.status;
+        status = e.error;
         related = record {
           left = left;
           here = e.cur ∙ ap (token_at tokens) (sym e.at);
           near = all_near script small h.tabled;
           taken = omega (arith, e.at);
           few = omega arith;
-          nodes = record { between = nodes; laid = sym (append-nil nodes); counted = zero-nodes; valued = zero-values };
-          types = record { between = types; laid = sym (append-nil types); counted = zero-types; doc_counted = zero-docs; near = tt };
-          lists = record { between = lists; laid = sym (append-nil lists); counted = zero-cells; stacked = zero-scratch };
+          nodes = record { between = s.nodes; laid = sym (append-nil s.nodes); counted = zero-nodes; valued = zero-values };
+          types = record { between = s.types; laid = sym (append-nil s.types); counted = zero-types; doc_counted = zero-docs; near = tt };
+          lists = record { between = s.lists; laid = sym (append-nil s.lists); counted = zero-cells; stacked = zero-scratch };
           bytes = length script;
           credit = record { records = omega arith; numbers = omega arith; room = omega arith };
           lent = h.lent;
         };
       }
 
-  pub roots-start : LoopInvariant tokens (root_step script) stack_unchanged [] (RootsAre script tokens roots 0 (code nodes types lists p)) (code nodes types lists p) (code nodes types lists p)
+  pub roots-start : LoopInvariant tokens (root_step script) stack_unchanged [] (RootsAre script tokens roots 0 s) s s
   roots-start = round_start_at (λ R L stack m k. record { held = refl; counted = refl; few = omega (arith, k.related.taken, tokens-few script h.lent.small h.tabled, ap length k.related.left) })
 
-  module _ {nodes' types' lists' roots' : List ℕ} {q : Parser} {r : RootsRead} where
-    pub roots_end : LoopInvariant tokens (root_step script) stack_unchanged [] (RootsAre script tokens roots' r.members (code nodes' types' lists' q)) (code nodes types lists p) (code nodes' types' lists' q)
-        → member_follows q k_eof ≡ false
-        → Refines tokens 0 0 drop_docs (λ n. n ≡ 0) stack_unchanged 0 0 0 (code nodes' types' lists' q) (code nodes' types' lists' r.parser)
-        → RootsEnd nodes' types' lists' roots' r (parse_roots stage_one script (begin script))
+  module _ {roots' : List ℕ} {s' : Code} {r : RootsRead} where
+    pub roots_end : LoopInvariant tokens (root_step script) stack_unchanged [] (RootsAre script tokens roots' r.members s') s s'
+        → member_follows s'.parser k_eof ≡ false
+        → Refines tokens 0 0 drop_docs (λ n. n ≡ 0) stack_unchanged 0 0 0 s' r.code
+        → RootsEnd roots' r (parse_roots stage_one script (begin script))
     unfolding parse_roots pure
     roots_end i w d = go (loop (root_step script) [] (begin script)) ((round_out i (λ stack. refl) out).simulates 0 0 [] (begin script) begun)
       where
-        out : (R L : ℕ) (stack xs : List ℕ) (m : State) → RootsAre script tokens roots' r.members (code nodes' types' lists' q) xs → Represents tokens (code nodes' types' lists' q) R L stack m → root_step script xs m ≡ ok (break xs) m
+        out : (R L : ℕ) (stack xs : List ℕ) (m : State) → RootsAre script tokens roots' r.members s' xs → Represents tokens s' R L stack m → root_step script xs m ≡ ok (break xs) m
         out R L stack xs m k g = if_kind_is_yes k_eof _ _ m (at-eof w g)
 
-        go : (res : Result (List ℕ)) → Ends tokens (RootsAre script tokens roots' r.members (code nodes' types' lists' q)) stack_unchanged (code nodes' types' lists' q) 0 0 0 0 [] res → RootsEnd nodes' types' lists' roots' r res
+        go : (res : Result (List ℕ)) → Ends tokens (RootsAre script tokens roots' r.members s') stack_unchanged s' 0 0 0 0 [] res → RootsEnd roots' r res
         go (ok xs m) k = tree-held k.1 k.0 d
-        go (err e m) k = ap (λ (t : Code). t.parser.status) (d.sticky (failed-fails k)) ∙ k.status
+        go (err e m) k = ap (λ (t : Code). t.parser.error) (d.sticky (failed-fails k)) ∙ k.status

@@ -16,12 +16,11 @@ use Rattle.rules.specs.Tree.{State, Result, ok, err}
 use Rattle.rules.specs.Combinators.{Rule, ◌>>◌, pure, advance, choose, with_docs, ControlFlow, continue, break}
 use Rattle.rules.specs.Parse.{synchronize_by_kind, synchronize_step, synchronize_root}
 use Rattle.rules.proofs.Results as Results
-use Rattle.parser_state.specs.Represents.{Going, with_used, with_status, Code, code, is_going, Represents, FailedAt}
+use Rattle.parser_state.specs.Represents.{Reading, Going, with_used, with_error, Code, is_going, Represents, FailedAt}
 use Rattle.parser_state.specs.Refines.{Ends, stack_unchanged, Refines}
-use Rattle.parser_state.specs.declared.Parser.{Parser}
 use Rattle.parser_state.specs.declared.Used.{Used}
 use Rattle.parser_state.proofs.Steps.{either, true≢false, and_both, at-kind, then, done, enough, represents_less}
-use Rattle.parser_state.proofs.Leaves.{idle, through_used}
+use Rattle.parser_state.proofs.Leaves.{idle}
 use Rattle.parser_operators.proofs.Tables.{past, past_all}
 use Rattle.parser.specs.Whole.{Resumes, root_boundary, skips, synchronizing}
 
@@ -30,9 +29,9 @@ use Rattle.parser.specs.Whole.{Resumes, root_boundary, skips, synchronizing}
 abbrev pub emptied : Used → Used
 emptied u = record { nodes = u.nodes; values = u.values; types = u.types; docs = u.docs; cells = u.cells; scratch = 0 }
 
-stack_emptied : {tokens nodes types lists : List ℕ} {p : Parser} {e : Diagnostic} {R L : ℕ} {stack : List ℕ} {m : State} → FailedAt tokens (code nodes types lists p) e R L stack m
-    → Represents tokens (code nodes types lists (with_status (with_used p (emptied p.used)) Going)) R L [] m
-stack_emptied {stack = stack} {m} h =
+pub resuming : {tokens : List ℕ} {s : Code} {e : Diagnostic} {R L : ℕ} {stack : List ℕ} {m : State} → FailedAt tokens s e R L stack m
+    → Represents tokens (with_error (with_used s (emptied s.parser.used)) Going) R L [] m
+resuming {stack = stack} {m} h =
     let r = h.related in
     let old = r.lists in
     record {
@@ -51,13 +50,6 @@ stack_emptied {stack = stack} {m} h =
         lent = r.lent;
       };
     }
-
--- a failed parser whose stack is emptied, and whose status is set anew
-pub resuming : {tokens nodes types lists : List ℕ} {p q₁ q : Parser} {u : Used} {e : Diagnostic} {R L : ℕ} {stack : List ℕ} {m : State} → u ≡ p.used → q₁ ≡ with_used p (emptied u) → q ≡ with_status q₁ Going
-    → FailedAt tokens (code nodes types lists p) e R L stack m → Represents tokens (code nodes types lists q) R L [] m
-resuming {tokens} {nodes} {types} {lists} {p} {R = R} {L} {m = m} f g k h =
-    subst (λ (r : Parser). Represents tokens (code nodes types lists r) R L [] m) (sym k)
-    (through_used p emptied (λ (u : Used) (r : Parser). Represents tokens (code nodes types lists (with_status r Going)) R L [] m) f g (stack_emptied h))
 
 -- ---- to the next token that may begin a root
 
@@ -109,16 +101,16 @@ module _ (n k : ℕ) where
       at : (j : ℕ) → eqb k j ≡ true → synchronize_by_kind n j ≡ by_tests n (root_boundary j) (eqb j k_curly_right) → synchronize_by_kind n k ≡ by_tests n (root_boundary k) (eqb k k_curly_right)
       at j e h = subst (λ (i : ℕ). synchronize_by_kind n i ≡ by_tests n (root_boundary i) (eqb i k_curly_right)) (sym (eqb-true k j e)) h
 
-module _ (p : Parser) where
-  pub skips-both : skips p ≡ true → (is_going p.status ≡ true) × (root_boundary p.cur.kind ≡ false)
+module _ (p : Reading) where
+  pub skips-both : skips p ≡ true → (is_going p.error ≡ true) × (root_boundary p.cur.kind ≡ false)
   unfolding skips
   skips-both e =
-      let a = and_both (is_going p.status) (not (root_boundary p.cur.kind)) e in
+      let a = and_both (is_going p.error) (not (root_boundary p.cur.kind)) e in
       (a.0, not-true _ a.1)
 
-  skips_not : skips p ≡ false → is_going p.status ≡ true → root_boundary p.cur.kind ≡ true
+  skips_not : skips p ≡ false → is_going p.error ≡ true → root_boundary p.cur.kind ≡ true
   unfolding skips
-  skips_not e g = go (is_going p.status) (root_boundary p.cur.kind) e g
+  skips_not e g = go (is_going p.error) (root_boundary p.cur.kind) e g
     where
       go : (a b : Bool) → (a && not b) ≡ false → a ≡ true → b ≡ true
       go true true h g = refl
@@ -140,7 +132,7 @@ module _ {tokens : List ℕ} {s s' : Code} where
   breaks_past p e = at-kind (synchronize_by_kind 0) k_curly_right (enough (then p done) tt) e
 
 pub breaks_before : {tokens : List ℕ} (s : Code) → skips s.parser ≡ false → (s.parser.cur.kind ≡ k_curly_right → ⊥) → Refines tokens 0 0 (synchronize_step 0) (λ t. t ≡ break 0) stack_unchanged 0 0 0 s s
-breaks_before s e f = either (is_going s.parser.status)
+breaks_before s e f = either (is_going s.parser.error)
     (λ g. at-kind (synchronize_by_kind 0) s.parser.cur.kind (rw (by_tests_lem 0 s.parser.cur.kind, skips_not s.parser e g, ne_eqb s.parser.cur.kind k_curly_right f) done) refl)
     (λ g. idle g)
 

@@ -13,22 +13,21 @@ use Rattle.rules.specs.Parse.{Gathered, merged, recover}
 use Rattle.ast.specs.Layout.{diagnostic_width, diagnostic_cells}
 use Rattle.diagnostics.specs.Records.{diagnostics, Holding}
 use Rattle.diagnostics.proofs.Order.{Ordered}
-use Rattle.parser_state.specs.Represents.{Failed, code, Represents}
+use Rattle.parser_state.specs.Represents.{Failed, Code, Represents}
 use Rattle.parser_state.specs.Refines.{rules_of, deeper}
-use Rattle.parser_state.specs.declared.Parser.{Parser}
 use Rattle.parser.specs.Whole.{RootsAre, Holds}
 use Rattle.parser.specs.declared.Gathering.{Gathering}
 
--- the parser behind the roots, how many roots and diagnostics there are, and how many of the lexer's
+-- the code behind the roots, how many roots and diagnostics there are, and how many of the lexer's
 -- errors are among these
 pub record RootsCollected : Type 0 where
-  pub parser : Parser
+  pub code : Code
   pub members : ℕ
   pub diagnostics : ℕ
   pub listed : ℕ
 
-abbrev pub collected : Parser → Gathering → RootsCollected
-collected p c = record { parser = p; members = c.members; diagnostics = c.diagnostics; listed = c.listed }
+abbrev pub collected : Code → Gathering → RootsCollected
+collected s c = record { code = s; members = c.members; diagnostics = c.diagnostics; listed = c.listed }
 
 -- one more root, or one more error
 abbrev pub collect_step : List ℕ → Gathered → Rule (ControlFlow Gathered)
@@ -50,8 +49,8 @@ pub record DiagnosticsAre (script errors array : List ℕ) (n listed : ℕ) (es 
   pub below : AllBelow (length (tokens_of (cut script))) (errors_from errors listed)
 
 -- what is gathered is in the arrays
-pub record GatheredAre (script tokens errors nodes types lists roots diagnostics : List ℕ) (c : RootsCollected) (g : Gathered) : Type 0 where
-  pub roots_held : RootsAre script tokens roots c.members (code nodes types lists c.parser) g.roots
+pub record GatheredAre (script tokens errors roots diagnostics : List ℕ) (c : RootsCollected) (g : Gathered) : Type 0 where
+  pub roots_held : RootsAre script tokens roots c.members c.code g.roots
   pub diagnostics_held : DiagnosticsAre script errors diagnostics c.diagnostics c.listed g.errors
 
 -- and there is room for one error more
@@ -62,17 +61,17 @@ pub record Room (script roots diagnostics : List ℕ) (g : Gathered) : Type 0 wh
   pub few_errors : length g.errors + 2 ≤ length (tokens_of (cut script))
 
 -- how a turn of the loop over roots ends
-abbrev pub TurnEnds : (script tokens errors nodes types lists roots diagnostics : List ℕ) → RootsCollected → Result (ControlFlow Gathered) → Type 0
-TurnEnds script tokens errors nodes types lists roots diagnostics c (ok (continue g) m) = Represents tokens (code nodes types lists c.parser) 0 0 [] m × GatheredAre script tokens errors nodes types lists roots diagnostics c g
-TurnEnds script tokens errors nodes types lists roots diagnostics c (ok (break g) m) = ⊥
-TurnEnds script tokens errors nodes types lists roots diagnostics c (err e m) = c.parser.status ≡ Failed e
+abbrev pub TurnEnds : (script tokens errors roots diagnostics : List ℕ) → RootsCollected → Result (ControlFlow Gathered) → Type 0
+TurnEnds script tokens errors roots diagnostics c (ok (continue g) m) = Represents tokens c.code 0 0 [] m × GatheredAre script tokens errors roots diagnostics c g
+TurnEnds script tokens errors roots diagnostics c (ok (break g) m) = ⊥
+TurnEnds script tokens errors roots diagnostics c (err e m) = c.code.parser.error ≡ Failed e
 
 -- errors and faults in the order in which they are met
 abbrev pub in_order : List ℕ → Gathered → List Diagnostic
 in_order script g = let fs = faults_of 0 (cut script) in merged (length fs + length g.errors) fs g.errors
 
 -- by how the rule ends
-abbrev pub CollectEnds : (script nodes types lists roots diagnostics : List ℕ) → RootsCollected → Result Gathered → Type 0
-CollectEnds script nodes types lists roots diagnostics c (ok g m) =
-    Holds nodes types lists roots (record { parser = c.parser; members = c.members }) g.roots m × (take (diagnostic_width * c.diagnostics) diagnostics ≡ flatten (map diagnostic_cells (in_order script g))) × (c.diagnostics ≡ length (in_order script g))
-CollectEnds script nodes types lists roots diagnostics c (err e m) = c.parser.status ≡ Failed e
+abbrev pub CollectEnds : (script roots diagnostics : List ℕ) → RootsCollected → Result Gathered → Type 0
+CollectEnds script roots diagnostics c (ok g m) =
+    Holds roots (record { code = c.code; members = c.members }) g.roots m × (take (diagnostic_width * c.diagnostics) diagnostics ≡ flatten (map diagnostic_cells (in_order script g))) × (c.diagnostics ≡ length (in_order script g))
+CollectEnds script roots diagnostics c (err e m) = c.code.parser.error ≡ Failed e

@@ -8,8 +8,8 @@ use Rattle.tokens.specs.Tables as T
 use Rattle.tokens.specs.Tables.{token_table, error_table, is_cut}
 use Rattle.rules.specs.Parse.{Reading}
 use Rattle.rules.specs.Promise.{Arrays, Outcome, too_short, outcome}
-use Rattle.ast.specs.declared.Parsed.{Parsed}
-use Rattle.ast.specs.declared.Parsed.TheVariants as P
+use Rattle.rules.specs.Parsed.{Parsed}
+use Rattle.rules.specs.Parsed as P
 
 -- a call that is turned away leaves all as it is
 abbrev pub turned_away : ℕ → Arrays → Outcome

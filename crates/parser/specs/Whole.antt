@@ -14,9 +14,8 @@ use Rattle.rules.specs.Combinators.{Rule, ◌>>=◌, pure, if_kind, with_docs, C
 use Rattle.rules.specs.Rules.{max_levels}
 use Rattle.rules.specs.Parse.{synchronize_step}
 use Rattle.ast.specs.Layout.{node_width, type_width, diagnostic_width, cells_per_byte, node_cells, type_cells}
-use Rattle.parser_state.specs.Represents.{Going, Failed, Code, ahead, is_going, EnoughLent, Represents, FailedAt}
+use Rattle.parser_state.specs.Represents.{Reading, Going, Failed, Code, ahead, is_going, EnoughLent, Represents, FailedAt}
 use Rattle.parser_state.specs.Refines.{rules_of, deeper}
-use Rattle.parser_state.specs.declared.Parser.{Parser}
 
 -- the number of a refusal, or 0, for a script of `n` bytes and the lengths of the arrays and tables
 unfoldable pub refusal : ℕ → ℕ → ℕ → ℕ → ℕ → ℕ → ℕ → ℕ → ℕ
@@ -39,19 +38,19 @@ pub record Begun (script tokens ns ts ls rs : List ℕ) : Type 0 where
   pub tabled : tokens ≡ padded (length tokens) (token_table script)
 
 -- a parser at the first token of a table
-pub record FirstToken (tokens : List ℕ) (p : Parser) : Type 0 where
+pub record FirstToken (tokens : List ℕ) (p : Reading) : Type 0 where
   pub cur : token_of p.cur ≡ token_at tokens 0
   pub at : p.at ≡ 0
   pub used : p.used ≡ record { nodes = 0; values = 0; types = 0; docs = 0; cells = 0; scratch = 0 }
-  pub status : p.status ≡ Going
+  pub error : p.error ≡ Going
 
 -- an array with zeros behind its first `n` cells
 abbrev pub behind : ℕ → List ℕ → List ℕ
 behind n a = take n a ++ zeros (length a - n)
 
--- the parser behind the roots, and how many there are
+-- the code behind the roots, and how many there are
 pub record RootsRead : Type 0 where
-  pub parser : Parser
+  pub code : Code
   pub members : ℕ
 
 -- one more root
@@ -66,11 +65,11 @@ pub record RootsAre (script tokens array : List ℕ) (n : ℕ) (s : Code) (xs : 
 
 -- one more root is pushed: the reading has not failed, and there is a cell behind the `n` that are
 -- there
-unfoldable pub has_cell : Parser → ℕ → List ℕ → Bool
-has_cell p n roots = is_going p.status && (ltb n (length roots) && ltb n max_bytes)
+unfoldable pub has_cell : Reading → ℕ → List ℕ → Bool
+has_cell p n roots = is_going p.error && (ltb n (length roots) && ltb n max_bytes)
 
 -- the array and the count, by whether it is
-pub record RootPushed (p : Parser) (roots : List ℕ) (n id : ℕ) (roots' : List ℕ) (n' : ℕ) : Type 0 where
+pub record RootPushed (p : Reading) (roots : List ℕ) (n id : ℕ) (roots' : List ℕ) (n' : ℕ) : Type 0 where
   pub pushed : has_cell p n roots ≡ true → (roots' ≡ set roots n id) × (n' ≡ n + 1)
   pub left_out : has_cell p n roots ≡ false → (roots' ≡ roots) × (n' ≡ n)
 
@@ -79,28 +78,29 @@ unfoldable pub drop_docs : Rule ℕ
 drop_docs = λ s. ok 0 (with_docs [] s)
 
 -- the used parts of the arrays, and the counts, are a tree's
-pub record Holds (nodes types lists roots : List ℕ) (r : RootsRead) (xs : List ℕ) (m : State) : Type 0 where
-  pub going : r.parser.status ≡ Going
-  pub nodes_held : take (node_width * r.parser.used.nodes) nodes ≡ flatten (map node_cells m.arena.nodes)
-  pub types_held : take (type_width * r.parser.used.types) types ≡ flatten (map type_cells m.arena.types)
-  pub lists_held : take r.parser.used.cells lists ≡ m.arena.cells
+pub record Holds (roots : List ℕ) (r : RootsRead) (xs : List ℕ) (m : State) : Type 0 where
+  pub going : r.code.parser.error ≡ Going
+  pub nodes_held : take (node_width * r.code.parser.used.nodes) r.code.nodes ≡ flatten (map node_cells m.arena.nodes)
+  pub types_held : take (type_width * r.code.parser.used.types) r.code.types ≡ flatten (map type_cells m.arena.types)
+  pub lists_held : take r.code.parser.used.cells r.code.lists ≡ m.arena.cells
   pub roots_held : take r.members roots ≡ xs
-  pub node_count : r.parser.used.nodes ≡ length m.arena.nodes
-  pub type_count : r.parser.used.types ≡ length m.arena.types
-  pub cell_count : r.parser.used.cells ≡ length m.arena.cells
-  pub value_count : r.parser.used.values ≡ m.arena.values
+  pub node_count : r.code.parser.used.nodes ≡ length m.arena.nodes
+  pub type_count : r.code.parser.used.types ≡ length m.arena.types
+  pub cell_count : r.code.parser.used.cells ≡ length m.arena.cells
+  pub value_count : r.code.parser.used.values ≡ m.arena.values
   pub root_count : r.members ≡ length xs
 
 -- by how the rule ends
-abbrev pub RootsEnd : List ℕ → List ℕ → List ℕ → List ℕ → RootsRead → Result (List ℕ) → Type 0
-RootsEnd nodes types lists roots r (ok xs m) = Holds nodes types lists roots r xs m
-RootsEnd nodes types lists roots r (err e m) = r.parser.status ≡ Failed e
+abbrev pub RootsEnd : List ℕ → RootsRead → Result (List ℕ) → Type 0
+RootsEnd roots r (ok xs m) = Holds roots r xs m
+RootsEnd roots r (err e m) = r.code.parser.error ≡ Failed e
 
 -- ---- after an error
 
 -- a failed reading, whatever is under construction, goes on at the same token with nothing under
 -- construction and no pending docs
 pub record Resumes (tokens : List ℕ) (s s' : Code) : Type 0 where
+  pub names : s'.names ≡ s.names
   pub same : ahead tokens s' ≡ ahead tokens s
   pub resumes : (e : Diagnostic) (R L : ℕ) (stack : List ℕ) (m : State) → FailedAt tokens s e R L stack m → Represents tokens s' R L [] (with_docs [] m)
 
@@ -109,8 +109,8 @@ unfoldable pub root_boundary : ℕ → Bool
 root_boundary k = or (eqb k k_let) (or (eqb k k_fn) (or (eqb k k_import) (or (eqb k k_extern) (or (eqb k k_match) (or (eqb k k_eof) (eqb k k_curly_right))))))
 
 -- the token being read is passed over
-unfoldable pub skips : Parser → Bool
-skips p = is_going p.status && not (root_boundary p.cur.kind)
+unfoldable pub skips : Reading → Bool
+skips p = is_going p.error && not (root_boundary p.cur.kind)
 
 -- `synchronize_root` where no docs are pending
 unfoldable pub synchronizing : Rule ℕ

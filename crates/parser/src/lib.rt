@@ -12,10 +12,12 @@ ghost use Rattle.tokens.specs.Table.{tokens_from};
 ghost use Rattle.tokens.specs.Tables.{error_table};
 ghost use Rattle.rules.specs.Tree.{State};
 ghost use Rattle.ast.specs.Layout.{node_width, type_width, diagnostic_width};
+ghost use Rattle.ast.specs.Answer.{refusal_number};
 ghost use Rattle.rules.specs.Rules.{stage_one};
 ghost use Rattle.rules.specs.Parse.{Gathered, begin, parse_roots, parse, recover as recover_rule, parse_roots_collect, parse_collect};
+ghost use Rattle.rules.specs.Parsed.{parsed_of};
 ghost use Rattle.rules.specs.Promise.{arrays_of, outcome};
-ghost use Rattle.parser_state.specs.Represents.{parser_of, code, Represents, FailedAt};
+ghost use Rattle.parser_state.specs.Represents.{reading, code_of, Represents, FailedAt};
 ghost use Rattle.parser_state.specs.Refines.{Refines, stack_unchanged, member_follows};
 ghost use Rattle.parser.specs.Whole.{refusal, not_read, behind, Begun, FirstToken, RootPushed, RootsEnd, drop_docs};
 ghost use Rattle.parser.specs.Collect.{collected, GatheredAre, Room, TurnEnds, collect_step, CollectEnds};
@@ -23,25 +25,21 @@ ghost use Rattle.parser.specs.Steps.{read_promised, parse_promised};
 
 use crate::recovery::{resume, synchronize_root};
 use ast::lent::CELLS_PER_BYTE;
-use ast::{Counts, DIAGNOSTIC_WIDTH, Node, NodeId, Parsed, TypeExpr};
+use ast::{Counts, DIAGNOSTIC_WIDTH, Node, NodeId, Parsed, ReadError, TypeExpr};
 use diagnostics::{push_diagnostic, push_faults};
 use lex::{Diagnostic, Refusal, Type};
-use parser_items::member;
-use parser_state::{
-    Parser, State, Used, at, error, get_used, going, member_follows, set_token, set_used,
-};
+use parser_items::{Source, member};
+use parser_state::{Parser, Used};
 use tokens::{ERROR_WIDTH, TOKEN_WIDTH, cut, is_cut, token_at};
 
 // ---- arrays
 
 // From a place on an array is cleared.
 fn clear_from(a: &mut [u32], from: usize)
-    ensures { a.new ≡ take from a.old ++ zeros (length a.old - from) }
+    ensures { a.new ≡ behind from a.old }
 {
-    let mut i = from;
-    while i < a.len() {
-        a[i] = 0;
-        i += 1;
+    if from < a.len() {
+        a[from..].fill(0);
     }
 }
 
@@ -79,128 +77,89 @@ fn clear_all(
         × (roots.new ≡ zeros (length roots.old))
         × (diagnostics.new ≡ zeros (length diagnostics.old)) }
 {
-    clear_from(nodes, 0);
-    clear_from(types, 0);
-    clear_from(lists, 0);
-    clear_from(roots, 0);
-    clear_from(diagnostics, 0);
+    nodes.fill(0);
+    types.fill(0);
+    lists.fill(0);
+    roots.fill(0);
+    diagnostics.fill(0);
 }
 
-// 1 for a script of `n` bytes that is too long, then 2 where an array or a table has fewer cells
-// than these ask for, and 0 where the script is read.
+// Refused where the script is too long, then where an array or a table has fewer cells than its
+// bytes ask for.
+#[tactic(auto, unfolding(crate::specs::Whole::refusal, lex::specs::Bytes::or))]
 fn refusal(
-    n: usize,
-    nodes: usize,
-    types: usize,
-    lists: usize,
-    roots: usize,
-    diagnostics: usize,
-    tokens: usize,
-    errors: usize,
-) -> u32
-    ensures { result ≡ refusal n nodes types lists roots diagnostics tokens errors }
+    script: &[u8],
+    tokens: &[u32],
+    errors: &[u32],
+    nodes: &[u32],
+    types: &[u32],
+    lists: &[u32],
+    roots: &[u32],
+    diagnostics: &[u32],
+) -> Result<(), Refusal>
+    ensures { refusal_number result
+        ≡ refusal (length script.now) (length nodes.now) (length types.now) (length lists.now)
+        (length roots.now) (length diagnostics.now) (length tokens.now) (length errors.now) }
 {
+    let n = script.len();
     if Parser::MAX_BYTES < n {
-        return Refusal::TOO_LONG;
+        return Err(Refusal::TooLong);
     }
-    if nodes < Node::WIDTH * n {
-        return Refusal::TOO_SHORT;
+    if nodes.len() < Node::WIDTH * n
+        || types.len() < TypeExpr::WIDTH * n
+        || lists.len() < CELLS_PER_BYTE * n
+        || roots.len() < n
+        || diagnostics.len() < DIAGNOSTIC_WIDTH * n
+        || tokens.len() < TOKEN_WIDTH * n + TOKEN_WIDTH
+        || errors.len() < ERROR_WIDTH * n
+    {
+        return Err(Refusal::TooShort);
     }
-    if types < TypeExpr::WIDTH * n {
-        return Refusal::TOO_SHORT;
-    }
-    if lists < CELLS_PER_BYTE * n {
-        return Refusal::TOO_SHORT;
-    }
-    if roots < n {
-        return Refusal::TOO_SHORT;
-    }
-    if diagnostics < DIAGNOSTIC_WIDTH * n {
-        return Refusal::TOO_SHORT;
-    }
-    if tokens < TOKEN_WIDTH * n + TOKEN_WIDTH {
-        return Refusal::TOO_SHORT;
-    }
-    if errors < ERROR_WIDTH * n {
-        return Refusal::TOO_SHORT;
-    }
-    0
+    Ok(())
 }
 
 // ---- roots
 
 // A root's number goes behind those that are there, where the reading has not failed.
-fn push_root(roots: &mut [u32], p: &State, n: u32, id: NodeId) -> u32
-    ensures { RootPushed (parser_of p.now) roots.old n id.0 roots.new
-        result }
+fn push_root(roots: &mut [u32], p: &Parser, n: u32, id: NodeId) -> u32
+    ensures { RootPushed (reading p.now) roots.old n id.0 roots.new result }
 {
-    if !going(p) {
-        return n;
-    }
     let at = n as usize;
-    if roots.len() <= at {
-        return n;
+    if p.going() && at < roots.len() && at < Parser::MAX_BYTES {
+        roots[at] = id.0;
+        return n + 1;
     }
-    if Parser::MAX_BYTES <= at {
-        return n;
-    }
-    roots[at] = id.0;
-    n + 1
+    n
 }
 
 // Pending docs are dropped.
-fn drop_docs(p: &mut State)
-    ensures { ((tokens nodes types lists : List ℕ) →
-        let before = code nodes types lists (parser_of p.old) in
-        let after = code nodes types lists (parser_of p.new) in
-        Refines tokens 0 0 drop_docs (λ n. n ≡ 0) stack_unchanged 0 0 0 before after)
-        × ((parser_of p.new).cur ≡ (parser_of p.old).cur)
-        × ((parser_of p.new).at ≡ (parser_of p.old).at) }
+fn drop_docs(p: &mut Parser)
+    ensures { ((tokens : List ℕ) →
+        Refines tokens 0 0 drop_docs (λ n. n ≡ 0) stack_unchanged 0 0 0 (code_of p.old)
+        (code_of p.new))
+        × (p.new.cur ≡ p.old.cur)
+        × (p.new.at ≡ p.old.at) }
 {
-    if !going(p) {
-        return;
+    if p.going() {
+        p.used.docs = 0;
     }
-    let u = get_used(p);
-    set_used(
-        p,
-        Used {
-            nodes: u.nodes,
-            values: u.values,
-            types: u.types,
-            docs: 0,
-            cells: u.cells,
-            scratch: u.scratch,
-        },
-    );
-}
-
-// A parser at the first token of the table.
-fn first(tokens: &[u32], p: &mut State)
-    ensures { FirstToken tokens.now (parser_of p.new) }
-{
-    *p = [0; Parser::CELLS];
-    set_token(p, token_at(tokens, 0), 0);
 }
 
 // program = prefix*
-fn parse_roots(
-    script: &[u8],
-    tokens: &[u32],
-    nodes: &mut [u32],
-    types: &mut [u32],
-    lists: &mut [u32],
-    roots: &mut [u32],
-    p: &mut State,
-) -> u32
-    requires { Begun script.now tokens.now nodes.old types.old lists.old roots.old }
-    ensures { RootsEnd nodes.new types.new lists.new roots.new
-        (record { parser = parser_of p.new; members = result })
-        (parse_roots stage_one script.now (begin script.now)) }
+fn parse_roots(p: &mut Parser, source: &Source, roots: &mut [u32]) -> u32
+    requires { let before = code_of p.old in
+        Begun source.now.script.now source.now.tokens.now before.nodes before.types before.lists
+        roots.old
+        × FirstToken source.now.tokens.now before.parser }
+    ensures { let script = source.now.script.now in
+        let after = code_of p.new in
+        RootsEnd roots.new (record { code = after; members = result })
+        (parse_roots stage_one script (begin script))
+        × (after.names ≡ (code_of p.old).names) }
 {
-    first(tokens, p);
     let mut members: u32 = 0;
-    while member_follows(p, Type::EOF) {
-        let n = member(script, tokens, nodes, types, lists, p, Parser::MAX_LEVELS);
+    while p.member_follows(Type::EOF) {
+        let n = member(p, source, Parser::MAX_LEVELS);
         members = push_root(roots, p, members, n);
     }
     drop_docs(p);
@@ -220,35 +179,32 @@ pub struct Gathering {
 // An error is gathered, behind the faults that were met before it, and the reading goes on at the
 // next token that may begin a root; 10 ends it.
 fn recover(
+    p: &mut Parser,
     tokens: &[u32],
     errors: &[u32],
     diagnostics: &mut [u32],
-    p: &mut State,
     c: Gathering,
 ) -> Gathering
-    ensures { (script nodes types lists roots : List ℕ) (g : Gathered) (e : Diagnostic)
-        (m : State) →
-        let before = code nodes types lists (parser_of p.old) in
+    ensures turn { (script roots : List ℕ) (g : Gathered) (e : Diagnostic) (m : State) →
+        let before = code_of p.old in
         Room script roots diagnostics.old g
         → tokens_from tokens.now 0 ≡ tokens_of (cut script)
         → FailedAt tokens.now before e 0 0 [] m
-        → GatheredAre script tokens.now errors.now nodes types lists roots
-        diagnostics.old (collected (parser_of p.old) c) g
-        → TurnEnds script tokens.now errors.now nodes types lists roots
-        diagnostics.new (collected (parser_of p.new) result)
-        (recover_rule stage_one script g e m) }
+        → GatheredAre script tokens.now errors.now roots diagnostics.old (collected before c) g
+        → TurnEnds script tokens.now errors.now roots diagnostics.new
+        (collected (code_of p.new) result) (recover_rule stage_one script g e m) }
+    ensures same { (code_of p.new).names ≡ (code_of p.old).names }
 {
-    if going(p) {
+    let Some(error) = p.error else {
+        return c;
+    };
+    if error.number == Diagnostic::TOO_DEEP {
         return c;
     }
-    let d = error(p);
-    if d.number == Diagnostic::TOO_DEEP {
-        return c;
-    }
-    let faults = push_faults(errors, diagnostics, c.diagnostics, c.listed, at(p));
-    let n = push_diagnostic(diagnostics, faults.diagnostics, d);
+    let faults = push_faults(errors, diagnostics, c.diagnostics, c.listed, p.at);
+    let n = push_diagnostic(diagnostics, faults.diagnostics, error);
     resume(p);
-    synchronize_root(tokens, p);
+    synchronize_root(p, tokens);
     Gathering {
         members: c.members,
         diagnostics: n,
@@ -258,34 +214,28 @@ fn recover(
 
 // One more root, or one more error.
 fn collect_root(
-    script: &[u8],
-    tokens: &[u32],
+    p: &mut Parser,
+    source: &Source,
     errors: &[u32],
-    nodes: &mut [u32],
-    types: &mut [u32],
-    lists: &mut [u32],
     roots: &mut [u32],
     diagnostics: &mut [u32],
-    p: &mut State,
     c: Gathering,
 ) -> Gathering
-    requires { member_follows (parser_of p.old) k_eof ≡ true }
-    ensures { (g : Gathered) (m : State) →
-        let before = code nodes.old types.old lists.old
-        (parser_of p.old) in
-        Room script.now roots.old diagnostics.old g
-        → tokens_from tokens.now 0 ≡ tokens_of (cut script.now)
-        → Represents tokens.now before 0 0 [] m
-        → GatheredAre script.now tokens.now errors.now
-        nodes.old types.old lists.old roots.old
-        diagnostics.old (collected (parser_of p.old) c) g
-        → TurnEnds script.now tokens.now errors.now
-        nodes.new types.new lists.new roots.new
-        diagnostics.new (collected (parser_of p.new) result)
-        (collect_step script.now g m) }
+    requires { member_follows (reading p.old) k_eof ≡ true }
+    ensures turn { (g : Gathered) (m : State) →
+        let before = code_of p.old in
+        let script = source.now.script.now in
+        let tokens = source.now.tokens.now in
+        Room script roots.old diagnostics.old g
+        → tokens_from tokens 0 ≡ tokens_of (cut script)
+        → Represents tokens before 0 0 [] m
+        → GatheredAre script tokens errors.now roots.old diagnostics.old (collected before c) g
+        → TurnEnds script tokens errors.now roots.new diagnostics.new
+        (collected (code_of p.new) result) (collect_step script g m) }
+    ensures same { (code_of p.new).names ≡ (code_of p.old).names }
 {
-    let n = member(script, tokens, nodes, types, lists, p, Parser::MAX_LEVELS);
-    if going(p) {
+    let n = member(p, source, Parser::MAX_LEVELS);
+    if p.going() {
         let members = push_root(roots, p, c.members, n);
         return Gathering {
             members,
@@ -293,53 +243,41 @@ fn collect_root(
             listed: c.listed,
         };
     }
-    recover(tokens, errors, diagnostics, p, c)
+    recover(p, source.tokens, errors, diagnostics, c)
 }
 
 // program = prefix*, errors gathered.
 fn parse_roots_collect(
-    script: &[u8],
-    tokens: &[u32],
+    p: &mut Parser,
+    source: &Source,
     errors: &[u32],
-    nodes: &mut [u32],
-    types: &mut [u32],
-    lists: &mut [u32],
     roots: &mut [u32],
     diagnostics: &mut [u32],
-    p: &mut State,
 ) -> Gathering
-    requires { Begun script.now tokens.now nodes.old types.old lists.old roots.old
-        × (errors.now ≡ padded (length errors.now) (error_table script.now))
-        × (diagnostic_width * length script.now ≤ length diagnostics.old) }
-    ensures { CollectEnds script.now nodes.new types.new
-        lists.new roots.new diagnostics.new
-        (collected (parser_of p.new) result)
-        (parse_roots_collect stage_one script.now (begin script.now)) }
+    requires { let before = code_of p.old in
+        let script = source.now.script.now in
+        Begun script source.now.tokens.now before.nodes before.types before.lists roots.old
+        × FirstToken source.now.tokens.now before.parser
+        × (errors.now ≡ padded (length errors.now) (error_table script))
+        × (diagnostic_width * length script ≤ length diagnostics.old) }
+    ensures { let script = source.now.script.now in
+        let after = code_of p.new in
+        CollectEnds script roots.new diagnostics.new (collected after result)
+        (parse_roots_collect stage_one script (begin script))
+        × (after.names ≡ (code_of p.old).names) }
 {
-    first(tokens, p);
     let mut c = Gathering {
         members: 0,
         diagnostics: 0,
         listed: 0,
     };
-    while member_follows(p, Type::EOF) {
-        c = collect_root(
-            script,
-            tokens,
-            errors,
-            nodes,
-            types,
-            lists,
-            roots,
-            diagnostics,
-            p,
-            c,
-        );
+    while p.member_follows(Type::EOF) {
+        c = collect_root(p, source, errors, roots, diagnostics, c);
     }
-    if !going(p) {
+    if !p.going() {
         return c;
     }
-    let faults = push_faults(errors, diagnostics, c.diagnostics, c.listed, at(p));
+    let faults = push_faults(errors, diagnostics, c.diagnostics, c.listed, p.at);
     drop_docs(p);
     Gathering {
         members: c.members,
@@ -366,18 +304,33 @@ fn read_cut(
         let after = arrays_of nodes.new types.new lists.new
         roots.new diagnostics.new in
         outcome (parse stage_one script.now) before
-        ≡ record { answer = result; arrays = after } }
+        ≡ record { answer = parsed_of result; arrays = after } }
 {
-    let mut p = [0; Parser::CELLS];
-    let members = parse_roots(script, tokens, nodes, types, lists, roots, &mut p);
-    if !going(&p) {
+    let mut p = Parser {
+        nodes,
+        types,
+        lists,
+        cur: token_at(tokens, 0),
+        at: 0,
+        used: Used {
+            nodes: 0,
+            values: 0,
+            types: 0,
+            docs: 0,
+            cells: 0,
+            scratch: 0,
+        },
+        error: None,
+    };
+    let members = parse_roots(&mut p, &Source { script, tokens }, roots);
+    let u = p.used;
+    if let Some(error) = p.error {
         clear_all(nodes, types, lists, roots, diagnostics);
-        return Parsed::Error(error(&p));
+        return Err(ReadError::Script(error));
     }
-    let u = get_used(&p);
-    clear_behind(nodes, types, lists, roots, get_used(&p), members);
+    clear_behind(nodes, types, lists, roots, u, members);
     clear_from(diagnostics, 0);
-    Parsed::Tree(Counts {
+    Ok(Counts {
         nodes: u.nodes,
         types: u.types,
         cells: u.cells,
@@ -407,28 +360,34 @@ fn read_cut_collect(
         let after = arrays_of nodes.new types.new lists.new
         roots.new diagnostics.new in
         outcome (parse_collect stage_one script.now) before
-        ≡ record { answer = result; arrays = after } }
+        ≡ record { answer = parsed_of result; arrays = after } }
 {
-    let mut p = [0; Parser::CELLS];
-    let c = parse_roots_collect(
-        script,
-        tokens,
-        errors,
+    let mut p = Parser {
         nodes,
         types,
         lists,
-        roots,
-        diagnostics,
-        &mut p,
-    );
-    if !going(&p) {
+        cur: token_at(tokens, 0),
+        at: 0,
+        used: Used {
+            nodes: 0,
+            values: 0,
+            types: 0,
+            docs: 0,
+            cells: 0,
+            scratch: 0,
+        },
+        error: None,
+    };
+    let source = Source { script, tokens };
+    let c = parse_roots_collect(&mut p, &source, errors, roots, diagnostics);
+    let u = p.used;
+    if let Some(error) = p.error {
         clear_all(nodes, types, lists, roots, diagnostics);
-        return Parsed::Error(error(&p));
+        return Err(ReadError::Script(error));
     }
-    let u = get_used(&p);
-    clear_behind(nodes, types, lists, roots, get_used(&p), c.members);
+    clear_behind(nodes, types, lists, roots, u, c.members);
     clear_from(diagnostics, DIAGNOSTIC_WIDTH * c.diagnostics as usize);
-    Parsed::Tree(Counts {
+    Ok(Counts {
         nodes: u.nodes,
         types: u.types,
         cells: u.cells,
@@ -440,38 +399,35 @@ fn read_cut_collect(
 
 // ---- the calls
 
-// 1, 2 and 43, in this order; 0 where the tables are those of the script and all is long enough.
+// Refused by 1, 2 and 43, in this order, unless the tables are the script's and all is long enough.
 fn not_read(
     script: &[u8],
     tokens: &[u32],
     errors: &[u32],
-    nodes: usize,
-    types: usize,
-    lists: usize,
-    roots: usize,
-    diagnostics: usize,
-) -> u32
-    ensures { result
-        ≡ not_read script.now tokens.now errors.now nodes types lists
-        roots diagnostics }
+    nodes: &[u32],
+    types: &[u32],
+    lists: &[u32],
+    roots: &[u32],
+    diagnostics: &[u32],
+) -> Result<(), Refusal>
+    ensures { refusal_number result
+        ≡ not_read script.now tokens.now errors.now (length nodes.now) (length types.now)
+        (length lists.now) (length roots.now) (length diagnostics.now) }
 {
-    let refused = refusal(
-        script.len(),
+    refusal(
+        script,
+        tokens,
+        errors,
         nodes,
         types,
         lists,
         roots,
         diagnostics,
-        tokens.len(),
-        errors.len(),
-    );
-    if refused != 0 {
-        return refused;
-    }
+    )?;
     if is_cut(script, tokens, errors) {
-        0
+        Ok(())
     } else {
-        Refusal::NOT_CUT
+        Err(Refusal::NotCut)
     }
 }
 
@@ -492,20 +448,19 @@ pub fn read(
         roots.new diagnostics.new in
         read_promised (parse stage_one) script.now tokens.now
         errors.now before
-        ≡ record { answer = result; arrays = after } }
+        ≡ record { answer = parsed_of result; arrays = after } }
 {
-    let refused = not_read(
+    if let Err(refused) = not_read(
         script,
         tokens,
         errors,
-        nodes.len(),
-        types.len(),
-        lists.len(),
-        roots.len(),
-        diagnostics.len(),
-    );
-    if refused != 0 {
-        return Parsed::Refused(refused);
+        nodes,
+        types,
+        lists,
+        roots,
+        diagnostics,
+    ) {
+        return Err(ReadError::Refused(refused));
     }
     read_cut(script, tokens, nodes, types, lists, roots, diagnostics)
 }
@@ -527,20 +482,19 @@ pub fn read_collect(
         roots.new diagnostics.new in
         read_promised (parse_collect stage_one) script.now tokens.now
         errors.now before
-        ≡ record { answer = result; arrays = after } }
+        ≡ record { answer = parsed_of result; arrays = after } }
 {
-    let refused = not_read(
+    if let Err(refused) = not_read(
         script,
         tokens,
         errors,
-        nodes.len(),
-        types.len(),
-        lists.len(),
-        roots.len(),
-        diagnostics.len(),
-    );
-    if refused != 0 {
-        return Parsed::Refused(refused);
+        nodes,
+        types,
+        lists,
+        roots,
+        diagnostics,
+    ) {
+        return Err(ReadError::Refused(refused));
     }
     read_cut_collect(
         script,
@@ -572,24 +526,23 @@ pub fn parse(
         parse_promised (parse stage_one) script.now tokens.old
         errors.old before
         ≡ record {
-          answer = result;
+          answer = parsed_of result;
           arrays = after;
           tokens = tokens.new;
           errors = errors.new;
         } }
 {
-    let refused = refusal(
-        script.len(),
-        nodes.len(),
-        types.len(),
-        lists.len(),
-        roots.len(),
-        diagnostics.len(),
-        tokens.len(),
-        errors.len(),
-    );
-    if refused != 0 {
-        return Parsed::Refused(refused);
+    if let Err(refused) = refusal(
+        script,
+        tokens,
+        errors,
+        nodes,
+        types,
+        lists,
+        roots,
+        diagnostics,
+    ) {
+        return Err(ReadError::Refused(refused));
     }
     let _ = cut(script, tokens, errors);
     read_cut(script, tokens, nodes, types, lists, roots, diagnostics)
@@ -613,24 +566,23 @@ pub fn parse_collect(
         parse_promised (parse_collect stage_one) script.now tokens.old
         errors.old before
         ≡ record {
-          answer = result;
+          answer = parsed_of result;
           arrays = after;
           tokens = tokens.new;
           errors = errors.new;
         } }
 {
-    let refused = refusal(
-        script.len(),
-        nodes.len(),
-        types.len(),
-        lists.len(),
-        roots.len(),
-        diagnostics.len(),
-        tokens.len(),
-        errors.len(),
-    );
-    if refused != 0 {
-        return Parsed::Refused(refused);
+    if let Err(refused) = refusal(
+        script,
+        tokens,
+        errors,
+        nodes,
+        types,
+        lists,
+        roots,
+        diagnostics,
+    ) {
+        return Err(ReadError::Refused(refused));
     }
     let _ = cut(script, tokens, errors);
     read_cut_collect(

@@ -1,44 +1,20 @@
 // How collecting mode goes on after an error.
 ghost use Rattle.std.specs.Prelude.{◌≡◌, List, ℕ};
-ghost use Rattle.parser_state.specs.Represents.{parser_of, code};
+ghost use Rattle.parser_state.specs.Represents.{reading, code_of};
 ghost use Rattle.parser_state.specs.Refines.{Refines, stack_unchanged};
 ghost use Rattle.parser.specs.Whole.{Resumes, root_boundary, skips, synchronizing};
 
 use crate::drop_docs;
-use lex::{Diagnostic, Type};
-use parser_state::{State, Used, advance, get_used, going, kind, set_status, set_used};
+use lex::Type;
+use parser_state::Parser;
 
 // What was under construction when a reading failed is given up, its docs are dropped, and the
 // reading goes on.
-pub(crate) fn resume(p: &mut State)
-    ensures { (tokens nodes types lists : List ℕ) →
-        let before = code nodes types lists (parser_of p.old) in
-        let after = code nodes types lists (parser_of p.new) in
-        Resumes tokens before after }
+pub(crate) fn resume(p: &mut Parser)
+    ensures { (tokens : List ℕ) → Resumes tokens (code_of p.old) (code_of p.new) }
 {
-    let u = get_used(p);
-    set_used(
-        p,
-        Used {
-            nodes: u.nodes,
-            values: u.values,
-            types: u.types,
-            docs: u.docs,
-            cells: u.cells,
-            scratch: 0,
-        },
-    );
-    set_status(
-        p,
-        0,
-        Diagnostic {
-            number: 0,
-            start: 0,
-            len: 0,
-            wanted: 0,
-            seen: 0,
-        },
-    );
+    p.used.scratch = 0;
+    p.error = None;
     drop_docs(p);
 }
 
@@ -46,39 +22,33 @@ pub(crate) fn resume(p: &mut State)
 fn is_root_boundary(kind: u32) -> bool
     ensures { result ≡ root_boundary kind }
 {
-    match kind {
+    matches!(
+        kind,
         Type::LET
-        | Type::FN
-        | Type::IMPORT
-        | Type::EXTERN
-        | Type::MATCH
-        | Type::CURLY_RIGHT
-        | Type::EOF => true,
-        _ => false,
-    }
+            | Type::FN
+            | Type::IMPORT
+            | Type::EXTERN
+            | Type::MATCH
+            | Type::CURLY_RIGHT
+            | Type::EOF
+    )
 }
 
-fn skips(p: &State) -> bool
-    ensures { result ≡ skips (parser_of p.now) }
+fn skips(p: &Parser) -> bool
+    ensures { result ≡ skips (reading p.now) }
 {
-    if !going(p) {
-        return false;
-    }
-    !is_root_boundary(kind(p))
+    p.going() && !is_root_boundary(p.kind())
 }
 
 // To the next token that may begin a root, past it where it is `}`.
-pub(crate) fn synchronize_root(tokens: &[u32], p: &mut State)
-    ensures { (nodes types lists : List ℕ) →
-        let before = code nodes types lists (parser_of p.old) in
-        let after = code nodes types lists (parser_of p.new) in
-        Refines tokens.now 0 0 synchronizing (λ n. n ≡ 0) stack_unchanged 0 0 0
-        before after }
+pub(crate) fn synchronize_root(p: &mut Parser, tokens: &[u32])
+    ensures { Refines tokens.now 0 0 synchronizing (λ n. n ≡ 0) stack_unchanged 0 0 0
+        (code_of p.old) (code_of p.new) }
 {
     while skips(p) {
-        advance(tokens, p);
+        p.advance(tokens);
     }
-    if kind(p) == Type::CURLY_RIGHT {
-        advance(tokens, p);
+    if p.kind() == Type::CURLY_RIGHT {
+        p.advance(tokens);
     }
 }

@@ -1,5 +1,6 @@
 -- Which rule reads an item or an expression, by the levels that are left and what the code has found out.
 use Rattle.std.proofs.Common.{◌≡◌, ℕ, zero, suc, ◌-◌, ◌<◌, true, List, get_or, sym, refl, ap, ◌∙◌, subst, arith, ne_eqb}
+use Rattle.std.specs.Prelude.{Some, None}
 use mathlib.Core.Option.{some}
 use Rattle.lex.specs.Kind.{k_doc, k_import, k_extern, k_let, k_fn, k_match}
 use Rattle.rules.specs.Tree.{State, ok}
@@ -11,7 +12,7 @@ use Rattle.parser_state.specs.Refines.{stack_unchanged, Refines, Refuses, Rules,
 use Rattle.parser_state.proofs.Steps.{either, at-kind, refused, then, enough, current_represents, if_kind-no}
 use Rattle.parser_state.proofs.Docs.{docs-none, require_then}
 use Rattle.parser_state.proofs.Rounds.{Again, weight, if_kind_is_no, round_out, round_start}
-use Rattle.parser_operators.specs.Tests.{begins_expr, operand_class, operand_of, operator_number, left_powers}
+use Rattle.parser_operators.specs.Tests.{begins_expr, operand_class, operand_of, operator_number, operator_of, left_powers}
 use Rattle.parser_operators.proofs.Tables.{begins-expr, entry_past, entry_other, operand_class_lem, power-some}
 
 -- ---- levels
@@ -59,7 +60,7 @@ prefix-expr {tokens} {Q} {s} {s'} d e p =
     (entry_past _ _ _ (plain.1 k_let (omega arith) (omega arith))
     (entry_past _ _ _ (plain.1 k_fn (omega arith) (omega arith))
     (entry_past _ _ _ (plain.1 k_extern (omega arith) (omega arith))
-    (entry_other _ _ (require_then _ (enough (then (docs-none tokens _ _ _ s.parser plain.0) (if_kind-no _ _ p (plain.1 k_match (omega arith) (omega arith)))) tt)))))))
+    (entry_other _ _ (require_then _ (enough (then (docs-none tokens s plain.0) (if_kind-no _ _ p (plain.1 k_match (omega arith) (omega arith)))) tt)))))))
     refl in
     enough (then (no-doc (plain.1 k_doc (omega arith) (omega arith))) item) tt
 
@@ -78,14 +79,14 @@ operand-kind (suc zero) e h = absurd (h e)
 operand-kind (suc (suc k)) e h = omega arith
 
 -- an infix sign is no Eof
-pub infix_kind : (k : ℕ) {n : ℕ} → n ≡ operator_number k → n < 9 → 1 < k
+pub infix_kind : (k : ℕ) {n : ℕ} → Some n ≡ operator_of k → 1 < k
 unfolding operator_number choose
-infix_kind zero e h = absurd (omega arith)
-infix_kind (suc zero) e h = absurd (omega arith)
-infix_kind (suc (suc k)) e h = omega arith
+infix_kind zero {n} e = let f : Some n ≡ None = e in absurd (cc)
+infix_kind (suc zero) {n} e = let f : Some n ≡ None = e in absurd (cc)
+infix_kind (suc (suc k)) e = omega arith
 
-pub left_is : (k : ℕ) {n left : ℕ} → n ≡ operator_number k → n < 9 → left ≡ get_or left_powers n 0 → stage_one k ≡ some left
-left_is k {n} e h w = power-some k n e h ∙ ap some (sym w)
+pub left_is : (k : ℕ) {n left : ℕ} → Some n ≡ operator_of k → left ≡ get_or left_powers n 0 → stage_one k ≡ some left
+left_is k e w = (power-some k e).1 ∙ ap some (sym w)
 
 -- ---- loops
 

@@ -4,10 +4,10 @@ use mathlib.Core.Bool.{Bool, true, false}
 use mathlib.Core.List.{List, [], ◌∷◌, ◌++◌, map, flatten, append_assoc}
 use Prim.Native.Nat.{ℕ, zero, suc, ◌+◌, ◌*◌, ◌≤◌, ◌<◌}
 use native.Mathlib.Omega.{arith}
-use lib.Dec.{eqb, ltb}
+use lib.Dec.{ltb}
 use lib.ListN.{length, get_or}
 use lib.Seq.{get_or-append-add}
-use borrow.Author.Tests.{eq-eqb, ne_eqb, lt-ltb, le-ltb, ltb-true, ltb-false}
+use borrow.Author.Tests.{ltb-true, ltb-false}
 use Rattle.rules.specs.Tree.{State}
 use Rattle.ast.specs.Layout.{token_cells, run_cells, node_width, node_cells}
 use Rattle.rules.specs.Rules.{is_callable_target}
@@ -24,23 +24,6 @@ yes {A} b x y e = ap (λ (t : Bool). elim t as (λ _. A) [ true ↦ x | false �
 
 no : {A : Type 0} (b : Bool) (x y : A) → b ≡ false → elim b as (λ _. A) [ true ↦ x | false ↦ y ] ≡ y
 no {A} b x y e = ap (λ (t : Bool). elim t as (λ _. A) [ true ↦ x | false ↦ y ]) e
-
-past : (xs : List ℕ) (i : ℕ) → length xs ≤ i → get_or xs i 0 ≡ 0
-past [] i h = refl
-past (x ∷ xs) zero h = absurd (omega arith)
-past (x ∷ xs) (suc i) h = past xs i (omega arith)
-
-pub call_two : (nodes : List ℕ) (made : ℕ) (n : NodeId) → n.0 < made → get_or nodes (node_width * n.0) 0 ≡ 2 → true ≡ call_at nodes made n
-call_two nodes made n h e = sym (yes _ _ _ (lt-ltb _ _ h) ∙ yes _ _ _ (eq-eqb (get_or nodes (node_width * n.0) 0) 2 e))
-
-pub call_nine : (nodes : List ℕ) (made : ℕ) (n : NodeId) → n.0 < made → (get_or nodes (node_width * n.0) 0 ≡ 2 → ⊥) → eqb (get_or nodes (node_width * n.0) 0) 9 ≡ call_at nodes made n
-call_nine nodes made n h e = sym (yes _ _ _ (lt-ltb _ _ h) ∙ no _ _ _ (ne_eqb (get_or nodes (node_width * n.0) 0) 2 e))
-
-pub call_past : (nodes : List ℕ) (made : ℕ) (n : NodeId) → n.0 < made → length nodes ≤ node_width * n.0 → false ≡ call_at nodes made n
-call_past nodes made n l h = sym (yes _ _ _ (lt-ltb _ _ l) ∙ ap callable_kind (past nodes (node_width * n.0) h))
-
-pub call_unmade : (nodes : List ℕ) (made : ℕ) (n : NodeId) → made ≤ n.0 → false ≡ call_at nodes made n
-call_unmade nodes made n h = sym (no _ _ _ (le-ltb _ _ h))
 
 -- ---- the tag is that of the model's node
 

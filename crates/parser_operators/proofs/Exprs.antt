@@ -13,9 +13,8 @@ use Rattle.rules.specs.Tree.{State, ok}
 use Rattle.rules.specs.Combinators.{Rule, Readers, ◌>>=◌, pure, cur, current, ControlFlow, break}
 use Rattle.rules.specs.Rules.{stage_one, breaks_off, callable, call, call_step, postfix_step, binary, sign_step, infix_step}
 use Rattle.ast.specs.declared.NodeId.{NodeId}
-use Rattle.parser_state.specs.Represents.{Code, is_going, Represents}
+use Rattle.parser_state.specs.Represents.{Reading, Code, is_going, Represents}
 use Rattle.parser_state.specs.Refines.{Ends, stack_unchanged, Refines}
-use Rattle.parser_state.specs.declared.Parser.{Parser}
 use Rattle.parser_state.proofs.Steps.{either, true≢false, current_represents, represents_going, seq, looks, if_kind-yes, if_kind-no}
 use Rattle.parser_state.proofs.Rounds.{if_kind_is_yes, if_kind_is_no}
 use Rattle.parser_operators.specs.Tests.{call_at, postfix_follows, postfix_by, infix_follows, infix_by, sign_follows}
@@ -41,15 +40,15 @@ postfix_not true brace calls p = absurd (true≢false refl p)
 postfix_not false false calls p = (refl, λ e. absurd (true≢false e refl))
 postfix_not false true calls p = (refl, λ e. p)
 
-module _ (nodes : List ℕ) (p : Parser) (x : NodeId) where
-  pub postfix_goes : postfix_follows nodes p x ≡ true → is_going p.status ≡ true
-  postfix_goes e = postfix-going (is_going p.status) (eqb p.cur.kind k_dot) (eqb p.cur.kind k_brace_left) (call_at nodes p.used.nodes x) e
+module _ (nodes : List ℕ) (p : Reading) (x : NodeId) where
+  pub postfix_goes : postfix_follows nodes p x ≡ true → is_going p.error ≡ true
+  postfix_goes e = postfix-going (is_going p.error) (eqb p.cur.kind k_dot) (eqb p.cur.kind k_brace_left) (call_at nodes p.used.nodes x) e
 
   pub postfix_brace : postfix_follows nodes p x ≡ true → (p.cur.kind ≡ k_dot → ⊥) → p.cur.kind ≡ k_brace_left
-  postfix_brace e f = eqb-true _ _ (postfix_when (is_going p.status) (eqb p.cur.kind k_dot) (eqb p.cur.kind k_brace_left) (call_at nodes p.used.nodes x) e (borrow.Author.Tests.ne_eqb _ _ f)).1
+  postfix_brace e f = eqb-true _ _ (postfix_when (is_going p.error) (eqb p.cur.kind k_dot) (eqb p.cur.kind k_brace_left) (call_at nodes p.used.nodes x) e (borrow.Author.Tests.ne_eqb _ _ f)).1
 
   postfix_calls : postfix_follows nodes p x ≡ true → (p.cur.kind ≡ k_dot → ⊥) → call_at nodes p.used.nodes x ≡ true
-  postfix_calls e f = (postfix_when (is_going p.status) (eqb p.cur.kind k_dot) (eqb p.cur.kind k_brace_left) (call_at nodes p.used.nodes x) e (borrow.Author.Tests.ne_eqb _ _ f)).2
+  postfix_calls e f = (postfix_when (is_going p.error) (eqb p.cur.kind k_dot) (eqb p.cur.kind k_brace_left) (call_at nodes p.used.nodes x) e (borrow.Author.Tests.ne_eqb _ _ f)).2
 
 module _ (d : Readers) {tokens : List ℕ} {Q : ControlFlow NodeId → Type 0} {r l k r' l' : ℕ} {s s' : Code} (x : NodeId) where
   callable_then : call_at s.nodes s.parser.used.nodes x ≡ true → Refines tokens r l (call d x) Q stack_unchanged k r' l' s s' → Refines tokens r l (callable x >>= call_step d x) Q stack_unchanged k r' l' s s'
@@ -57,6 +56,7 @@ module _ (d : Readers) {tokens : List ℕ} {Q : ControlFlow NodeId → Type 0} {
   callable_then e p = record {
     sticky = p.sticky;
     monotone = p.monotone;
+    same = p.same;
     progress = p.progress;
     simulates = λ R L stack m h. subst (λ (b : Bool). Ends tokens Q stack_unchanged s' R L r' l' stack (call_step d x b m)) (sym (sym (call-at x h) ∙ e)) (p.simulates R L stack m h);
   }
@@ -115,12 +115,12 @@ unfolding infix_by
 infix_not true sign p = absurd (true≢false refl p)
 infix_not false sign p = (refl, p)
 
-module _ (script : List ℕ) (p : Parser) (least : ℕ) where
-  pub infix_on : infix_follows script p least ≡ true → is_going p.status ≡ true
-  infix_on e = infix_going (is_going p.status) (eqb p.cur.kind k_as) (sign_follows (breaks_off script (token_of p.cur)) least (stage_one p.cur.kind)) e
+module _ (script : List ℕ) (p : Reading) (least : ℕ) where
+  pub infix_on : infix_follows script p least ≡ true → is_going p.error ≡ true
+  infix_on e = infix_going (is_going p.error) (eqb p.cur.kind k_as) (sign_follows (breaks_off script (token_of p.cur)) least (stage_one p.cur.kind)) e
 
   sign_follows_lem : infix_follows script p least ≡ true → (p.cur.kind ≡ k_as → ⊥) → sign_follows (breaks_off script (token_of p.cur)) least (stage_one p.cur.kind) ≡ true
-  sign_follows_lem e f = sign_of (is_going p.status) (eqb p.cur.kind k_as) (sign_follows (breaks_off script (token_of p.cur)) least (stage_one p.cur.kind)) e (borrow.Author.Tests.ne_eqb _ _ f)
+  sign_follows_lem e f = sign_of (is_going p.error) (eqb p.cur.kind k_as) (sign_follows (breaks_off script (token_of p.cur)) least (stage_one p.cur.kind)) e (borrow.Author.Tests.ne_eqb _ _ f)
 
   -- a sign that goes on has a power
   pub no_sign : infix_follows script p least ≡ true → (p.cur.kind ≡ k_as → ⊥) → stage_one p.cur.kind ≡ none → ⊥

@@ -1,13 +1,14 @@
 -- The laws of a match.
+use Rattle.std.specs.Prelude.{Option as Answer, Some}
 use mathlib.Core.Path.{◌≡◌, refl, sym, ap, subst, ◌∙◌}
-use mathlib.Core.Bool.{Bool, true, false}
+use mathlib.Core.Bool.{true, false}
 use mathlib.Core.Option.{Option, none, some}
 use mathlib.Core.List.{List, [], ◌∷◌, ◌++◌, flatten, append_assoc, append-nil}
 use Prim.Native.Nat.{ℕ, ◌+◌, ◌≤◌, ◌%◌, ◌^◌}
 use native.Mathlib.Omega.{arith}
 use lib.Dec.{eqb}
 use lib.ListN.{length, length-append}
-use borrow.Author.Tests.{eq-eqb, ne_eqb}
+use borrow.Author.Tests.{ne_eqb}
 use Rattle.lex.specs.Kind.{k_eof, k_curly_left, k_curly_right}
 use Rattle.lex.specs.declared.tok.Token.{Token}
 use Rattle.tokens.specs.Table.{token_of}
@@ -25,22 +26,14 @@ use Rattle.parser_state.proofs.Cells.{flatten_snoc}
 use Rattle.parser_state.proofs.Rounds.{Again, Turned, LoopInvariant, round_out, if_kind_is_yes, if_kind_is_no}
 use Rattle.parser_state.proofs.Loops.{member-eof, member_stop, no_member}
 use Rattle.parser_operators.specs.Matches.{default_of, cases_grown, CasesAre, case_cells, match_node, match_end, match_rest}
-use Rattle.parser_operators.specs.declared.Default.{Default}
+use Rattle.parser_operators.specs.declared.DefaultBlock.{DefaultBlock}
 
 -- ---- the default
-
-pub default_none : (d : Default) → d.has ≡ 0 → default_of d ≡ none
-unfolding default_of
-default_none d e = ap (λ (b : Bool). elim b as (λ _. Option (Token × Run)) [ true ↦ none | false ↦ some (token_of d.token, d.run) ]) (eq-eqb d.has 0 e)
-
-pub default-some : (d : Default) → (d.has ≡ 0 → ⊥) → default_of d ≡ some (token_of d.token, d.run)
-unfolding default_of
-default-some d e = ap (λ (b : Bool). elim b as (λ _. Option (Token × Run)) [ true ↦ none | false ↦ some (token_of d.token, d.run) ]) (ne_eqb d.has 0 e)
 
 -- what fails gives no value, of whatever type
 pub fail_any : {A : Type 0} {tokens : List ℕ} {Q : A → Type 0} {s s' : Code} (number : ℕ) (t : Token) → Refines {A = ℕ} tokens 0 0 (fail_at number t) (λ n. n ≡ 0) stack_unchanged 0 0 0 s s' → Refines {A = A} tokens 0 0 (fail_at number t) Q stack_unchanged 0 0 0 s s'
 unfolding fail_at
-fail_any number t p = record { sticky = p.sticky; monotone = p.monotone; progress = p.progress; simulates = λ R L stack m h. p.simulates R L stack m h }
+fail_any number t p = record { sticky = p.sticky; same = p.same; monotone = p.monotone; progress = p.progress; simulates = λ R L stack m h. p.simulates R L stack m h }
 
 -- ---- a block
 
@@ -82,12 +75,13 @@ module _ (deeper : Readers) where
       go t (ok n s) = body t n (parse_body deeper s)
       go t (err e s) = refl
 
-  module _ {tokens : List ℕ} {n n' : ℕ} {s s' : Code} (d d' : Default) where
-    case_again : member_follows s.parser k_curly_right ≡ true → length (ahead tokens s') ≤ length (ahead tokens s) → (going s' ≡ true → length (ahead tokens s') + 1 ≤ length (ahead tokens s))
+  module _ {tokens : List ℕ} {n n' : ℕ} {s s' : Code} (d d' : Answer DefaultBlock) where
+    case_again : member_follows s.parser k_curly_right ≡ true → s'.names ≡ s.names → length (ahead tokens s') ≤ length (ahead tokens s) → (going s' ≡ true → length (ahead tokens s') + 1 ≤ length (ahead tokens s))
         → ((R L : ℕ) (stack : List ℕ) (c : Cases) (m : State) → CasesAre tokens d n s c → Represents tokens s R L (stack ++ flatten c.cases) m → Turned tokens (next_case deeper) cases_grown (CasesAre tokens d' n' s') s' R L stack (block c m))
         → Again tokens (next_case deeper) cases_grown (CasesAre tokens d n s) (CasesAre tokens d' n' s') s s'
     unfolding next_case
-    case_again w a b f = record {
+    case_again w e a b f = record {
+      same = e;
       monotone = a;
       progress = b;
       flow_value = λ R L stack c m q h.
@@ -98,34 +92,34 @@ module _ (deeper : Readers) where
     }
 
   -- the default, which replaces an earlier one
-  module _ {tokens : List ℕ} {n : ℕ} {run : Run} {s s' : Code} (d : Default) where
+  module _ {tokens : List ℕ} {n : ℕ} {run : Run} {s s' : Code} (d : Answer DefaultBlock) where
     default-own : member_follows s.parser k_curly_right ≡ true → s.parser.cur.kind ≡ k_curly_left → Refines tokens 0 0 (parse_body deeper) (λ a. a ≡ run) stack_unchanged 1 1 8 s s'
-        → Again tokens (next_case deeper) cases_grown (CasesAre tokens d n s) (CasesAre tokens (record { has = 1; token = s.parser.cur; run = run }) n s') s s'
+        → Again tokens (next_case deeper) cases_grown (CasesAre tokens d n s) (CasesAre tokens (Some (record { token = s.parser.cur; run = run })) n s') s s'
     unfolding default_case
-    default-own w k p = case_again d (record { has = 1; token = s.parser.cur; run = run }) w p.monotone p.progress (λ R L stack c m q h.
+    default-own w k p = case_again d (Some (record { token = s.parser.cur; run = run })) w p.same p.monotone p.progress (λ R L stack c m q h.
         let x : Refines tokens 0 0 (block c) (λ e. e ≡ continue (record { cases = c.cases; default = some (token_of s.parser.cur, run) })) stack_unchanged 1 0 0 s s' =
         enough (seq (λ e. pure (continue e)) (if_kind-yes (default_case deeper c) (condition_case deeper c) (read _ looks refl (seq _ p done)) k) done) tt in
         go R L stack c q (block c m) (x.simulates R L (stack ++ flatten c.cases) m (represents_less _ _ (omega arith) (omega arith) h)))
       where
         go : (R L : ℕ) (stack : List ℕ) (c : Cases) → CasesAre tokens d n s c → (r : Result (ControlFlow Cases)) → Ends tokens (λ e. e ≡ continue (record { cases = c.cases; default = some (token_of s.parser.cur, run) })) stack_unchanged s' R L 0 0 (stack ++ flatten c.cases) r
-            → Turned tokens (next_case deeper) cases_grown (CasesAre tokens (record { has = 1; token = s.parser.cur; run = run }) n s') s' R L stack r
+            → Turned tokens (next_case deeper) cases_grown (CasesAre tokens (Some (record { token = s.parser.cur; run = run })) n s') s' R L stack r
         go R L stack c q (ok (continue b) m) h =
             let e : continue b ≡ continue (record { cases = c.cases; default = some (token_of s.parser.cur, run) }) = h.0 in
             let f : b ≡ record { cases = c.cases; default = some (token_of s.parser.cur, run) } = cc in
-            subst (λ (x : Cases). CasesAre tokens (record { has = 1; token = s.parser.cur; run = run }) n s' x × Represents tokens s' R L (stack ++ flatten x.cases) m) (sym f)
-            ((sym (default-some (record { has = 1; token = s.parser.cur; run = run }) (λ z. omega arith)), (q.1.0, omega (arith, q.1.1, p.monotone))), represents_less _ _ (omega arith) (omega arith) h.1)
+            subst (λ (x : Cases). CasesAre tokens (Some (record { token = s.parser.cur; run = run })) n s' x × Represents tokens s' R L (stack ++ flatten x.cases) m) (sym f)
+            ((refl, (q.1.0, omega (arith, q.1.1, p.monotone))), represents_less _ _ (omega arith) (omega arith) h.1)
         go R L stack c q (ok (break b) m) h = let e : break b ≡ continue (record { cases = c.cases; default = some (token_of s.parser.cur, run) }) = h.0 in let z : ◌≡◌ {A = ℕ} 0 1 = cc in omega arith
         go R L stack c q (err e m) h = record { status = h.status; over = flatten c.cases ++ h.over; related = rw (← append_assoc stack (flatten c.cases) h.over) h.related }
 
     pub default_again : {t : Entry} → member_follows s.parser k_curly_right ≡ true → t ≡ s.parser.cur → s.parser.cur.kind ≡ k_curly_left → Refines tokens 0 0 (parse_body deeper) (λ a. a ≡ run) stack_unchanged 1 1 8 s s'
-        → Again tokens (next_case deeper) cases_grown (CasesAre tokens d n s) (CasesAre tokens (record { has = 1; token = t; run = run }) n s') s s'
-    default_again w e k p = subst (λ (t : Entry). Again tokens (next_case deeper) cases_grown (CasesAre tokens d n s) (CasesAre tokens (record { has = 1; token = t; run = run }) n s') s s') (sym e) (default-own w k p)
+        → Again tokens (next_case deeper) cases_grown (CasesAre tokens d n s) (CasesAre tokens (Some (record { token = t; run = run })) n s') s s'
+    default_again w e k p = subst (λ (t : Entry). Again tokens (next_case deeper) cases_grown (CasesAre tokens d n s) (CasesAre tokens (Some (record { token = t; run = run })) n s') s s') (sym e) (default-own w k p)
 
   -- a case
-  module _ {tokens : List ℕ} {n n' : ℕ} {s s' : Code} (d : Default) where
+  module _ {tokens : List ℕ} {n n' : ℕ} {s s' : Code} (d : Answer DefaultBlock) where
     pub condition_again : member_follows s.parser k_curly_right ≡ true → (s.parser.cur.kind ≡ k_curly_left → ⊥) → ReadsMember tokens (case_cells deeper) s s' → n' ≡ (n + 1) % 2 ^ 32
         → Again tokens (next_case deeper) cases_grown (CasesAre tokens d n s) (CasesAre tokens d n' s') s s'
-    condition_again w k p count = case_again d d w p.monotone p.progress (λ R L stack c m q h.
+    condition_again w k p count = case_again d d w p.same p.monotone p.progress (λ R L stack c m q h.
         let cur : current m.left ≡ token_of s.parser.cur = current_represents h.related in
         subst (Turned tokens (next_case deeper) cases_grown (CasesAre tokens d n' s') s' R L stack) (sym (block_condition c m (rw cur (ne_eqb s.parser.cur.kind k_curly_left k))))
         (go R L stack c q (case_cells deeper m) (p.simulates R L (stack ++ flatten c.cases) m (represents_less _ _ (omega arith) (omega arith) h))))
@@ -140,12 +134,13 @@ module _ (deeper : Readers) where
 
   -- ---- the end
 
-  module _ {tokens : List ℕ} {n mark d₂ r₂ l₂ : ℕ} {id : NodeId} {s₀ s s₂ : Code} (t : Token) (d : Default) where
+  module _ {tokens : List ℕ} {n mark d₂ r₂ l₂ : ℕ} {id : NodeId} {s₀ s s₂ : Code} (t : Token) (d : Answer DefaultBlock) where
     pub match_end_lem : LoopInvariant tokens (next_case deeper) cases_grown (record { cases = []; default = none }) (CasesAre tokens d n s) s₀ s → member_follows s.parser k_curly_right ≡ false → mark ≡ s₀.parser.used.scratch
         → Lists tokens (match_end t (default_of d)) id d₂ r₂ l₂ mark n s s₂ → Refines tokens 0 0 (match_rest deeper t) (λ a. a ≡ id) stack_unchanged d₂ r₂ l₂ s₀ s₂
     unfolding match_rest ◌>>=◌ next_case pure flatten
     match_end_lem i w k q = record {
       sticky = λ e. let e₁ : s ≡ s₀ = p.sticky e in q.sticky (ap going e₁ ∙ e) ∙ e₁;
+      same = q.same ∙ p.same;
       monotone = omega (arith, p.monotone, q.monotone);
       progress = λ e. omega (arith, p.monotone, q.progress e);
       simulates = λ R L stack m h. go R L stack (sym (k ∙ h.related.lists.stacked)) (loop (next_case deeper) (record { cases = []; default = none }) m) (p.simulates R L stack m h);

@@ -1,4 +1,5 @@
 -- Tables by kind, as the code keeps them.
+use Rattle.std.specs.Prelude.{Option as Answer, Some, None}
 use mathlib.Core.Path.{◌≡◌, refl, sym, ap, subst, ◌∙◌}
 use mathlib.Core.Bool.{Bool, true, false, not, ◌&&◌, ◌||◌}
 use mathlib.Core.Option.{Option, none, some}
@@ -7,15 +8,14 @@ use Prim.Native.Nat.{ℕ, zero, suc, ◌≤◌, ◌<◌}
 use native.Mathlib.Omega.{arith}
 use lib.Dec.{eqb, ltb, leb}
 use lib.ListN.{length, get_or}
-use borrow.Author.Tests.{eqb-true, eq-eqb, ne_eqb, ltb-true, ltb-false, lt-ltb, le-ltb, le-leb, lt-leb}
+use borrow.Author.Tests.{eqb-true, eq-eqb, ne_eqb, ltb-true, ltb-false, le-ltb, le-leb, lt-leb}
 use Rattle.lex.specs.Kind.{k_doc, k_match}
 use Rattle.rules.specs.Combinators.{Rule, Readers, choose}
 use Rattle.rules.specs.Rules.{stage_one, right_power, prefix_power, operand_by_kind}
-use Rattle.parser_state.specs.Represents.{Code}
+use Rattle.parser_state.specs.Represents.{Reading, Code}
 use Rattle.parser_state.specs.Refines.{Refines}
-use Rattle.parser_state.specs.declared.Parser.{Parser}
 use Rattle.parser_state.proofs.Steps.{either, true≢false, and_both}
-use Rattle.parser_operators.specs.Tests.{operand_classes, operand_class, operand_of, operator_numbers, operator_number, power_at, left_powers, begins_expr, sign_follows, infix_by}
+use Rattle.parser_operators.specs.Tests.{operand_classes, operand_class, operand_of, operator_numbers, operator_number, operator_of, power_at, left_powers, begins_expr, sign_follows, infix_by}
 
 -- ---- one entry after the other
 
@@ -64,7 +64,7 @@ operand_class_lem d k = sym (choose-map (operand_of d) operand_classes 0 k)
 -- ---- items
 
 -- no doc waits, and the kind is none of those that begin another item
-pub begins-expr : (p : Parser) → begins_expr p ≡ true → (p.used.docs ≡ 0) × ((k : ℕ) → k_doc ≤ k → k ≤ k_match → p.cur.kind ≡ k → ⊥)
+pub begins-expr : (p : Reading) → begins_expr p ≡ true → (p.used.docs ≡ 0) × ((k : ℕ) → k_doc ≤ k → k ≤ k_match → p.cur.kind ≡ k → ⊥)
 unfolding begins_expr
 begins-expr p e = either (eqb p.used.docs 0)
     (λ d. (eqb-true _ _ d, λ k a b same. outside (ltb p.cur.kind k_doc) (ltb k_match p.cur.kind) (le-ltb p.cur.kind k_doc (omega arith)) (le-ltb k_match p.cur.kind (omega arith)) (subst (λ (t : Bool). (t && (ltb p.cur.kind k_doc || ltb k_match p.cur.kind)) ≡ true) d e)))
@@ -87,20 +87,31 @@ pub operator_power : (k : ℕ) → stage_one k ≡ power_at (operator_number k)
 unfolding stage_one operator_number power_at choose
 operator_power k = sym (choose-map power_at operator_numbers 9 k)
 
-module _ (k n : ℕ) (e : n ≡ operator_number k) where
-  by_number : {b : Bool} → ltb n 9 ≡ b → stage_one k ≡ elim b as (λ _. Option ℕ) [ true ↦ some (get_or left_powers n 0) | false ↦ none ]
+module _ (k : ℕ) where
+  by_number : {b : Bool} → ltb (operator_number k) 9 ≡ b
+      → (stage_one k ≡ elim b as (λ _. Option ℕ) [ true ↦ some (get_or left_powers (operator_number k) 0) | false ↦ none ])
+      × (operator_of k ≡ elim b as (λ _. Answer ℕ) [ true ↦ Some (operator_number k) | false ↦ None ])
   unfolding power_at
-  by_number f = operator_power k ∙ ap power_at (sym e) ∙ ap (λ (b : Bool). elim b as (λ _. Option ℕ) [ true ↦ some (get_or left_powers n 0) | false ↦ none ]) f
+  by_number f = (
+    operator_power k ∙ ap (λ (b : Bool). elim b as (λ _. Option ℕ) [ true ↦ some (get_or left_powers (operator_number k) 0) | false ↦ none ]) f,
+    ap (λ (b : Bool). elim b as (λ _. Answer ℕ) [ true ↦ Some (operator_number k) | false ↦ None ]) f,
+  )
 
-  pub power-some : n < 9 → stage_one k ≡ some (get_or left_powers n 0)
-  power-some h = by_number (lt-ltb n 9 h)
+  pub power-some : {n : ℕ} → Some n ≡ operator_of k → (n < 9) × (stage_one k ≡ some (get_or left_powers n 0))
+  power-some {n} e = either (ltb (operator_number k) 9)
+      (λ b. let f : Some n ≡ Some (operator_number k) = e ∙ (by_number b).1 in
+      let g : n ≡ operator_number k = cc in
+      (omega (arith, ltb-true _ _ b), rw g (by_number b).0))
+      (λ b. let f : Some n ≡ None = e ∙ (by_number b).1 in absurd (cc))
 
-  pub no_power : 9 ≤ n → stage_one k ≡ none
-  no_power h = by_number (le-ltb n 9 h)
+  pub no_power : None ≡ operator_of k → stage_one k ≡ none
+  no_power e = either (ltb (operator_number k) 9)
+      (λ b. let f : None ≡ Some (operator_number k) = e ∙ (by_number b).1 in absurd (cc))
+      (λ b. (by_number b).0)
 
-pub power-none : (breaks : Bool) (least k : ℕ) {n : ℕ} → n ≡ operator_number k → 9 ≤ n → false ≡ sign_follows breaks least (stage_one k)
+pub power-none : (breaks : Bool) (least k : ℕ) → None ≡ operator_of k → false ≡ sign_follows breaks least (stage_one k)
 unfolding sign_follows
-power-none breaks least k e h = rw (no_power k _ e h, sign_follows) refl
+power-none breaks least k e = rw (no_power k e, sign_follows) refl
 
 pub infix_when : {going cast sign r : Bool} → going ≡ true → cast ≡ false → r ≡ sign → r ≡ infix_by going cast sign
 unfolding infix_by

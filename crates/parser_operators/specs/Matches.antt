@@ -1,5 +1,5 @@
 -- The cases of a match.
-use Rattle.std.specs.Prelude.{◌≡◌, true, false, ℕ, eqb}
+use Rattle.std.specs.Prelude.{◌≡◌, ℕ, Option as Answer, Some, None}
 use Rattle.std.proofs.Math.Option.{Option, none, some}
 use mathlib.Core.List.{List, [], ◌∷◌, ◌++◌, flatten}
 use Rattle.lex.specs.Kind.{k_curly_right}
@@ -14,16 +14,17 @@ use Rattle.ast.specs.declared.Node.TheVariants as N
 use Rattle.tokens.specs.Table.{token_of}
 use Rattle.parser_state.specs.Represents.{Code}
 use Rattle.parser_state.specs.Refines.{Collected, closed}
-use Rattle.parser_operators.specs.declared.Default.{Default}
+use Rattle.parser_operators.specs.declared.DefaultBlock.{DefaultBlock}
 
-unfoldable pub default_of : Default → Option (Token × Run)
-default_of d = elim (eqb d.has 0) [ true ↦ none | false ↦ some (token_of d.token, d.run) ]
+abbrev pub default_of : Answer DefaultBlock → Option (Token × Run)
+default_of None = none
+default_of (Some d) = some (token_of d.token, d.run)
 
 abbrev pub cases_grown : Cases → List ℕ → List ℕ
 cases_grown c stack = stack ++ flatten c.cases
 
 -- the code has as many cases, and the same default
-abbrev pub CasesAre : List ℕ → Default → ℕ → Code → Cases → Type 0
+abbrev pub CasesAre : List ℕ → Answer DefaultBlock → ℕ → Code → Cases → Type 0
 CasesAre tokens d n s c = (c.default ≡ default_of d) × Collected tokens n s c.cases
 
 -- the cells of a case

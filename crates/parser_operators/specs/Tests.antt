@@ -1,6 +1,6 @@
 -- What the code tests: tables by kind, binding powers, and whether a loop over an expression goes
 -- on.
-use Rattle.std.specs.Prelude.{Bool, true, false, not, ◌&&◌, ◌||◌, List, [], ◌∷◌, ℕ, ◌*◌, eqb, ltb, get_or}
+use Rattle.std.specs.Prelude.{Bool, true, false, not, ◌&&◌, ◌||◌, List, [], ◌∷◌, ℕ, ◌*◌, eqb, ltb, get_or, Option as Answer, Some, None}
 use Rattle.std.proofs.Math.Option.{Option, none, some}
 use Rattle.lex.specs.Kind.{k_plus, k_minus, k_asteriks, k_slash, k_percent, k_double_equal, k_less_than, k_greater_than, k_dot, k_brace_left, k_braket_left, k_curly_left, k_s, k_d, k_i, k_ident, k_doc, k_match, k_as, k_true, k_false}
 use Rattle.tokens.specs.Table.{token_of}
@@ -8,8 +8,9 @@ use Rattle.ast.specs.Layout.{node_width}
 use Rattle.rules.specs.Combinators.{Rule, Readers, choose, fail}
 use Rattle.rules.specs.Rules.{stage_one, breaks_off, record_literal, array_literal, atom, ident, group, unary}
 use Rattle.ast.specs.declared.NodeId.{NodeId}
-use Rattle.parser_state.specs.Represents.{is_going}
-use Rattle.parser_state.specs.declared.Parser.{Parser}
+use Rattle.parser_state.specs.Represents.{Reading, is_going}
+use Rattle.parser_operators.specs.declared.Operand.{Operand}
+use Rattle.parser_operators.specs.declared.Operand.TheVariants.{Record, Array, Atom, Name, Group, Sign}
 
 -- ---- what begins an operand
 
@@ -18,6 +19,16 @@ operand_classes = (k_curly_left, 1) ∷ (k_braket_left, 2) ∷ (k_s, 3) ∷ (k_i
 
 unfoldable pub operand_class : ℕ → ℕ
 operand_class = choose operand_classes 0
+
+-- the number of what the code found
+abbrev pub class_number : Answer Operand → ℕ
+class_number None = 0
+class_number (Some Record) = 1
+class_number (Some Array) = 2
+class_number (Some Atom) = 3
+class_number (Some Name) = 4
+class_number (Some Group) = 5
+class_number (Some Sign) = 6
 
 unfoldable pub operand_of : Readers → ℕ → Rule NodeId
 operand_of d = choose ((1, record_literal d) ∷ (2, array_literal d) ∷ (3, atom) ∷ (4, ident) ∷ (5, group d) ∷ (6, unary d) ∷ []) (fail 19)
@@ -32,6 +43,10 @@ operator_numbers = (k_plus, 0) ∷ (k_minus, 1) ∷ (k_asteriks, 2) ∷ (k_slash
 unfoldable pub operator_number : ℕ → ℕ
 operator_number = choose operator_numbers 9
 
+-- the number, where the kind is an infix sign
+abbrev pub operator_of : ℕ → Answer ℕ
+operator_of k = elim (ltb (operator_number k) 9) [ true ↦ Some (operator_number k) | false ↦ None ]
+
 -- the power on the left of each sign, by its number
 abbrev pub left_powers : List ℕ
 left_powers = 1 ∷ 1 ∷ 3 ∷ 3 ∷ 3 ∷ 0 ∷ 0 ∷ 0 ∷ 0 ∷ []
@@ -42,7 +57,7 @@ power_at n = elim (ltb n 9) [ true ↦ some (get_or left_powers n 0) | false ↦
 -- ---- items
 
 -- an expression begins, before which no doc is pending
-unfoldable pub begins_expr : Parser → Bool
+unfoldable pub begins_expr : Reading → Bool
 begins_expr p = eqb p.used.docs 0 && (ltb p.cur.kind k_doc || ltb k_match p.cur.kind)
 
 -- ---- loops over an expression
@@ -62,8 +77,8 @@ postfix_by true true brace calls = true
 postfix_by true false false calls = false
 postfix_by true false true calls = calls
 
-abbrev pub postfix_follows : List ℕ → Parser → NodeId → Bool
-postfix_follows nodes p n = postfix_by (is_going p.status) (eqb p.cur.kind k_dot) (eqb p.cur.kind k_brace_left) (call_at nodes p.used.nodes n)
+abbrev pub postfix_follows : List ℕ → Reading → NodeId → Bool
+postfix_follows nodes p n = postfix_by (is_going p.error) (eqb p.cur.kind k_dot) (eqb p.cur.kind k_brace_left) (call_at nodes p.used.nodes n)
 
 -- an infix sign goes on that has the power `o` on its left
 unfoldable pub sign_follows : Bool → ℕ → Option ℕ → Bool
@@ -77,5 +92,5 @@ infix_by true true sign = true
 infix_by true false sign = sign
 
 -- an infix goes on
-abbrev pub infix_follows : List ℕ → Parser → ℕ → Bool
-infix_follows script p least = infix_by (is_going p.status) (eqb p.cur.kind k_as) (sign_follows (breaks_off script (token_of p.cur)) least (stage_one p.cur.kind))
+abbrev pub infix_follows : List ℕ → Reading → ℕ → Bool
+infix_follows script p least = infix_by (is_going p.error) (eqb p.cur.kind k_as) (sign_follows (breaks_off script (token_of p.cur)) least (stage_one p.cur.kind))

@@ -7,17 +7,14 @@ ghost use Rattle.rules.specs.Combinators.{push_node};
 ghost use Rattle.ast.specs.Layout.{token_cells, run_cells};
 ghost use Rattle.ast.specs.declared.Node.TheVariants as N;
 ghost use Rattle.rules.specs.Rules.{atom, ident, field_access, cast, breaks_off};
-ghost use Rattle.parser_state.specs.Represents.{parser_of, code};
+ghost use Rattle.parser_state.specs.Represents.{reading, code_of};
 ghost use Rattle.parser_state.specs.Refines.{Refines, stack_unchanged, ReadsNode, ReadsStep, Pushes, Rules, deeper};
-ghost use Rattle.parser_operators.specs.Tests.{operand_class, operator_number, left_powers, begins_expr, call_at, postfix_follows, infix_follows};
+ghost use Rattle.parser_operators.specs.Tests.{operand_class, class_number, operator_of, left_powers, begins_expr, call_at, postfix_follows, infix_follows};
 ghost use Rattle.parser_operators.specs.Matches.{default_of, match_node};
 
 use ast::{Node, NodeId, NodeKind, Run, TypeExprId};
 use lex::{Diagnostic, Type, is_prefix_sign};
-use parser_state::{
-    State, WideNode, advance, current, expect_ident, fail_at, get_used, going, kind, push_cells,
-    push_field, push_node, push_token_node,
-};
+use parser_state::Parser;
 use parser_types::parse_type;
 use tokens::Entry;
 
@@ -30,79 +27,50 @@ const LEFT_POWERS: [u32; 9] = [1, 1, 3, 3, 3, 0, 0, 0, 0];
 // The power of a prefix sign.
 pub const PREFIX_POWER: u32 = 5;
 
-// What begins an operand: a record 1, an array 2, an atom 3, a name 4, a bracket 5, a sign 6; 0
-// what begins none. A chain of tests, which is compiled to one jump: a constant array would be
-// written out at each use.
-#[tactic(auto, unfolding(crate::specs::Tests::operand_class, rules::specs::Combinators::choose))]
-pub fn operand_class(kind: u32) -> u32
-    ensures { result ≡ operand_class kind }
-{
-    if kind == Type::CURLY_LEFT {
-        return 1;
-    }
-    if kind == Type::BRAKET_LEFT {
-        return 2;
-    }
-    if kind == Type::S {
-        return 3;
-    }
-    if kind == Type::I {
-        return 3;
-    }
-    if kind == Type::D {
-        return 3;
-    }
-    if kind == Type::TRUE {
-        return 3;
-    }
-    if kind == Type::FALSE {
-        return 3;
-    }
-    if kind == Type::IDENT {
-        return 4;
-    }
-    if kind == Type::BRACE_LEFT {
-        return 5;
-    }
-    if kind == Type::PLUS {
-        return 6;
-    }
-    if kind == Type::MINUS {
-        return 6;
-    }
-    0
+// What an operand begins with: a record, an array, an atom, a name, a bracket or a sign.
+#[derive(Clone, Copy, Debug, PartialEq, Eq)]
+pub enum Operand {
+    Record,
+    Array,
+    Atom,
+    Name,
+    Group,
+    Sign,
 }
 
-// The number of an infix sign by its kind; 9 where there is none.
-#[tactic(auto, unfolding(crate::specs::Tests::operator_number, rules::specs::Combinators::choose))]
-pub fn operator(kind: u32) -> u32
-    ensures { result ≡ operator_number kind }
+// What begins an operand; none where the kind begins none. A `match`, which is compiled to one jump:
+// a constant array would be written out at each use.
+#[tactic(auto, unfolding(crate::specs::Tests::operand_class, rules::specs::Combinators::choose))]
+pub fn operand_class(kind: u32) -> Option<Operand>
+    ensures { class_number result ≡ operand_class kind }
 {
-    if kind == Type::PLUS {
-        return 0;
+    match kind {
+        Type::CURLY_LEFT => Some(Operand::Record),
+        Type::BRAKET_LEFT => Some(Operand::Array),
+        Type::S | Type::I | Type::D | Type::TRUE | Type::FALSE => Some(Operand::Atom),
+        Type::IDENT => Some(Operand::Name),
+        Type::BRACE_LEFT => Some(Operand::Group),
+        Type::PLUS | Type::MINUS => Some(Operand::Sign),
+        _ => None,
     }
-    if kind == Type::MINUS {
-        return 1;
+}
+
+// The number of an infix sign by its kind.
+#[tactic(auto, unfolding(crate::specs::Tests::operator_number, rules::specs::Combinators::choose))]
+pub fn operator(kind: u32) -> Option<u32>
+    ensures { result ≡ operator_of kind }
+{
+    match kind {
+        Type::PLUS => Some(0),
+        Type::MINUS => Some(1),
+        Type::ASTERIKS => Some(2),
+        Type::SLASH => Some(3),
+        Type::PERCENT => Some(4),
+        Type::DOUBLE_EQUAL => Some(5),
+        Type::LESS_THAN => Some(6),
+        Type::GREATER_THAN => Some(7),
+        _ => None,
     }
-    if kind == Type::ASTERIKS {
-        return 2;
-    }
-    if kind == Type::SLASH {
-        return 3;
-    }
-    if kind == Type::PERCENT {
-        return 4;
-    }
-    if kind == Type::DOUBLE_EQUAL {
-        return 5;
-    }
-    if kind == Type::LESS_THAN {
-        return 6;
-    }
-    if kind == Type::GREATER_THAN {
-        return 7;
-    }
-    9
 }
 
 // The power on the left of an infix sign, by its number.
@@ -118,52 +86,34 @@ pub fn left_power(n: u32) -> u32
 // No doc is pending or read, and none of the words that begin another item: the kinds from Doc to
 // Match.
 #[tactic(auto, unfolding(crate::specs::Tests::begins_expr))]
-pub fn begins_expr(p: &State) -> bool
-    ensures { result ≡ begins_expr (parser_of p.now) }
+pub fn begins_expr(p: &Parser) -> bool
+    ensures { result ≡ begins_expr (reading p.now) }
 {
-    if get_used(p).docs != 0 {
-        return false;
-    }
-    let k = kind(p);
-    if k < Type::DOC {
-        return true;
-    }
-    Type::MATCH < k
+    let k = p.kind();
+    p.used.docs == 0 && (k < Type::DOC || Type::MATCH < k)
 }
 
 // An Ident or a Field can be called. `made` nodes are there.
 fn is_callable_target(nodes: &[u32], made: u32, n: NodeId) -> bool
     ensures { result ≡ call_at nodes.now made n }
 {
-    if made <= n.0 {
-        return false;
-    }
     let at = Node::WIDTH * n.0 as usize;
-    if nodes.len() <= at {
-        return false;
-    }
-    if nodes[at] == NodeKind::IDENT {
-        return true;
-    }
-    nodes[at] == NodeKind::FIELD
+    n.0 < made && at < nodes.len() && matches!(nodes[at], NodeKind::IDENT | NodeKind::FIELD)
 }
 
 // A `.`, or a `(` behind a node that can be called.
 #[tactic(auto, unfolding(crate::specs::Tests::postfix_by))]
-pub fn postfix_follows(nodes: &[u32], p: &State, n: NodeId) -> bool
-    ensures { result ≡ postfix_follows nodes.now (parser_of p.now) n }
+pub fn postfix_follows(p: &Parser, n: NodeId) -> bool
+    ensures { result ≡ postfix_follows p.now.nodes.now (reading p.now) n }
 {
-    if !going(p) {
+    if !p.going() {
         return false;
     }
-    let k = kind(p);
-    if k == Type::DOT {
-        return true;
+    match p.kind() {
+        Type::DOT => true,
+        Type::BRACE_LEFT => is_callable_target(p.nodes, p.used.nodes, n),
+        _ => false,
     }
-    if k == Type::BRACE_LEFT {
-        return is_callable_target(nodes, get_used(p).nodes, n);
-    }
-    false
 }
 
 // A sign that begins an operand ends the one before it.
@@ -171,119 +121,86 @@ pub fn postfix_follows(nodes: &[u32], p: &State, n: NodeId) -> bool
 fn breaks_off(script: &[u8], t: Entry) -> bool
     ensures { result ≡ breaks_off script.now (token_of t) }
 {
-    if t.kind == Type::PLUS {
-        return is_prefix_sign(script, t.start as usize);
-    }
-    if t.kind == Type::MINUS {
-        return is_prefix_sign(script, t.start as usize);
-    }
-    false
+    matches!(t.kind, Type::PLUS | Type::MINUS) && is_prefix_sign(script, t.start as usize)
 }
 
 // `as`, or an infix sign whose left power is no less.
-pub fn infix_follows(script: &[u8], p: &State, least: u32) -> bool
-    ensures { result ≡ infix_follows script.now (parser_of p.now) least }
+pub fn infix_follows(p: &Parser, script: &[u8], least: u32) -> bool
+    ensures { result ≡ infix_follows script.now (reading p.now) least }
 {
-    if !going(p) {
+    if !p.going() {
         return false;
     }
-    let t = current(p);
+    let t = p.cur;
     if t.kind == Type::AS {
         return true;
     }
-    let n = operator(t.kind);
-    if 9 <= n {
-        return false;
+    match operator(t.kind) {
+        Some(n) => !breaks_off(script, t) && least <= left_power(n),
+        None => false,
     }
-    if breaks_off(script, t) {
-        return false;
-    }
-    least <= left_power(n)
 }
 
 // ---- nodes with none below them
 
 // An expr = atom
-pub fn atom(tokens: &[u32], nodes: &mut [u32], p: &mut State) -> NodeId
-    requires { 1 < (parser_of p.old).cur.kind }
-    ensures { (types lists : List ℕ) →
-        let before = code nodes.old types lists (parser_of p.old) in
-        let after = code nodes.new types lists (parser_of p.new) in
-        ReadsNode tokens.now atom before after result }
+pub fn atom(p: &mut Parser, tokens: &[u32]) -> NodeId
+    requires { 1 < p.old.cur.kind }
+    ensures { ReadsNode tokens.now atom (code_of p.old) (code_of p.new) result }
 {
-    let raw = current(p);
-    advance(tokens, p);
-    push_token_node(nodes, p, NodeKind::ATOM, raw, 0, 0)
+    let raw = p.cur;
+    p.advance(tokens);
+    p.push_token_node(NodeKind::ATOM, raw, 0, 0)
 }
 
 // An expr = ident
-pub fn ident(tokens: &[u32], nodes: &mut [u32], p: &mut State) -> NodeId
-    requires { 1 < (parser_of p.old).cur.kind }
-    ensures { (types lists : List ℕ) →
-        let before = code nodes.old types lists (parser_of p.old) in
-        let after = code nodes.new types lists (parser_of p.new) in
-        ReadsNode tokens.now ident before after result }
+pub fn ident(p: &mut Parser, tokens: &[u32]) -> NodeId
+    requires { 1 < p.old.cur.kind }
+    ensures { ReadsNode tokens.now ident (code_of p.old) (code_of p.new) result }
 {
-    let name = current(p);
-    advance(tokens, p);
-    push_token_node(nodes, p, NodeKind::IDENT, name, 0, 0)
+    let name = p.cur;
+    p.advance(tokens);
+    p.push_token_node(NodeKind::IDENT, name, 0, 0)
 }
 
 // An expr = expr "." ident
-pub fn field_access(tokens: &[u32], nodes: &mut [u32], p: &mut State, lhs: NodeId) -> NodeId
-    requires { 1 < (parser_of p.old).cur.kind }
-    ensures { (types lists : List ℕ) →
-        let before = code nodes.old types lists (parser_of p.old) in
-        let after = code nodes.new types lists (parser_of p.new) in
-        ReadsStep tokens.now (field_access lhs) before after result }
+pub fn field_access(p: &mut Parser, tokens: &[u32], lhs: NodeId) -> NodeId
+    requires { 1 < p.old.cur.kind }
+    ensures { ReadsStep tokens.now (field_access lhs) (code_of p.old) (code_of p.new) result }
 {
-    advance(tokens, p);
-    let name = current(p);
-    expect_ident(tokens, p);
-    push_field(nodes, p, lhs, name)
+    p.advance(tokens);
+    let name = p.cur;
+    p.expect_ident(tokens);
+    p.push_field(lhs, name)
 }
 
 // A Cast is pushed from a node and a type, one of each.
-fn push_cast(nodes: &mut [u32], p: &mut State, src: Entry, lhs: NodeId, rhs: TypeExprId) -> NodeId
-    ensures { (tokens types lists : List ℕ) →
-        let before = code nodes.old types lists (parser_of p.old) in
-        let after = code nodes.new types lists (parser_of p.new) in
+fn push_cast(p: &mut Parser, src: Entry, lhs: NodeId, rhs: TypeExprId) -> NodeId
+    ensures { (tokens : List ℕ) →
         Refines tokens 1 0 (push_node (λ id. N.Cast id (token_of src) lhs rhs)) (λ i. i ≡ result)
-        stack_unchanged 0 0 0 before after }
+        stack_unchanged 0 0 0 (code_of p.old) (code_of p.new) }
 {
-    push_token_node(nodes, p, NodeKind::CAST, src, lhs.0, rhs.0)
+    p.push_token_node(NodeKind::CAST, src, lhs.0, rhs.0)
 }
 
 // An expr = expr "as" type
-pub fn cast(
-    tokens: &[u32],
-    nodes: &mut [u32],
-    types: &mut [u32],
-    lists: &mut [u32],
-    p: &mut State,
-    lhs: NodeId,
-    levels: usize,
-) -> NodeId
-    requires { 1 < (parser_of p.old).cur.kind }
+pub fn cast(p: &mut Parser, tokens: &[u32], lhs: NodeId, levels: usize) -> NodeId
+    requires { 1 < p.old.cur.kind }
     ensures { (rules : Rules) →
-        let before = code nodes.old types.old lists.old
-        (parser_of p.old) in
-        let after = code nodes.new types.new lists.new
-        (parser_of p.new) in
-        ReadsStep tokens.now (cast (deeper rules levels) lhs) before after result }
+        ReadsStep tokens.now (cast (deeper rules levels) lhs) (code_of p.old) (code_of p.new)
+        result }
 {
-    let src = current(p);
-    advance(tokens, p);
-    let rhs = parse_type(tokens, types, lists, p, levels);
-    push_cast(nodes, p, src, lhs, rhs)
+    let src = p.cur;
+    p.advance(tokens);
+    let rhs = parse_type(p, tokens, levels);
+    push_cast(p, src, lhs, rhs)
 }
 
 // ---- the cases of a match
 
-// The default of a match: its token and body, where `has` is not 0.
+// The default of a match: its token and body.
 #[derive(Clone, Copy)]
-pub struct Default {
-    pub has: u32,
+pub struct DefaultBlock {
     pub token: Entry,
     pub run: Run,
 }
@@ -291,55 +208,38 @@ pub struct Default {
 // The default of a match so far, and how many cases there are.
 #[derive(Clone, Copy)]
 pub struct CasesRead {
-    pub default: Default,
+    pub default: Option<DefaultBlock>,
     pub members: u32,
 }
 
 // The cells of a case.
 #[tactic(auto, unfolding(ast::specs::Layout::token_cells, ast::specs::Layout::run_cells))]
-pub fn push_case(lists: &mut [u32], p: &mut State, t: Entry, n: NodeId, body: Run)
-    ensures { (tokens nodes types : List ℕ) →
-        let before = code nodes types lists.old (parser_of p.old) in
-        let after = code nodes types lists.new (parser_of p.new) in
-        Pushes tokens 12 (token_cells (token_of t) ++ (n.0 ∷ run_cells body)) before after }
+pub fn push_case(p: &mut Parser, t: Entry, n: NodeId, body: Run)
+    ensures { (tokens : List ℕ) →
+        Pushes tokens 12 (token_cells (token_of t) ++ (n.0 ∷ run_cells body)) (code_of p.old)
+        (code_of p.new) }
 {
-    let cells = [body.len, body.start, n.0, t.len, t.start, t.kind];
-    push_cells(lists, p, &cells);
+    p.push_cells(&[body.len, body.start, n.0, t.len, t.start, t.kind]);
 }
 
 // The node of a match, record `at` being that of the token after `match`; the reading fails where it
 // has no default.
 pub fn match_node(
+    p: &mut Parser,
     tokens: &[u32],
-    nodes: &mut [u32],
-    p: &mut State,
     at: u32,
     cases: Run,
-    d: Default,
+    default: Option<DefaultBlock>,
 ) -> NodeId
-    ensures { (types lists : List ℕ) →
-        let before = code nodes.old types lists (parser_of p.old) in
-        let after = code nodes.new types lists (parser_of p.new) in
-        Refines tokens.now 1 0
-        (match_node (token_at tokens.now at) (default_of d) cases) (λ n. n ≡ result)
-        stack_unchanged 0 0 0 before after }
+    ensures { Refines tokens.now 1 0
+        (match_node (token_at tokens.now at) (default_of default) cases) (λ n. n ≡ result)
+        stack_unchanged 0 0 0 (code_of p.old) (code_of p.new) }
 {
-    if d.has == 0 {
-        fail_at(tokens, p, Diagnostic::MATCH_WITHOUT_A_DEFAULT, at);
-        return NodeId(0);
+    match default {
+        Some(block) => p.push_match(cases, block.token, block.run),
+        None => {
+            p.fail_at(tokens, Diagnostic::MATCH_WITHOUT_A_DEFAULT, at);
+            NodeId(0)
+        }
     }
-    let token = d.token;
-    let run = d.run;
-    let id = get_used(p).values;
-    push_node(
-        nodes,
-        p,
-        WideNode::Match {
-            id,
-            cases,
-            default_token: token,
-            default_body: run,
-        },
-        0,
-    )
 }

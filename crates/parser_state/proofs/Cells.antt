@@ -1,24 +1,20 @@
 -- Records, and cells of lists under construction.
-use Rattle.std.proofs.Common.{◌≡◌, ℕ, suc, ◌+◌, ◌-◌, ◌*◌, ◌<◌, ◌≤◌, true, false, ◌&&◌, ltb, leb, List, [], ◌∷◌, ◌++◌, map, reverse, length, get_or, take, drop, set, sym, refl, ap, ◌∙◌, subst, append_assoc, append-nil, arith, length-append, length-drop, take-append-drop, drop_of_length-le, length-take-le, get_or-drop, take_all, get_or-take, drop-drop, take_at, drop_at, ltb-false, ltb-true, lt-ltb, le-leb, leb-true}
+use Rattle.std.proofs.Common.{◌≡◌, ℕ, suc, ◌+◌, ◌-◌, ◌*◌, ◌<◌, ◌≤◌, true, ltb, List, [], ◌∷◌, ◌++◌, map, reverse, length, get_or, take, drop, set, sym, refl, ap, ◌∙◌, subst, append_assoc, append-nil, arith, length-append, length-drop, take-append-drop, drop_of_length-le, length-take-le, get_or-drop, get_or-take, take_all, take_at, drop_at, ltb-false, ltb-true}
 use mathlib.Core.List.{flatten, reverse-cons, reverse-append, reverse-reverse}
 use lib.ListN.{length-reverse, get_or-append}
 use borrow.Rule.Slice.PartMut.{mid_of, put_mid}
-use lib.Seq.{paste, length-paste, drop-append-add, drop-append-le, take-paste, drop-paste, paste-suc, get_or_at}
-use Rattle.lex.specs.Answer.{max_bytes}
+use lib.Seq.{paste, length-paste, drop-append-add, drop-append-le, drop-paste, paste-suc, get_or_at}
 use Rattle.lex.specs.declared.tok.Token.{Token}
 use Rattle.rules.specs.Combinators.{pure, push_node_and, push_type, with_arena, alloc_slice}
 use Rattle.ast.specs.Layout.{token_cells, run_cells, node_width, type_width, node_cells, type_cells}
 use Rattle.ast.specs.declared.Node.{Node}
-use Rattle.ast.specs.declared.NodeId.{NodeId}
 use Rattle.ast.specs.declared.Node.TheVariants as N
 use Rattle.ast.specs.declared.TypeExpr.{TypeExpr}
 use Rattle.ast.specs.declared.TypeExpr.TheVariants as TE
-use Rattle.parser_state.specs.Represents.{code, with_used, is_going, doc_cells, NodesLaid, TypesLaid, ListsLaid}
-use Rattle.parser_state.specs.Refines.{stack_unchanged, Refines, Pushes, Lists, has_room}
-use Rattle.parser_state.specs.declared.Parser.{Parser}
+use Rattle.parser_state.specs.Represents.{Code, with_used, with_nodes, with_types, with_lists, going, doc_cells, NodesLaid, TypesLaid, ListsLaid}
+use Rattle.parser_state.specs.Refines.{stack_unchanged, Refines, Pushes, Lists}
 use Rattle.parser_state.specs.declared.Used.{Used}
-use Rattle.parser_state.proofs.Leaves.{idle, full, through_used}
-use Rattle.parser_state.proofs.Steps.{either, true≢false, and_both, left-some}
+use Rattle.parser_state.proofs.Steps.{either, true≢false, left-some}
 
 -- ---- lists
 
@@ -101,22 +97,23 @@ types-room {types} {c} {k} {arena} {docs} h =
 abbrev pub type_made : Used → Used
 type_made u = record { nodes = u.nodes; values = u.values; types = u.types + 1; docs = u.docs; cells = u.cells; scratch = u.scratch }
 
-type-made : (tokens nodes types types' lists cells : List ℕ) (p : Parser) (t : TypeExpr) → is_going p.status ≡ true → cells ≡ type_cells t → types' ≡ paste types (type_width * p.used.types) cells (length cells)
-    → Refines tokens 1 0 (push_type t) (λ i. i ≡ record { 0 = p.used.types }) stack_unchanged 0 0 0 (code nodes types lists p) (code nodes types' lists (with_used p (type_made p.used)))
+pub making : (tokens cells : List ℕ) {types' : List ℕ} (s : Code) (t : TypeExpr) → going s ≡ true → cells ≡ type_cells t → types' ≡ paste s.types (type_width * s.parser.used.types) cells (length cells)
+    → Refines tokens 1 0 (push_type t) (λ i. i ≡ record { 0 = s.parser.used.types }) stack_unchanged 0 0 0 s (with_types (with_used s (type_made s.parser.used)) types')
 unfolding push_type with_arena
-type-made tokens nodes types types' lists cells p t g w e = record {
+making tokens cells {types'} s t g w e = record {
   sticky = λ f. absurd (true≢false g f);
+  same = refl;
   monotone = omega arith;
   progress = λ _. omega arith;
   simulates = λ R L stack m h.
-      let u : Used = p.used in
+      let u : Used = s.parser.used in
       let laid = h.related.types in
       let credit = h.related.credit in
       let some : 1 ≤ length m.left = left-some h.related in
       let eight : length cells ≡ type_width = ap length w ∙ cells-length t in
       let n : length (flatten (map type_cells m.arena.types)) ≡ type_width * u.types = omega (arith, types-length m.arena.types, laid.counted) in
       let room : length cells ≤ length laid.between = omega (arith, credit.records, h.related.lent.types, types-room laid) in
-      let more = growing type_cells m.arena.types t types types' laid.between (reverse (doc_cells m.docs)) cells (type_width * u.types) laid.laid n room w e in (
+      let more = growing type_cells m.arena.types t s.types types' laid.between (reverse (doc_cells m.docs)) cells (type_width * u.types) laid.laid n room w e in (
         (λ i. record { 0 = sym laid.counted i }),
         record {
           status = h.status;
@@ -142,12 +139,6 @@ type-made tokens nodes types types' lists cells p t g w e = record {
         },
       );
 }
-
-pub making : (tokens nodes types types' lists cells : List ℕ) {p q : Parser} {u : Used} (t : TypeExpr) → is_going p.status ≡ true → cells ≡ type_cells t → u ≡ p.used → q ≡ with_used p (type_made u) → types' ≡ paste types (type_width * u.types) cells (length cells)
-    → Refines tokens 1 0 (push_type t) (λ i. i ≡ record { 0 = u.types }) stack_unchanged 0 0 0 (code nodes types lists p) (code nodes types' lists q)
-making tokens nodes types types' lists cells {p} t g w e f = through_used p type_made
-    (λ (u : Used) (q : Parser). types' ≡ paste types (type_width * u.types) cells (length cells) → Refines tokens 1 0 (push_type t) (λ i. i ≡ record { 0 = u.types }) stack_unchanged 0 0 0 (code nodes types lists p) (code nodes types' lists q))
-    e f (type-made tokens nodes types types' lists cells p t g w)
 
 -- ---- nodes
 
@@ -181,15 +172,16 @@ pub nodes-room : {nodes : List ℕ} {c v : ℕ} {arena : List Node} {given : ℕ
 nodes-room {nodes} {c} {v} {arena} {given} h =
     omega (arith, h.counted, nodes-length arena, ap length h.laid ∙ length-append (flatten (map node_cells arena)) _, length-append h.between [])
 
-node_made_lem : (tokens nodes nodes' types lists cells : List ℕ) (p : Parser) (f : ℕ → Node) (more rooms : ℕ) → 1 + more ≤ 40000 * rooms → is_going p.status ≡ true → cells ≡ node_cells (f p.used.values) → nodes' ≡ paste nodes (node_width * p.used.nodes) cells (length cells)
-    → Refines tokens rooms 0 (push_node_and more f) (λ i. i ≡ record { 0 = p.used.nodes }) stack_unchanged 0 0 0 (code nodes types lists p) (code nodes' types lists (with_used p (node_made p.used more)))
+pub node_making : (tokens cells : List ℕ) {nodes' : List ℕ} (s : Code) (f : ℕ → Node) (more rooms : ℕ) → 1 + more ≤ 40000 * rooms → going s ≡ true → cells ≡ node_cells (f s.parser.used.values) → nodes' ≡ paste s.nodes (node_width * s.parser.used.nodes) cells (length cells)
+    → Refines tokens rooms 0 (push_node_and more f) (λ i. i ≡ record { 0 = s.parser.used.nodes }) stack_unchanged 0 0 0 s (with_nodes (with_used s (node_made s.parser.used more)) nodes')
 unfolding push_node_and with_arena
-node_made_lem tokens nodes nodes' types lists cells p f more rooms few g w e = record {
+node_making tokens cells {nodes'} s f more rooms few g w e = record {
   sticky = λ f. absurd (true≢false g f);
+  same = refl;
   monotone = omega arith;
   progress = λ _. omega arith;
   simulates = λ R L stack m h.
-      let u : Used = p.used in
+      let u : Used = s.parser.used in
       let laid = h.related.nodes in
       let credit = h.related.credit in
       let v : u.values ≡ m.arena.values = laid.valued in
@@ -199,7 +191,7 @@ node_made_lem tokens nodes nodes' types lists cells p f more rooms few g w e = r
       let wide : length cells ≡ node_width = ap length made ∙ node-length x in
       let n : length (flatten (map node_cells m.arena.nodes)) ≡ node_width * u.nodes = omega (arith, nodes-length m.arena.nodes, laid.counted) in
       let room : length cells ≤ length laid.between = omega (arith, credit.records, h.related.lent.nodes, nodes-room laid) in
-      let more' = growing node_cells m.arena.nodes x nodes nodes' laid.between [] cells (node_width * u.nodes) laid.laid n room made e in (
+      let more' = growing node_cells m.arena.nodes x s.nodes nodes' laid.between [] cells (node_width * u.nodes) laid.laid n room made e in (
         (λ i. record { 0 = sym laid.counted i }),
         record {
           status = h.status;
@@ -225,41 +217,6 @@ node_made_lem tokens nodes nodes' types lists cells p f more rooms few g w e = r
       );
 }
 
-pub node_making : (tokens nodes nodes' types lists cells : List ℕ) {p q : Parser} {u : Used} (f : ℕ → Node) (more rooms : ℕ) → 1 + more ≤ 40000 * rooms → is_going p.status ≡ true → cells ≡ node_cells (f p.used.values) → u ≡ p.used
-    → q ≡ with_used p (node_made u more) → nodes' ≡ paste nodes (node_width * u.nodes) cells (length cells)
-    → Refines tokens rooms 0 (push_node_and more f) (λ i. i ≡ record { 0 = u.nodes }) stack_unchanged 0 0 0 (code nodes types lists p) (code nodes' types lists q)
-node_making tokens nodes nodes' types lists cells {p} f more rooms few g w e h = through_used p (λ (u : Used). node_made u more)
-    (λ (u : Used) (q : Parser). nodes' ≡ paste nodes (node_width * u.nodes) cells (length cells) → Refines tokens rooms 0 (push_node_and more f) (λ i. i ≡ record { 0 = u.nodes }) stack_unchanged 0 0 0 (code nodes types lists p) (code nodes' types lists q))
-    e h (node_made_lem tokens nodes nodes' types lists cells p f more rooms few g w)
-
--- ---- room for a node
-
-pub record Room (len : ℕ) (p : Parser) : Type 0 where
-  pub going : is_going p.status ≡ true
-  pub records : p.used.nodes < max_bytes
-  pub cells : node_width * p.used.nodes + node_width ≤ len
-  pub values : p.used.values < 4000000000
-
-pub room : (len : ℕ) (p : Parser) → has_room len p ≡ true → Room len p
-unfolding has_room
-room len p e =
-    let a = and_both (is_going p.status) (ltb p.used.nodes max_bytes && (leb (node_width * p.used.nodes + node_width) len && ltb p.used.values 4000000000)) e in
-    let b = and_both (ltb p.used.nodes max_bytes) (leb (node_width * p.used.nodes + node_width) len && ltb p.used.values 4000000000) a.1 in
-    let c = and_both (leb (node_width * p.used.nodes + node_width) len) (ltb p.used.values 4000000000) b.1 in
-    record { going = a.0; records = ltb-true _ _ b.0; cells = leb-true _ _ c.0; values = ltb-true _ _ c.1 }
-
--- where the arrays hold a state there is room, unless the reading has failed
-pub no_room : (tokens nodes types lists : List ℕ) (p : Parser) (f : ℕ → Node) (more rooms : ℕ) {Q : NodeId → Type 0} → 1 + more ≤ 40000 * rooms → has_room (length nodes) p ≡ false
-    → Refines tokens rooms 0 (push_node_and more f) Q stack_unchanged 0 0 0 (code nodes types lists p) (code nodes types lists p)
-unfolding has_room
-no_room tokens nodes types lists p f more rooms few e = either (is_going p.status)
-    (λ g. full (λ R L stack m h.
-    let a : p.used.nodes < max_bytes = omega (arith, h.credit.records, h.lent.small, left-some h) in
-    let b : node_width * p.used.nodes + node_width ≤ length nodes = omega (arith, h.credit.records, h.lent.nodes, left-some h) in
-    let c : p.used.values < 4000000000 = omega (arith, h.credit.numbers, h.lent.small, left-some h) in
-    true≢false (rw (g, lt-ltb _ _ a, le-leb _ _ b, lt-ltb _ _ c) refl) e))
-    idle
-
 -- ---- cells under construction
 
 abbrev pub pushed : Used → ℕ → Used
@@ -271,22 +228,23 @@ lists-room {lists} {c} {k} {cells} {stack} h =
     omega (arith, h.counted, h.stacked, ap length h.laid ∙ length-append cells _, length-append h.between (reverse stack), length-reverse stack)
 
 -- cells that are written the last first before those are pushed
-cells-pushed : (tokens nodes types lists lists' vs : List ℕ) (p : Parser) → is_going p.status ≡ true → lists' ≡ paste lists (length lists - (p.used.scratch + length vs)) vs (length vs)
-    → Pushes tokens (2 * length vs) (reverse vs) (code nodes types lists p) (code nodes types lists' (with_used p (pushed p.used (length vs))))
+pub pushing : (tokens vs : List ℕ) {lists' : List ℕ} (s : Code) → going s ≡ true → lists' ≡ paste s.lists (length s.lists - (s.parser.used.scratch + length vs)) vs (length vs)
+    → Pushes tokens (2 * length vs) (reverse vs) s (with_lists (with_used s (pushed s.parser.used (length vs))) lists')
 unfolding pure
-cells-pushed tokens nodes types lists lists' vs p g e = record {
+pushing tokens vs {lists'} s g e = record {
   sticky = λ f. absurd (true≢false g f);
+  same = refl;
   monotone = omega arith;
   progress = λ _. omega arith;
   simulates = λ R L stack m h.
-      let u : Used = p.used in
+      let u : Used = s.parser.used in
       let laid = h.related.lists in
       let credit = h.related.credit in
-      let at : ℕ = length lists - (u.scratch + length vs) in
-      let all : length lists ≡ u.cells + (length laid.between + u.scratch) = lists-room laid in
+      let at : ℕ = length s.lists - (u.scratch + length vs) in
+      let all : length s.lists ≡ u.cells + (length laid.between + u.scratch) = lists-room laid in
       let some : 1 ≤ length m.left = left-some h.related in
       let room : length vs ≤ length laid.between = omega (arith, credit.room, h.related.lent.lists) in
-      let same : length lists' ≡ length lists = ap length e ∙ length-paste lists at vs (length vs) (omega arith) (omega arith) in
+      let same : length lists' ≡ length s.lists = ap length e ∙ length-paste s.lists at vs (length vs) (omega arith) (omega arith) in
       let new : lists' ≡ m.arena.cells ++ (take (length laid.between - length vs) laid.between ++ (vs ++ reverse stack)) =
       e ∙ ap (λ (l : List ℕ). paste l at vs (length vs)) laid.laid ∙ laid-last m.arena.cells vs laid.between (reverse stack) at room (omega (arith, laid.counted)) in (
         tt,
@@ -314,12 +272,6 @@ cells-pushed tokens nodes types lists lists' vs p g e = record {
       );
 }
 
-pub pushing : (tokens nodes types lists lists' vs : List ℕ) {p q : Parser} {u : Used} → is_going p.status ≡ true → u ≡ p.used → q ≡ with_used p (pushed u (length vs)) → lists' ≡ paste lists (length lists - (u.scratch + length vs)) vs (length vs)
-    → Pushes tokens (2 * length vs) (reverse vs) (code nodes types lists p) (code nodes types lists' q)
-pushing tokens nodes types lists lists' vs {p} g e f = through_used p (λ (u : Used). pushed u (length vs))
-    (λ (u : Used) (q : Parser). lists' ≡ paste lists (length lists - (u.scratch + length vs)) vs (length vs) → Pushes tokens (2 * length vs) (reverse vs) (code nodes types lists p) (code nodes types lists' q))
-    e f (cells-pushed tokens nodes types lists lists' vs p g)
-
 -- ---- a finished list
 
 abbrev pub finished : Used → ℕ → Used
@@ -341,32 +293,33 @@ moved_list between top base n scratch e k fits =
     let w : n ≡ length top = sym e in
     ap (λ (l : List ℕ). paste part 0 l n) cells ∙ rw w (laid-over [] top between (reverse top ++ base) 0 refl (omega arith))
 
-list-made : (tokens nodes types lists lists' : List ℕ) (p : Parser) (mark members : ℕ) → is_going p.status ≡ true → lists' ≡ take p.used.cells lists ++ moved (drop p.used.cells lists) (p.used.scratch - mark) p.used.scratch
-    → Lists tokens alloc_slice (record { start = p.used.cells; len = members }) 0 0 0 mark members (code nodes types lists p) (code nodes types lists' (with_used p (finished p.used mark)))
+pub allocating : (tokens : List ℕ) {lists' : List ℕ} (s : Code) (mark members : ℕ) → going s ≡ true → lists' ≡ take s.parser.used.cells s.lists ++ moved (drop s.parser.used.cells s.lists) (s.parser.used.scratch - mark) s.parser.used.scratch
+    → Lists tokens alloc_slice (record { start = s.parser.used.cells; len = members }) 0 0 0 mark members s (with_lists (with_used s (finished s.parser.used mark)) lists')
 unfolding alloc_slice with_arena
-list-made tokens nodes types lists lists' p mark members g e = record {
+allocating tokens {lists'} s mark members g e = record {
   sticky = λ f. absurd (true≢false g f);
+  same = refl;
   monotone = omega arith;
   progress = λ _. omega arith;
   simulates = λ R L stack xs m a b few h.
-      let u : Used = p.used in
+      let u : Used = s.parser.used in
       let laid = h.related.lists in
       let credit = h.related.credit in
       let top : List ℕ = flatten xs in
       let cells : List ℕ = m.arena.cells in
       let between : List ℕ = laid.between in
-      let all : length lists ≡ u.cells + (length between + u.scratch) = lists-room laid in
+      let all : length s.lists ≡ u.cells + (length between + u.scratch) = lists-room laid in
       let some : 1 ≤ length m.left = left-some h.related in
       let n : u.scratch ≡ length stack + length top = laid.stacked ∙ length-append stack top in
       let c : length cells ≡ u.cells = sym laid.counted in
-      let old : lists ≡ cells ++ (between ++ (reverse top ++ reverse stack)) = laid.laid ∙ rw (reverse-append stack top) refl in
-      let tail : drop u.cells lists ≡ between ++ (reverse top ++ reverse stack) = ap (drop u.cells) old ∙ drop_at cells _ u.cells c in
-      let front : take u.cells lists ≡ cells = ap (take u.cells) old ∙ take_at cells _ u.cells c in
+      let old : s.lists ≡ cells ++ (between ++ (reverse top ++ reverse stack)) = laid.laid ∙ rw (reverse-append stack top) refl in
+      let tail : drop u.cells s.lists ≡ between ++ (reverse top ++ reverse stack) = ap (drop u.cells) old ∙ drop_at cells _ u.cells c in
+      let front : take u.cells s.lists ≡ cells = ap (take u.cells) old ∙ take_at cells _ u.cells c in
       let new : lists' ≡ cells ++ (top ++ (drop (u.scratch - mark) between ++ (reverse top ++ reverse stack))) =
-      e ∙ ap (λ (l : List ℕ). l ++ moved (drop u.cells lists) (u.scratch - mark) u.scratch) front
+      e ∙ ap (λ (l : List ℕ). l ++ moved (drop u.cells s.lists) (u.scratch - mark) u.scratch) front
       ∙ ap (λ (l : List ℕ). cells ++ moved l (u.scratch - mark) u.scratch) tail
       ∙ ap (λ (l : List ℕ). cells ++ l) (moved_list between top (reverse stack) (u.scratch - mark) u.scratch (omega arith) (omega (arith, length-reverse stack)) (omega (arith, credit.room, h.related.lent.lists))) in
-      let same : length lists' ≡ length lists =
+      let same : length lists' ≡ length s.lists =
       omega (arith, ap length new ∙ length-append cells (top ++ (drop (u.scratch - mark) between ++ (reverse top ++ reverse stack))), length-append top (drop (u.scratch - mark) between ++ (reverse top ++ reverse stack)), length-append (drop (u.scratch - mark) between) (reverse top ++ reverse stack), length-drop (u.scratch - mark) between, length-append (reverse top) (reverse stack), length-reverse top, length-reverse stack, credit.room, h.related.lent.lists) in (
         (λ i. record { start = c i; len = b i }),
         record {
@@ -393,12 +346,6 @@ list-made tokens nodes types lists lists' p mark members g e = record {
       );
 }
 
-pub allocating : (tokens nodes types lists lists' : List ℕ) {p q : Parser} {u : Used} (mark members : ℕ) → is_going p.status ≡ true → u ≡ p.used → q ≡ with_used p (finished u mark) → lists' ≡ take u.cells lists ++ moved (drop u.cells lists) (u.scratch - mark) u.scratch
-    → Lists tokens alloc_slice (record { start = u.cells; len = members }) 0 0 0 mark members (code nodes types lists p) (code nodes types lists' q)
-allocating tokens nodes types lists lists' {p} mark members g e f = through_used p (λ (u : Used). finished u mark)
-    (λ (u : Used) (q : Parser). lists' ≡ take u.cells lists ++ moved (drop u.cells lists) (u.scratch - mark) u.scratch → Lists tokens alloc_slice (record { start = u.cells; len = members }) 0 0 0 mark members (code nodes types lists p) (code nodes types lists' q))
-    e f (list-made tokens nodes types lists lists' p mark members g)
-
 -- what a part from a place to the end was, and the whole with another there
 pub tail_mid : (a : ℕ) (xs : List ℕ) → mid_of a (length xs - a) xs ≡ drop a xs
 tail_mid a xs = take_all (length xs - a) (drop a xs) (omega (arith, length-drop a xs))
@@ -407,19 +354,6 @@ pub tail_put : (a : ℕ) (xs ys zs : List ℕ) → ys ≡ zs → put_mid a (leng
 tail_put a xs ys zs e = let none : drop (length xs - a) (drop a xs) ≡ [] = drop_of_length-le (drop a xs) {i = length xs - a} (omega (arith, length-drop a xs)) in ap (λ (l : List ℕ). take a xs ++ (ys ++ l)) none ∙ ap (λ (l : List ℕ). take a xs ++ l) (append-nil ys ∙ e)
 
 -- ---- cells that are copied
-
--- cells behind cells
-pub both-put : (dst xs ys : List ℕ) {d d' : List ℕ} (at : ℕ) → at + (length xs + length ys) ≤ length dst → d ≡ paste dst at xs (length xs) → d' ≡ paste d (at + length xs) ys (length ys) → d' ≡ paste dst at (xs ++ ys) (length (xs ++ ys))
-both-put dst xs ys {d} at h e f =
-    let n : ℕ = length xs in
-    let k : ℕ = length ys in
-    let a : take (at + n) (paste dst at xs n) ≡ take at dst ++ take n xs = take-paste dst at xs n (omega arith) (omega arith) in
-    let b : drop (at + n + k) (paste dst at xs n) ≡ drop (at + (n + k)) dst =
-    sym (drop-drop k (at + n) (paste dst at xs n)) ∙ ap (drop k) (drop-paste dst at xs n (omega arith) (omega arith)) ∙ drop-drop k (at + n) dst ∙ ap (λ (j : ℕ). drop j dst) {x = at + n + k} {y = at + (n + k)} (omega arith) in
-    let c : take n xs ≡ xs = take_all n xs (omega arith) in
-    let c' : take k ys ≡ ys = take_all k ys (omega arith) in
-    let all : take (length (xs ++ ys)) (xs ++ ys) ≡ xs ++ ys = take_all (length (xs ++ ys)) (xs ++ ys) (omega arith) in
-    f ∙ ap (λ (l : List ℕ). paste l (at + n) ys k) e ∙ rw (a, b, c, c', all, length-append xs ys) (simp append_assoc)
 
 -- a cell of a list in reverse
 get_d_reverse : (l : List ℕ) (i : ℕ) → i < length l → get_or (reverse l) i 0 ≡ get_or l (length l - 1 - i) 0

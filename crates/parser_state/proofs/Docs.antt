@@ -11,12 +11,11 @@ use Rattle.rules.specs.Tree.{State, Result, ok, err}
 use Rattle.rules.specs.Combinators.{Rule, ◌>>◌, current, pure, if_kind, at_token, keep_doc, with_docs, with_arena, take_docs, alloc_slice, continue}
 use Rattle.ast.specs.Layout.{token_cells, type_cells}
 use Rattle.rules.specs.Rules.{last_of, require_no_docs}
-use Rattle.parser_state.specs.Represents.{Code, code, with_used, is_going, doc_cells, Near, AllNear, Represents}
-use Rattle.parser_state.specs.Refines.{Ends, stack_unchanged, Refines, no_docs_wait, failed, at_entry, doc_at}
-use Rattle.parser_state.specs.declared.Parser.{Parser}
+use Rattle.parser_state.specs.Represents.{Code, with_used, with_types, with_lists, going, doc_cells, Near, AllNear, Represents}
+use Rattle.parser_state.specs.Refines.{Ends, stack_unchanged, Refines, FailsWith, no_docs_wait, failed, at_entry, doc_at}
 use Rattle.parser_state.specs.declared.Used.{Used}
 use Rattle.parser_state.proofs.Steps.{as_rule, either, true≢false, left-some, current_represents, represents_less}
-use Rattle.parser_state.proofs.Leaves.{through_used, failing_at, at-entry}
+use Rattle.parser_state.proofs.Leaves.{failing_at, at-entry}
 use Rattle.parser_state.proofs.Cells.{laid-last, laid-over, flatten_snoc, map_snoc, types-length, docs-length, types-room, lists-room}
 use Rattle.parser_state.proofs.Rounds.{if_kind_is_yes, if_kind_is_no}
 
@@ -40,16 +39,16 @@ near-snoc : (ds : List Token) (d : Token) → AllNear ds → Near d → AllNear 
 near-snoc [] d h e = (e, tt)
 near-snoc (x ∷ ds) d h e = (h.0, near-snoc ds d h.1 e)
 
-doc_kept_lem : (tokens nodes types types' lists : List ℕ) (p : Parser) (i n : ℕ) (t : Entry) → is_going p.status ≡ true → token_of t ≡ token_at tokens i
-    → types' ≡ paste types (length types - (3 * p.used.docs + 3)) (t.len ∷ t.start ∷ t.kind ∷ []) 3
-    → Refines tokens 1 3 (keep_doc n (token_at tokens i)) (λ c. c ≡ continue n) stack_unchanged 0 0 0 (code nodes types lists p) (code nodes types' lists (with_used p (doc_kept p.used)))
+pub keeping : (tokens : List ℕ) {types' : List ℕ} (s : Code) (i n : ℕ) (t : Entry) → going s ≡ true → token_of t ≡ token_at tokens i → types' ≡ paste s.types (length s.types - (3 * s.parser.used.docs + 3)) (t.len ∷ t.start ∷ t.kind ∷ []) 3
+    → Refines tokens 1 3 (keep_doc n (token_at tokens i)) (λ c. c ≡ continue n) stack_unchanged 0 0 0 s (with_types (with_used s (doc_kept s.parser.used)) types')
 unfolding with_docs
-doc_kept_lem tokens nodes types types' lists p i n t g named e = record {
+keeping tokens {types'} s i n t g named e = record {
   sticky = λ f. absurd (true≢false g f);
+  same = refl;
   monotone = omega arith;
   progress = λ _. omega arith;
   simulates = λ R L stack m h.
-      let u : Used = p.used in
+      let u : Used = s.parser.used in
       let d : Token = token_at tokens i in
       let laid = h.related.types in
       let credit = h.related.credit in
@@ -58,11 +57,11 @@ doc_kept_lem tokens nodes types types' lists p i n t g named e = record {
       let j : length front ≡ 8 * u.types = omega (arith, types-length m.arena.types, laid.counted) in
       let vs : List ℕ = t.len ∷ t.start ∷ t.kind ∷ [] in
       let ws : vs ≡ d.len ∷ d.start ∷ d.kind ∷ [] = ap (λ (x : Token). x.len ∷ x.start ∷ x.kind ∷ []) named in
-      let all : length types ≡ 8 * u.types + (length laid.between + 3 * u.docs) = types-room laid in
+      let all : length s.types ≡ 8 * u.types + (length laid.between + 3 * u.docs) = types-room laid in
       let room : 3 ≤ length laid.between = omega (arith, credit.records, h.related.lent.types) in
-      let same : length types' ≡ length types = ap length e ∙ length-paste types (length types - (3 * u.docs + 3)) vs 3 (omega arith) (omega arith) in
+      let same : length types' ≡ length s.types = ap length e ∙ length-paste s.types (length s.types - (3 * u.docs + 3)) vs 3 (omega arith) (omega arith) in
       let new : types' ≡ front ++ (take (length laid.between - 3) laid.between ++ (vs ++ reverse (doc_cells m.docs))) =
-      e ∙ ap (λ (l : List ℕ). paste l (length types - (3 * u.docs + 3)) vs 3) laid.laid ∙ laid-last front vs laid.between (reverse (doc_cells m.docs)) (length types - (3 * u.docs + 3)) room (omega arith) in (
+      e ∙ ap (λ (l : List ℕ). paste l (length s.types - (3 * u.docs + 3)) vs 3) laid.laid ∙ laid-last front vs laid.between (reverse (doc_cells m.docs)) (length s.types - (3 * u.docs + 3)) room (omega arith) in (
         refl,
         record {
           status = h.status;
@@ -90,13 +89,6 @@ doc_kept_lem tokens nodes types types' lists p i n t g named e = record {
       );
 }
 
-pub keeping : (tokens nodes types types' lists : List ℕ) {p q : Parser} {u : Used} (i n : ℕ) (t : Entry) → is_going p.status ≡ true → token_of t ≡ token_at tokens i → u ≡ p.used
-    → q ≡ with_used p (doc_kept u) → types' ≡ paste types (length types - (3 * u.docs + 3)) (t.len ∷ t.start ∷ t.kind ∷ []) 3
-    → Refines tokens 1 3 (keep_doc n (token_at tokens i)) (λ c. c ≡ continue n) stack_unchanged 0 0 0 (code nodes types lists p) (code nodes types' lists q)
-keeping tokens nodes types types' lists {p} i n t g w e f = through_used p doc_kept
-    (λ (u : Used) (q : Parser). types' ≡ paste types (length types - (3 * u.docs + 3)) (t.len ∷ t.start ∷ t.kind ∷ []) 3 → Refines tokens 1 3 (keep_doc n (token_at tokens i)) (λ c. c ≡ continue n) stack_unchanged 0 0 0 (code nodes types lists p) (code nodes types' lists q))
-    e f (doc_kept_lem tokens nodes types types' lists p i n t g w)
-
 -- ---- the move of all
 
 abbrev pub docs_taken : Used → Used
@@ -106,15 +98,16 @@ docs_taken u = record { nodes = u.nodes; values = u.values; types = u.types; doc
 abbrev pub docs_moved : List ℕ → List ℕ → ℕ → ℕ → List ℕ
 docs_moved types lists at n = paste lists at (reverse (drop (length types - n) types)) n
 
-docs-taken : (tokens nodes types lists lists' : List ℕ) (p : Parser) → is_going p.status ≡ true → lists' ≡ docs_moved types lists p.used.cells (3 * p.used.docs)
-    → Refines tokens 0 0 take_docs (λ t. t ≡ record { start = p.used.cells; len = p.used.docs }) stack_unchanged 0 0 0 (code nodes types lists p) (code nodes types lists' (with_used p (docs_taken p.used)))
+pub attaching : (tokens : List ℕ) {lists' : List ℕ} (s : Code) → going s ≡ true → lists' ≡ docs_moved s.types s.lists s.parser.used.cells (3 * s.parser.used.docs)
+    → Refines tokens 0 0 take_docs (λ t. t ≡ record { start = s.parser.used.cells; len = s.parser.used.docs }) stack_unchanged 0 0 0 s (with_lists (with_used s (docs_taken s.parser.used)) lists')
 unfolding take_docs with_docs alloc_slice with_arena flatten
-docs-taken tokens nodes types lists lists' p g e = record {
+attaching tokens {lists'} s g e = record {
   sticky = λ z. absurd (true≢false g z);
+  same = refl;
   monotone = omega arith;
   progress = λ _. omega arith;
   simulates = λ R L stack m h.
-      let u : Used = p.used in
+      let u : Used = s.parser.used in
       let laid = h.related.types in
       let listed = h.related.lists in
       let credit = h.related.credit in
@@ -123,16 +116,16 @@ docs-taken tokens nodes types lists lists' p g e = record {
       let n : length top ≡ 3 * u.docs = omega (arith, docs-length m.docs, laid.doc_counted) in
       let k : length front ≡ 8 * u.types = omega (arith, types-length m.arena.types, laid.counted) in
       let some : 1 ≤ length m.left = left-some h.related in
-      let all : length types ≡ 8 * u.types + (length laid.between + 3 * u.docs) = types-room laid in
-      let whole : length lists ≡ u.cells + (length listed.between + u.scratch) = lists-room listed in
+      let all : length s.types ≡ 8 * u.types + (length laid.between + 3 * u.docs) = types-room laid in
+      let whole : length s.lists ≡ u.cells + (length listed.between + u.scratch) = lists-room listed in
       let room : length top ≤ length listed.between = omega (arith, credit.room, h.related.lent.lists) in
-      let split : types ≡ (front ++ laid.between) ++ reverse top = laid.laid ∙ sym (append_assoc front laid.between (reverse top)) in
-      let place : length (front ++ laid.between) ≡ length types - 3 * u.docs = omega (arith, length-append front laid.between) in
-      let cells : reverse (drop (length types - 3 * u.docs) types) ≡ top = ap (λ (l : List ℕ). reverse (drop (length types - 3 * u.docs) l)) split ∙ ap reverse (drop_at (front ++ laid.between) (reverse top) (length types - 3 * u.docs) place) ∙ reverse-reverse top in
+      let split : s.types ≡ (front ++ laid.between) ++ reverse top = laid.laid ∙ sym (append_assoc front laid.between (reverse top)) in
+      let place : length (front ++ laid.between) ≡ length s.types - 3 * u.docs = omega (arith, length-append front laid.between) in
+      let cells : reverse (drop (length s.types - 3 * u.docs) s.types) ≡ top = ap (λ (l : List ℕ). reverse (drop (length s.types - 3 * u.docs) l)) split ∙ ap reverse (drop_at (front ++ laid.between) (reverse top) (length s.types - 3 * u.docs) place) ∙ reverse-reverse top in
       let new : lists' ≡ (m.arena.cells ++ top) ++ (drop (length top) listed.between ++ reverse stack) =
-      e ∙ ap (λ (l : List ℕ). paste lists u.cells l (3 * u.docs)) cells ∙ ap (λ (j : ℕ). paste lists u.cells top j) (sym n)
+      e ∙ ap (λ (l : List ℕ). paste s.lists u.cells l (3 * u.docs)) cells ∙ ap (λ (j : ℕ). paste s.lists u.cells top j) (sym n)
       ∙ ap (λ (l : List ℕ). paste l u.cells top (length top)) listed.laid ∙ laid-over m.arena.cells top listed.between (reverse stack) u.cells (sym listed.counted) room in
-      let same : length lists' ≡ length lists = ap length e ∙ length-paste lists u.cells (reverse (drop (length types - 3 * u.docs) types)) (3 * u.docs) (omega (arith, ap length cells)) (omega (arith, ap length cells)) in
+      let same : length lists' ≡ length s.lists = ap length e ∙ length-paste s.lists u.cells (reverse (drop (length s.types - 3 * u.docs) s.types)) (3 * u.docs) (omega (arith, ap length cells)) (omega (arith, ap length cells)) in
       let count : length (map token_cells m.docs) ≡ u.docs = length-map m.docs token_cells ∙ sym laid.doc_counted in (
         (λ i. record { start = sym listed.counted i; len = count i }),
         record {
@@ -164,12 +157,6 @@ docs-taken tokens nodes types lists lists' p g e = record {
         },
       );
 }
-
-pub attaching : (tokens nodes types lists lists' : List ℕ) {p q : Parser} {u : Used} → is_going p.status ≡ true → u ≡ p.used → q ≡ with_used p (docs_taken u) → lists' ≡ docs_moved types lists u.cells (3 * u.docs)
-    → Refines tokens 0 0 take_docs (λ t. t ≡ record { start = u.cells; len = u.docs }) stack_unchanged 0 0 0 (code nodes types lists p) (code nodes types lists' q)
-attaching tokens nodes types lists lists' {p} g e f = through_used p docs_taken
-    (λ (u : Used) (q : Parser). lists' ≡ docs_moved types lists u.cells (3 * u.docs) → Refines tokens 0 0 take_docs (λ t. t ≡ record { start = u.cells; len = u.docs }) stack_unchanged 0 0 0 (code nodes types lists p) (code nodes types lists' q))
-    e f (docs-taken tokens nodes types lists lists' p g)
 
 -- ---- docs that nothing takes
 
@@ -216,58 +203,60 @@ last-near d (e ∷ es) h = last-near e es h.1
 by_docs : State → List Token → Result ℕ
 by_docs m ds = elim ds [ [] ↦ ok 0 m | d ∷ ds ↦ if_kind k_eof (λ t. err (at_token 13 0 (last_of d ds)) t) (λ t. err (at_token 14 0 d) t) m ]
 
-pub docs-none : (tokens nodes types lists : List ℕ) (p : Parser) → p.used.docs ≡ 0 → Refines tokens 0 0 no_docs_wait (λ n. n ≡ 0) stack_unchanged 0 0 0 (code nodes types lists p) (code nodes types lists p)
+pub docs-none : (tokens : List ℕ) (s : Code) → s.parser.used.docs ≡ 0 → Refines tokens 0 0 no_docs_wait (λ n. n ≡ 0) stack_unchanged 0 0 0 s s
 unfolding no_docs_wait require_no_docs pure by_docs
-docs-none tokens nodes types lists p e = record {
+docs-none tokens s e = record {
   sticky = λ _. refl;
+  same = refl;
   monotone = omega arith;
   progress = λ _. omega arith;
   simulates = λ R L stack m h. go R L stack m h m.docs h.related.types.doc_counted;
 }
   where
-    go : (R L : ℕ) (stack : List ℕ) (m : State) → Represents tokens (code nodes types lists p) (R + 0) (L + 0) stack m → (ds : List Token) → p.used.docs ≡ length ds
-        → Ends {A = ℕ} tokens (λ n. n ≡ 0) stack_unchanged (code nodes types lists p) R L 0 0 stack (by_docs m ds)
+    go : (R L : ℕ) (stack : List ℕ) (m : State) → Represents tokens s (R + 0) (L + 0) stack m → (ds : List Token) → s.parser.used.docs ≡ length ds
+        → Ends {A = ℕ} tokens (λ n. n ≡ 0) stack_unchanged s R L 0 0 stack (by_docs m ds)
     go R L stack m h [] n = (refl, h)
     go R L stack m h (d ∷ ds) n = absurd (omega arith)
 
-docs_bad : (tokens nodes types lists : List ℕ) (p : Parser) (number at : ℕ) → is_going p.status ≡ true → (p.used.docs ≡ 0 → ⊥)
-    → (eqb p.cur.kind k_eof ≡ true → (number ≡ 13) × (at ≡ length types - 3 * p.used.docs)) → (eqb p.cur.kind k_eof ≡ false → (number ≡ 14) × (at ≡ length types - 3))
-    → Refines tokens 0 0 no_docs_wait (λ n. n ≡ 0) stack_unchanged 0 0 0 (code nodes types lists p) (code nodes types lists (failed p (at_entry number 0 (token_of (doc_at types at)))))
+docs_bad : (tokens : List ℕ) (s : Code) (number at : ℕ) → going s ≡ true → (s.parser.used.docs ≡ 0 → ⊥)
+    → (eqb s.parser.cur.kind k_eof ≡ true → (number ≡ 13) × (at ≡ length s.types - 3 * s.parser.used.docs)) → (eqb s.parser.cur.kind k_eof ≡ false → (number ≡ 14) × (at ≡ length s.types - 3))
+    → Refines tokens 0 0 no_docs_wait (λ n. n ≡ 0) stack_unchanged 0 0 0 s (failed s (at_entry number 0 (token_of (doc_at s.types at))))
 unfolding no_docs_wait require_no_docs pure by_docs
-docs_bad tokens nodes types lists p number at g waits at_eof elsewhere = record {
+docs_bad tokens s number at g waits at_eof elsewhere = record {
   sticky = λ f. absurd (true≢false g f);
+  same = refl;
   monotone = omega arith;
   progress = λ e. absurd (true≢false e refl);
   simulates = λ R L stack m h. go R L stack m h h.related.types.between m.docs h.related.types.doc_counted h.related.types.near (h.related.types.laid ∙ sym (append_assoc (flatten (map type_cells m.arena.types)) h.related.types.between (reverse (doc_cells m.docs))));
 }
   where
     after : Code
-    after = code nodes types lists (failed p (at_entry number 0 (token_of (doc_at types at))))
+    after = failed s (at_entry number 0 (token_of (doc_at s.types at)))
 
     -- the error is the rule's
-    named : (number' : ℕ) (d : Token) → number ≡ number' → token_of (doc_at types at) ≡ d → Near d → at_entry number 0 (token_of (doc_at types at)) ≡ at_token number' 0 d
+    named : (number' : ℕ) (d : Token) → number ≡ number' → token_of (doc_at s.types at) ≡ d → Near d → at_entry number 0 (token_of (doc_at s.types at)) ≡ at_token number' 0 d
     named number' d e w near = (λ i. at_entry (e i) 0 (w i)) ∙ at-entry number' 0 d near
 
-    go : (R L : ℕ) (stack : List ℕ) (m : State) → Represents tokens (code nodes types lists p) (R + 0) (L + 0) stack m → (between : List ℕ) (ds : List Token) → p.used.docs ≡ length ds → AllNear ds
-        → types ≡ (flatten (map type_cells m.arena.types) ++ between) ++ reverse (doc_cells ds)
+    go : (R L : ℕ) (stack : List ℕ) (m : State) → Represents tokens s (R + 0) (L + 0) stack m → (between : List ℕ) (ds : List Token) → s.parser.used.docs ≡ length ds → AllNear ds
+        → s.types ≡ (flatten (map type_cells m.arena.types) ++ between) ++ reverse (doc_cells ds)
         → Ends {A = ℕ} tokens (λ n. n ≡ 0) stack_unchanged after R L 0 0 stack (by_docs m ds)
     go R L stack m h between [] n near e = absurd (waits n)
     go R L stack m h between (d ∷ ds) n near e =
         let front : List ℕ = flatten (map type_cells m.arena.types) ++ between in
-        let h₀ : Represents tokens (code nodes types lists p) R L stack m = represents_less _ _ (omega arith) (omega arith) h in
-        let kind : (current m.left).kind ≡ p.cur.kind = ap (λ (t : Token). t.kind) (current_represents h.related) in
-        either (eqb p.cur.kind k_eof)
+        let h₀ : Represents tokens s R L stack m = represents_less _ _ (omega arith) (omega arith) h in
+        let kind : (current m.left).kind ≡ s.parser.cur.kind = ap (λ (t : Token). t.kind) (current_represents h.related) in
+        either (eqb s.parser.cur.kind k_eof)
         (λ f. subst (Ends {A = ℕ} tokens (λ n. n ≡ 0) stack_unchanged after R L 0 0 stack) (sym (if_kind_is_yes k_eof (λ t. err (at_token 13 0 (last_of d ds)) t) (λ t. err (at_token 14 0 d) t) m (rw kind f)))
-        (failing_at _ _ (named 13 (last_of d ds) (at_eof f).0 (ap (λ (k : ℕ). token_of (doc_at types k)) ((at_eof f).1 ∙ ap (λ (j : ℕ). length types - 3 * j) n) ∙ last-doc types front d ds e) (last-near d ds near)) h₀))
+        (failing_at _ _ (named 13 (last_of d ds) (at_eof f).0 (ap (λ (k : ℕ). token_of (doc_at s.types k)) ((at_eof f).1 ∙ ap (λ (j : ℕ). length s.types - 3 * j) n) ∙ last-doc s.types front d ds e) (last-near d ds near)) h₀))
         (λ f. subst (Ends {A = ℕ} tokens (λ n. n ≡ 0) stack_unchanged after R L 0 0 stack) (sym (if_kind_is_no k_eof (λ t. err (at_token 13 0 (last_of d ds)) t) (λ t. err (at_token 14 0 d) t) m (rw kind f)))
-        (failing_at _ _ (named 14 d (elsewhere f).0 (ap (λ (k : ℕ). token_of (doc_at types k)) (elsewhere f).1 ∙ first-doc types front d ds e) near.0) h₀))
+        (failing_at _ _ (named 14 d (elsewhere f).0 (ap (λ (k : ℕ). token_of (doc_at s.types k)) (elsewhere f).1 ∙ first-doc s.types front d ds e) near.0) h₀))
 
-pub docs-fail : (tokens nodes types lists : List ℕ) (p r : Parser) (number at : ℕ) (d : Entry) → d ≡ doc_at types at → r ≡ failed p (at_entry number 0 (token_of d)) → is_going p.status ≡ true → (p.used.docs ≡ 0 → ⊥)
-    → (eqb p.cur.kind k_eof ≡ true → (number ≡ 13) × (at ≡ length types - 3 * p.used.docs)) → (eqb p.cur.kind k_eof ≡ false → (number ≡ 14) × (at ≡ length types - 3))
-    → Refines tokens 0 0 no_docs_wait (λ n. n ≡ 0) stack_unchanged 0 0 0 (code nodes types lists p) (code nodes types lists r)
-docs-fail tokens nodes types lists p r number at d e f g waits at_eof elsewhere =
-    subst (λ (q : Parser). Refines tokens 0 0 no_docs_wait (λ n. n ≡ 0) stack_unchanged 0 0 0 (code nodes types lists p) (code nodes types lists q)) (sym (f ∙ ap (λ (t : Entry). failed p (at_entry number 0 (token_of t))) e))
-    (docs_bad tokens nodes types lists p number at g waits at_eof elsewhere)
+pub docs-fail : (tokens : List ℕ) {s s' : Code} (number at : ℕ) (d : Entry) → d ≡ doc_at s.types at → FailsWith (at_entry number 0 (token_of d)) s s' → going s ≡ true → (s.parser.used.docs ≡ 0 → ⊥)
+    → (eqb s.parser.cur.kind k_eof ≡ true → (number ≡ 13) × (at ≡ length s.types - 3 * s.parser.used.docs)) → (eqb s.parser.cur.kind k_eof ≡ false → (number ≡ 14) × (at ≡ length s.types - 3))
+    → Refines tokens 0 0 no_docs_wait (λ n. n ≡ 0) stack_unchanged 0 0 0 s s'
+docs-fail tokens {s} number at d e f g waits at_eof elsewhere =
+    subst (Refines tokens 0 0 no_docs_wait (λ n. n ≡ 0) stack_unchanged 0 0 0 s) (sym (f.0 g ∙ ap (λ (t : Entry). failed s (at_entry number 0 (token_of t))) e))
+    (docs_bad tokens s number at g waits at_eof elsewhere)
 
 -- the rule goes on where no docs wait
 module _ {A : Type 0} {tokens : List ℕ} {Q : A → Type 0} {grow : A → List ℕ → List ℕ} {r l d r' l' : ℕ} {s s' : Code} (x : Rule A) where

@@ -11,10 +11,8 @@ use Rattle.tokens.specs.declared.Entry.{Entry}
 use Rattle.tokens.proofs.Records.{tokens-last, tokens_more}
 use Rattle.rules.specs.Tree.{State}
 use Rattle.rules.specs.Combinators.{Rule, rest, advance, at_token}
-use Rattle.parser_state.specs.Represents.{Failed, with_token, with_used, Near, Code, code, going, is_going, from, Related, Represents, FailedAt}
-use Rattle.parser_state.specs.Refines.{stack_unchanged, Refines, Refuses, Takes, Lists, fail_at, failed, at_entry}
-use Rattle.parser_state.specs.declared.Parser.{Parser}
-use Rattle.parser_state.specs.declared.Used.{Used}
+use Rattle.parser_state.specs.Represents.{Failed, with_token, Near, Code, going, from, Related, Represents, FailedAt}
+use Rattle.parser_state.specs.Refines.{stack_unchanged, Refines, Refuses, Takes, Lists, FailsWith, fail_at, failed, at_entry}
 use Rattle.parser_state.proofs.Steps.{either, true≢false, some-from, represents_going, represents_less, current_represents}
 
 -- ---- nothing is done
@@ -23,6 +21,7 @@ use Rattle.parser_state.proofs.Steps.{either, true≢false, some-from, represent
 pub idle : {A : Type 0} {tokens : List ℕ} {x : Rule A} {Q : A → Type 0} {grow : A → List ℕ → List ℕ} {r l d r' l' : ℕ} {s : Code} → going s ≡ false → Refines tokens r l x Q grow d r' l' s s
 idle g = record {
   sticky = λ e. refl;
+  same = refl;
   monotone = omega arith;
   progress = λ e. absurd (true≢false e g);
   simulates = λ R L stack m h. absurd (true≢false (represents_going h) g);
@@ -33,14 +32,21 @@ pub full : {A : Type 0} {tokens : List ℕ} {x : Rule A} {Q : A → Type 0} {gro
     → ((R L : ℕ) (stack : List ℕ) (m : State) → Related tokens s (R + r) (L + l) stack m → ⊥) → Refines tokens r l x Q grow 0 r' l' s s
 full f = record {
   sticky = λ e. refl;
+  same = refl;
   monotone = omega arith;
   progress = λ e. omega arith;
   simulates = λ R L stack m h. absurd (f R L stack m h.related);
 }
 
+-- there is no place, which happens only where the reading has failed
+pub no_place : {A : Type 0} {tokens : List ℕ} {x : Rule A} {Q : A → Type 0} {grow : A → List ℕ → List ℕ} {r l r' l' : ℕ} {s : Code} {Few Fits : Type 0}
+    → (going s ≡ true → Few → Fits → ⊥) → ((R L : ℕ) (stack : List ℕ) (m : State) → Related tokens s (R + r) (L + l) stack m → Few × Fits) → Refines tokens r l x Q grow 0 r' l' s s
+no_place {s = s} none f = either (going s) (λ g. full (λ R L stack m h. let room = f R L stack m h in none g room.0 room.1)) idle
+
 pub lists_idle : {A : Type 0} {tokens : List ℕ} {x : List (List ℕ) → Rule A} {run : A} {d r' l' mark n : ℕ} {s : Code} → going s ≡ false → Lists tokens x run d r' l' mark n s s
 lists_idle g = record {
   sticky = λ e. refl;
+  same = refl;
   monotone = omega arith;
   progress = λ e. absurd (true≢false e g);
   simulates = λ R L stack xs m a b few h. absurd (true≢false (represents_going h) g);
@@ -50,16 +56,11 @@ pub lists_full : {A : Type 0} {tokens : List ℕ} {x : List (List ℕ) → Rule 
     → ((R L : ℕ) (stack : List ℕ) (xs : List (List ℕ)) (m : State) → length stack ≡ mark → length xs ≡ n → length xs + length m.left ≤ max_bytes + 1 → Related tokens s R L (stack ++ flatten xs) m → ⊥) → Lists tokens x run 0 r' l' mark n s s
 lists_full f = record {
   sticky = λ e. refl;
+  same = refl;
   monotone = omega arith;
   progress = λ e. omega arith;
   simulates = λ R L stack xs m a b few h. absurd (f R L stack xs m a b few h.related);
 }
-
--- ---- counts
-
--- what holds of a parser's counts and of the parser with others also holds of what was read of them and of the parser that was written
-pub through_used : (p : Parser) (f : Used → Used) (P : Used → Parser → Type 0) {u : Used} {q : Parser} → u ≡ p.used → q ≡ with_used p (f u) → P p.used (with_used p (f p.used)) → P u q
-through_used p f P {u} e w h = subst (λ (r : Parser). P u r) (sym w) (subst (λ (v : Used). P v (with_used p (f v))) (sym e) h)
 
 -- ---- tokens
 
@@ -82,17 +83,18 @@ rest_from tokens c t at = go (eqb t.kind k_eof)
     go true = refl
     go false = refl
 
-module _ (tokens : List ℕ) (p : Parser) (t : Entry) where
+module _ (tokens : List ℕ) (s : Code) (t : Entry) where
   -- the token of the next record
-  pub taking : is_going p.status ≡ true → (p.cur.kind ≡ k_eof → ⊥) → token_of t ≡ token_at tokens (p.at + 1) → Takes tokens advance p (with_token p t (p.at + 1))
+  pub taking : going s ≡ true → (s.parser.cur.kind ≡ k_eof → ⊥) → token_of t ≡ token_at tokens (s.parser.at + 1) → Takes tokens advance s (with_token s t (s.parser.at + 1))
   unfolding advance
-  taking g k e nodes types lists = record {
+  taking g k e = record {
     sticky = λ f. absurd (true≢false g f);
+    same = refl;
     monotone = omega (arith, ap length more);
     progress = λ _. omega (arith, ap length more);
     simulates = λ R L stack m h.
-        let l : m.left ≡ token_of p.cur ∷ from tokens (token_of t) (p.at + 1) = h.related.left ∙ more in
-        let l' : rest m.left ≡ from tokens (token_of t) (p.at + 1) = ap rest l ∙ rest_from tokens (token_of p.cur) (token_of t) (p.at + 1) in (
+        let l : m.left ≡ token_of s.parser.cur ∷ from tokens (token_of t) (s.parser.at + 1) = h.related.left ∙ more in
+        let l' : rest m.left ≡ from tokens (token_of t) (s.parser.at + 1) = ap rest l ∙ rest_from tokens (token_of s.parser.cur) (token_of t) (s.parser.at + 1) in (
           current_represents h.related,
           record {
             status = h.status;
@@ -117,27 +119,28 @@ module _ (tokens : List ℕ) (p : Parser) (t : Entry) where
         );
   }
     where
-      more : from tokens (token_of p.cur) p.at ≡ token_of p.cur ∷ from tokens (token_of t) (p.at + 1)
-      more = from_more tokens (token_of p.cur) p.at (ne_eqb p.cur.kind k_eof k) ∙ ap (λ (ts : List Token). token_of p.cur ∷ ts) (ap (tokens_from tokens) {x = suc p.at} {y = p.at + 1} (omega arith) ∙ from_at tokens (p.at + 1) ∙ ap (λ (u : Token). from tokens u (p.at + 1)) (sym e))
+      more : from tokens (token_of s.parser.cur) s.parser.at ≡ token_of s.parser.cur ∷ from tokens (token_of t) (s.parser.at + 1)
+      more = from_more tokens (token_of s.parser.cur) s.parser.at (ne_eqb s.parser.cur.kind k_eof k) ∙ ap (λ (ts : List Token). token_of s.parser.cur ∷ ts) (ap (tokens_from tokens) {x = suc s.parser.at} {y = s.parser.at + 1} (omega arith) ∙ from_at tokens (s.parser.at + 1) ∙ ap (λ (u : Token). from tokens u (s.parser.at + 1)) (sym e))
 
 -- no script has so many tokens
-pub taking_past : (tokens : List ℕ) (p : Parser) (start len : ℕ) → is_going p.status ≡ true → (p.cur.kind ≡ k_eof → ⊥) → max_bytes ≤ p.at → Takes tokens advance p (with_token p (record { kind = k_eof; start = start; len = len }) p.at)
+pub taking_past : (tokens : List ℕ) (s : Code) (start len : ℕ) → going s ≡ true → (s.parser.cur.kind ≡ k_eof → ⊥) → max_bytes ≤ s.parser.at → Takes tokens advance s (with_token s (record { kind = k_eof; start = start; len = len }) s.parser.at)
 unfolding from
-taking_past tokens p start len g k z nodes types lists = record {
+taking_past tokens s start len g k z = record {
   sticky = λ f. absurd (true≢false g f);
+  same = refl;
   monotone = omega (arith, two);
   progress = λ _. omega (arith, two);
   simulates = λ R L stack m h. absurd (omega (arith, two, h.related.taken, h.related.few, ap length h.related.left));
 }
   where
-    next : tokens_from tokens (suc p.at) ≡ from tokens (token_at tokens (suc p.at)) (suc p.at)
-    next = from_at tokens (suc p.at)
+    next : tokens_from tokens (suc s.parser.at) ≡ from tokens (token_at tokens (suc s.parser.at)) (suc s.parser.at)
+    next = from_at tokens (suc s.parser.at)
 
-    more : length (from tokens (token_of p.cur) p.at) ≡ suc (length (tokens_from tokens (suc p.at)))
-    more = ap length (from_more tokens (token_of p.cur) p.at (ne_eqb p.cur.kind k_eof k))
+    more : length (from tokens (token_of s.parser.cur) s.parser.at) ≡ suc (length (tokens_from tokens (suc s.parser.at)))
+    more = ap length (from_more tokens (token_of s.parser.cur) s.parser.at (ne_eqb s.parser.cur.kind k_eof k))
 
-    two : 2 ≤ length (from tokens (token_of p.cur) p.at)
-    two = omega (arith, more, ap length next, some-from tokens (token_at tokens (suc p.at)) (suc p.at))
+    two : 2 ≤ length (from tokens (token_of s.parser.cur) s.parser.at)
+    two = omega (arith, more, ap length next, some-from tokens (token_at tokens (suc s.parser.at)) (suc s.parser.at))
 
 -- ---- failing
 
@@ -149,41 +152,39 @@ at-entry number wanted t h = either (eqb t.kind k_s)
     (λ b. rw b (let e : (t.start + 0) % 4294967296 ≡ t.start + 0 = omega arith in λ i. record { number = number; start = e i; len = t.len; wanted = wanted; seen = t.kind }))
 
 -- from where the code stands to where it has failed
-pub failing_at : {tokens nodes types lists : List ℕ} {p : Parser} {R L : ℕ} {stack : List ℕ} {m : State} (e e' : Diagnostic) → e ≡ e' → Represents tokens (code nodes types lists p) R L stack m
-    → FailedAt tokens (code nodes types lists (failed p e)) e' R L stack m
+pub failing_at : {tokens : List ℕ} {s : Code} {R L : ℕ} {stack : List ℕ} {m : State} (e e' : Diagnostic) → e ≡ e' → Represents tokens s R L stack m → FailedAt tokens (failed s e) e' R L stack m
 failing_at e e' w h = record {
   status = ap Failed w;
   over = [];
   related = rw append-nil (record { left = h.related.left; here = h.related.here; near = h.related.near; taken = h.related.taken; few = h.related.few; nodes = h.related.nodes; types = h.related.types; lists = h.related.lists; bytes = h.related.bytes; credit = h.related.credit; lent = h.related.lent });
 }
 
-module _ (tokens nodes types lists : List ℕ) (p q : Parser) (number wanted : ℕ) (t : Entry) (named : t ≡ p.cur) where
-  pub failing : (is_going p.status ≡ true → q ≡ failed p (at_entry number wanted (token_of t))) → (is_going p.status ≡ false → q ≡ p)
-      → Refuses tokens number wanted (code nodes types lists p) (code nodes types lists q)
-  failing f g = either (is_going p.status)
-      (λ e. subst (λ (r : Parser). Refuses tokens number wanted (code nodes types lists p) (code nodes types lists r)) (sym (f e)) (record {
-        sticky = λ z. absurd (true≢false e z);
+module _ {tokens : List ℕ} {number wanted : ℕ} {s s' : Code} where
+  pub failing : FailsWith (at_entry number wanted (token_of s.parser.cur)) s s' → Refuses tokens number wanted s s'
+  failing f = either (going s)
+      (λ g. subst (Refuses tokens number wanted s) (sym (f.0 g)) (record {
+        sticky = λ z. absurd (true≢false g z);
+        same = refl;
         monotone = omega arith;
         fails = refl;
         simulates = λ R L stack m h.
-            let here : token_of t ≡ token_at tokens p.at = ap token_of named ∙ h.related.here in
-            let near : Near (token_of t) = subst Near (sym here) (h.related.near p.at) in
-            failing_at _ _ (at-entry number wanted (token_of t) near ∙ ap (at_token number wanted) (ap token_of named ∙ sym (current_represents h.related))) h;
+            let near : Near (token_of s.parser.cur) = subst Near (sym h.related.here) (h.related.near s.parser.at) in
+            failing_at _ _ (at-entry number wanted (token_of s.parser.cur) near ∙ ap (at_token number wanted) (sym (current_represents h.related))) h;
       }))
-      (λ e. subst (λ (r : Parser). Refuses tokens number wanted (code nodes types lists p) (code nodes types lists r)) (sym (g e))
-      (record { sticky = λ z. refl; monotone = omega arith; fails = e; simulates = λ R L stack m h. absurd (true≢false (represents_going h) e) }))
+      (λ g. subst (Refuses tokens number wanted s) (sym (f.1 g))
+      (record { sticky = λ z. refl; same = refl; monotone = omega arith; fails = g; simulates = λ R L stack m h. absurd (true≢false (represents_going h) g) }))
 
-module _ {A : Type 0} {Q : A → Type 0} {d r' l' : ℕ} (tokens nodes types lists : List ℕ) (p q : Parser) (number i : ℕ) (t : Entry) (named : token_of t ≡ token_at tokens i) where
-  pub failing_before : (is_going p.status ≡ true → q ≡ failed p (at_entry number 0 (token_of t))) → (is_going p.status ≡ false → q ≡ p)
-      → Refines {A = A} tokens 0 0 (fail_at number (token_at tokens i)) Q stack_unchanged d r' l' (code nodes types lists p) (code nodes types lists q)
+module _ {A : Type 0} {Q : A → Type 0} {d r' l' : ℕ} {tokens : List ℕ} {s s' : Code} (number i : ℕ) (t : Entry) (named : token_of t ≡ token_at tokens i) where
+  pub failing_before : FailsWith (at_entry number 0 (token_of t)) s s' → Refines {A = A} tokens 0 0 (fail_at number (token_at tokens i)) Q stack_unchanged d r' l' s s'
   unfolding fail_at
-  failing_before f g = either (is_going p.status)
-      (λ e. subst (λ (r : Parser). Refines {A = A} tokens 0 0 (fail_at number (token_at tokens i)) Q stack_unchanged d r' l' (code nodes types lists p) (code nodes types lists r)) (sym (f e)) (record {
-        sticky = λ z. absurd (true≢false e z);
+  failing_before f = either (going s)
+      (λ g. subst (Refines {A = A} tokens 0 0 (fail_at number (token_at tokens i)) Q stack_unchanged d r' l' s) (sym (f.0 g)) (record {
+        sticky = λ z. absurd (true≢false g z);
+        same = refl;
         monotone = omega arith;
         progress = λ z. absurd (true≢false z refl);
         simulates = λ R L stack m h.
             let near : Near (token_of t) = subst Near (sym named) (h.related.near i) in
             failing_at _ _ (at-entry number 0 (token_of t) near ∙ ap (at_token number 0) named) (represents_less _ _ (omega arith) (omega arith) h);
       }))
-      (λ e. subst (λ (r : Parser). Refines {A = A} tokens 0 0 (fail_at number (token_at tokens i)) Q stack_unchanged d r' l' (code nodes types lists p) (code nodes types lists r)) (sym (g e)) (idle e))
+      (λ g. subst (Refines {A = A} tokens 0 0 (fail_at number (token_at tokens i)) Q stack_unchanged d r' l' s) (sym (f.1 g)) (idle g))

@@ -9,9 +9,8 @@ use Rattle.tokens.specs.Table.{token_of}
 use Rattle.rules.specs.Tree.{State, Result, ok, err}
 use Rattle.rules.specs.Combinators.{Rule, ◌>>=◌, pure, current, if_kind, ControlFlow, continue, break, iterate, loop, members, list_until}
 use Rattle.ast.specs.declared.Run.{Run}
-use Rattle.parser_state.specs.Represents.{Code, going, is_going, ahead, Represents, FailedAt}
+use Rattle.parser_state.specs.Represents.{Reading, Code, going, is_going, ahead, Represents, FailedAt}
 use Rattle.parser_state.specs.Refines.{Ends, stack_unchanged, grown, all_grown, Collected, Refines, ReadsMember, Lists, member_follows, follows_by, closed}
-use Rattle.parser_state.specs.declared.Parser.{Parser}
 use Rattle.parser_state.proofs.Steps.{lists-after, either, true≢false, represents_going, represents_less, failed-fails, current_represents, left-some}
 use Rattle.parser_state.proofs.Cells.{flatten_snoc}
 use Rattle.parser_state.proofs.Rounds.{weight, lighter, if_kind_is_yes, if_kind_is_no}
@@ -65,6 +64,7 @@ pub data Way (tokens : List ℕ) (stop : ℕ) (item : Rule (List ℕ)) (s : Code
 -- the loop's invariant
 pub record MembersInvariant (tokens : List ℕ) (stop : ℕ) (item : Rule (List ℕ)) (s₀ s : Code) (n : ℕ) : Type 0 where
   pub sticky : going s₀ ≡ false → s ≡ s₀
+  pub same : s.names ≡ s₀.names
   pub monotone : length (ahead tokens s) ≤ length (ahead tokens s₀)
   pub way : (R L : ℕ) (stack : List ℕ) (m : State) → Represents tokens s₀ R L stack m → Way tokens stop item s n R L stack (members stop item m)
 
@@ -72,6 +72,7 @@ pub midway_start : {tokens : List ℕ} {stop : ℕ} {item : Rule (List ℕ)} {s 
 unfolding members loop flatten
 midway_start = record {
   sticky = λ e. refl;
+  same = refl;
   monotone = omega arith;
   way = λ R L stack m h. simulates (record { fuel = length m.left; xs = []; m = m; comes = refl; fuelled = omega arith; count = refl; few = omega (arith, h.related.credit.records); represents = rw append-nil h });
 }
@@ -86,17 +87,17 @@ no-member_when : (e f : Bool) → follows_by true e f ≡ false → e ≡ false 
 no-member_when true f p q = absurd (true≢false refl q)
 no-member_when false f p q = not-false f p
 
-module _ (p : Parser) (stop : ℕ) where
-  pub member-going : member_follows p stop ≡ true → is_going p.status ≡ true
-  member-going e = (member_when (is_going p.status) (eqb p.cur.kind k_eof) (eqb p.cur.kind stop) e).0
+module _ (p : Reading) (stop : ℕ) where
+  pub member-going : member_follows p stop ≡ true → is_going p.error ≡ true
+  member-going e = (member_when (is_going p.error) (eqb p.cur.kind k_eof) (eqb p.cur.kind stop) e).0
 
   pub member-eof : member_follows p stop ≡ true → eqb p.cur.kind k_eof ≡ false
-  member-eof e = (member_when (is_going p.status) (eqb p.cur.kind k_eof) (eqb p.cur.kind stop) e).1
+  member-eof e = (member_when (is_going p.error) (eqb p.cur.kind k_eof) (eqb p.cur.kind stop) e).1
 
   pub member_stop : member_follows p stop ≡ true → eqb p.cur.kind stop ≡ false
-  member_stop e = (member_when (is_going p.status) (eqb p.cur.kind k_eof) (eqb p.cur.kind stop) e).2
+  member_stop e = (member_when (is_going p.error) (eqb p.cur.kind k_eof) (eqb p.cur.kind stop) e).2
 
-  pub no_member : is_going p.status ≡ true → member_follows p stop ≡ false → eqb p.cur.kind k_eof ≡ false → eqb p.cur.kind stop ≡ true
+  pub no_member : is_going p.error ≡ true → member_follows p stop ≡ false → eqb p.cur.kind k_eof ≡ false → eqb p.cur.kind stop ≡ true
   no_member g e f = no-member_when (eqb p.cur.kind k_eof) (eqb p.cur.kind stop) (subst (λ (b : Bool). follows_by b (eqb p.cur.kind k_eof) (eqb p.cur.kind stop) ≡ false) g e) f
 
 -- a turn lowers the measure
@@ -108,6 +109,7 @@ module _ {tokens : List ℕ} {stop : ℕ} {item : Rule (List ℕ)} {s₀ s s' : 
   unfolding more
   midway_turn i w p k = record {
     sticky = λ e. absurd (true≢false (member-going s.parser stop w) (ap going (i.sticky e) ∙ e));
+    same = p.same ∙ i.same;
     monotone = omega (arith, i.monotone, p.monotone);
     way = λ R L stack m h. go R L stack (members stop item m) (i.way R L stack m h);
   }
@@ -148,6 +150,7 @@ module _ {tokens : List ℕ} {stop : ℕ} {item : Rule (List ℕ)} {s₀ s : Cod
   unfolding pure
   members_end i w = record {
     sticky = i.sticky;
+    same = i.same;
     monotone = i.monotone;
     progress = λ e. omega (arith, i.monotone);
     simulates = λ R L stack m h. go R L stack (members stop item m) (i.way R L stack m (represents_less _ _ (omega arith) (omega arith) h));

@@ -4,9 +4,8 @@ use Rattle.lex.specs.declared.diagnostic.Diagnostic.{Diagnostic}
 use Rattle.lex.specs.Kind.{k_doc}
 use Rattle.rules.specs.Tree.{State, Result, ok, err}
 use Rattle.rules.specs.Combinators.{Rule, current, by_kind, if_kind, ControlFlow, continue, break, iterate, loop, struck}
-use Rattle.parser_state.specs.Represents.{Code, going, is_going, ahead, Represents, FailedAt}
+use Rattle.parser_state.specs.Represents.{Reading, Code, going, is_going, ahead, Represents, FailedAt}
 use Rattle.parser_state.specs.Refines.{Ends, stack_unchanged, Refines, doc_follows}
-use Rattle.parser_state.specs.declared.Parser.{Parser}
 use Rattle.parser_state.proofs.Steps.{represents_noted, either, true≢false, and_both, represents_going, represents_less, failed-fails, left-some}
 
 -- after a turn
@@ -48,6 +47,7 @@ module _ {A : Type 0} (tokens : List ℕ) (f : A → Rule (ControlFlow A)) (grow
   -- the loop's invariant
   pub record LoopInvariant (a₀ : A) (Q : A → Type 0) (s₀ s : Code) : Type 0 where
     pub sticky : going s₀ ≡ false → s ≡ s₀
+    pub same : s.names ≡ s₀.names
     pub monotone : length (ahead tokens s) ≤ length (ahead tokens s₀)
     pub way : (R L : ℕ) (stack : List ℕ) (m : State) → Represents tokens s₀ R L (grow a₀ stack) m → Way Q s R L stack (loop f a₀ m)
 
@@ -58,6 +58,7 @@ module _ {A : Type 0} (tokens : List ℕ) (f : A → Rule (ControlFlow A)) (grow
   Turned Q s' r l stack (err e m) = FailedAt tokens s' e r l stack m
 
   pub record Again (Q Q' : A → Type 0) (s s' : Code) : Type 0 where
+    pub same : s'.names ≡ s.names
     pub monotone : length (ahead tokens s') ≤ length (ahead tokens s)
     pub progress : going s' ≡ true → length (ahead tokens s') + 1 ≤ length (ahead tokens s)
     pub flow_value : (R L : ℕ) (stack : List ℕ) (a : A) (m : State) → Q a → Represents tokens s R L (grow a stack) m → Turned Q' s' R L stack (f a m)
@@ -70,6 +71,7 @@ module _ {A : Type 0} (tokens : List ℕ) (f : A → Rule (ControlFlow A)) (grow
 
   pub record Last (Q Q' : A → Type 0) (s s' : Code) : Type 0 where
     pub sticky : going s ≡ false → s' ≡ s
+    pub same : s'.names ≡ s.names
     pub monotone : length (ahead tokens s') ≤ length (ahead tokens s)
     pub flow_value : (R L : ℕ) (stack : List ℕ) (a : A) (m : State) → Q a → Represents tokens s R L (grow a stack) m → Stopped Q' s' R L stack (f a m)
 
@@ -78,6 +80,7 @@ module _ {A : Type 0} {tokens : List ℕ} {f : A → Rule (ControlFlow A)} {grow
   unfolding loop
   round_start {a₀} = record {
     sticky = λ e. refl;
+    same = refl;
     monotone = omega arith;
     way = λ R L stack m h. simulates (record { fuel = length m.left; a = a₀; m = m; comes = refl; fuelled = omega arith; value = refl; represents = h });
   }
@@ -87,6 +90,7 @@ module _ {A : Type 0} {tokens : List ℕ} {f : A → Rule (ControlFlow A)} {grow
   unfolding loop
   round_start_at {a₀} q = record {
     sticky = λ e. refl;
+    same = refl;
     monotone = omega arith;
     way = λ R L stack m h. simulates (record { fuel = length m.left; a = a₀; m = m; comes = refl; fuelled = omega arith; value = q R L stack m h; represents = h });
   }
@@ -96,6 +100,7 @@ module _ {A : Type 0} {tokens : List ℕ} {f : A → Rule (ControlFlow A)} {grow
     unfolding after
     round_again i g p = record {
       sticky = λ e. absurd (true≢false g (ap going (i.sticky e) ∙ e));
+      same = p.same ∙ i.same;
       monotone = omega (arith, i.monotone, p.monotone);
       way = λ R L stack m h. go R L stack (loop f a₀ m) (i.way R L stack m h);
     }
@@ -121,6 +126,7 @@ module _ {A : Type 0} {tokens : List ℕ} {f : A → Rule (ControlFlow A)} {grow
     unfolding after
     round_last i z p = record {
       sticky = λ e. let e₁ : s ≡ s₀ = i.sticky e in p.sticky (ap going e₁ ∙ e) ∙ e₁;
+      same = p.same ∙ i.same;
       monotone = omega (arith, i.monotone, p.monotone);
       progress = λ e. omega (arith, i.monotone, p.monotone);
       simulates = λ R L stack m h. go R L stack (loop f a₀ m) (i.way R L stack m (rw (z stack) (represents_less _ _ (omega arith) (omega arith) h)));
@@ -145,6 +151,7 @@ module _ {A : Type 0} {tokens : List ℕ} {f : A → Rule (ControlFlow A)} {grow
         → ((R L : ℕ) (stack : List ℕ) (a : A) (m : State) → Q a → Represents tokens s R L stack m → f a m ≡ ok (break a) m) → Refines tokens 0 0 (loop f a₀) Q grow 0 0 0 s₀ s
     round_out i z p = round_last i z (record {
       sticky = λ e. refl;
+      same = refl;
       monotone = omega arith;
       flow_value = λ R L stack a m v h. subst (Stopped tokens f grow Q s R L stack) (sym (p R L (grow a stack) a m v h)) (v, h);
     })
@@ -153,6 +160,7 @@ module _ {A : Type 0} {tokens : List ℕ} {f : A → Rule (ControlFlow A)} {grow
 pub again_of : {A : Type 0} {tokens : List ℕ} {v w : A} {r' l' : ℕ} {s s' : Code} (f : A → Rule (ControlFlow A)) → Refines tokens 0 0 (f v) (λ t. t ≡ continue w) stack_unchanged 1 r' l' s s'
     → Again tokens f stack_unchanged (λ a. a ≡ v) (λ b. b ≡ w) s s'
 again_of {A} {tokens} {v} {w} {r'} {l'} {s} {s'} f p = record {
+  same = p.same;
   monotone = p.monotone;
   progress = p.progress;
   flow_value = λ R L stack a m e h.
@@ -169,6 +177,7 @@ pub last_of : {A : Type 0} {tokens : List ℕ} {v w : A} {d r' l' : ℕ} {s s' :
     → Last tokens f stack_unchanged (λ a. a ≡ v) (λ b. b ≡ w) s s'
 last_of {A} {tokens} {v} {w} {d} {r'} {l'} {s} {s'} f p = record {
   sticky = p.sticky;
+  same = p.same;
   monotone = p.monotone;
   flow_value = λ R L stack a m e h.
       subst (λ (x : A). Stopped tokens f stack_unchanged (λ b. b ≡ w) s' R L stack (f x m)) (sym e) (go R L stack (f v m) (p.simulates R L stack m (represents_less _ _ (omega arith) (omega arith) h)));
@@ -183,7 +192,7 @@ last_of {A} {tokens} {v} {w} {d} {r'} {l'} {s} {s'} f p = record {
 module _ {A : Type 0} {tokens : List ℕ} {x : Rule A} {Q : A → Type 0} {grow : A → List ℕ → List ℕ} {r l d r' l' : ℕ} {s s' : Code} where
   pub struck_as : Refines tokens r l x Q grow d r' l' s s' → Refines tokens r l (struck x) Q grow d r' l' s s'
   unfolding struck
-  struck_as p = record { sticky = p.sticky; monotone = p.monotone; progress = p.progress; simulates = λ R L stack m h. go R L stack m (x m) (p.simulates R L stack m h) }
+  struck_as p = record { sticky = p.sticky; same = p.same; monotone = p.monotone; progress = p.progress; simulates = λ R L stack m h. go R L stack m (x m) (p.simulates R L stack m h) }
     where
       go : (R L : ℕ) (stack : List ℕ) (m : State) (res : Result A) → Ends tokens Q grow s' R L r' l' stack res
           → Ends tokens Q grow s' R L r' l' stack (elim res [ ok a t ↦ ok a (record { left = t.left; docs = t.docs; arena = t.arena; notes = record { marks = m.notes.marks ++ replicate (length m.left - length t.left) false; after_default = t.notes.after_default } }) | err e t ↦ err e t ])
@@ -211,15 +220,15 @@ lighter {tokens = tokens} {s = s} {s'} g p = either (going s') (λ g'. rw (g, g'
 
 -- ---- the test of such a loop
 
-module _ (p : Parser) where
-  pub doc-going : doc_follows p ≡ true → is_going p.status ≡ true
+module _ (p : Reading) where
+  pub doc-going : doc_follows p ≡ true → is_going p.error ≡ true
   unfolding doc_follows
-  doc-going e = (and_both (is_going p.status) (eqb p.cur.kind k_doc) e).0
+  doc-going e = (and_both (is_going p.error) (eqb p.cur.kind k_doc) e).0
 
   pub doc-kind : doc_follows p ≡ true → p.cur.kind ≡ k_doc
   unfolding doc_follows
-  doc-kind e = eqb-true _ _ (and_both (is_going p.status) (eqb p.cur.kind k_doc) e).1
+  doc-kind e = eqb-true _ _ (and_both (is_going p.error) (eqb p.cur.kind k_doc) e).1
 
-  pub no-doc : is_going p.status ≡ true → doc_follows p ≡ false → eqb p.cur.kind k_doc ≡ false
+  pub no-doc : is_going p.error ≡ true → doc_follows p ≡ false → eqb p.cur.kind k_doc ≡ false
   unfolding doc_follows
   no-doc g e = subst (λ (b : Bool). (b && eqb p.cur.kind k_doc) ≡ false) g e

@@ -77,6 +77,7 @@ module _ {A B : Type 0} {tokens : List ℕ} {x : Rule A} {v : A} {Q : B → Type
   unfolding ◌>>=◌
   seq p q = record {
     sticky = λ e. let e₁ : s₁ ≡ s = p.sticky e in q.sticky (ap going e₁ ∙ e) ∙ e₁;
+    same = q.same ∙ p.same;
     monotone = omega (arith, p.monotone, q.monotone);
     progress = λ e. either (going s₁)
         (λ g. omega (arith, p.progress g, q.progress e))
@@ -114,6 +115,7 @@ module _ {B : Type 0} {tokens : List ℕ} {x : Rule Token} {Q : B → Type 0} {g
       let any = seq (λ _. f (token_at tokens i)) p q in
       record {
         sticky = any.sticky;
+        same = any.same;
         monotone = any.monotone;
         progress = any.progress;
         simulates = λ R L stack m h.
@@ -138,6 +140,7 @@ module _ {A : Type 0} {tokens : List ℕ} {x : Rule A} {Q : A → Type 0} {grow 
       let f : l₀' ≤ l' = leb-true _ _ w₄.1 in
       record {
         sticky = p.sticky;
+        same = p.same;
         monotone = p.monotone;
         progress = λ g. omega (arith, p.progress g);
         simulates = λ R L stack m h. go R L stack (x m) e f (p.simulates R L stack m (represents_less _ _ (omega arith) (omega arith) h));
@@ -151,13 +154,14 @@ module _ {A : Type 0} {tokens : List ℕ} {x : Rule A} {Q : A → Type 0} {grow 
 
 pub done : {A : Type 0} {tokens : List ℕ} {v : A} {s : Code} → Refines tokens 0 0 (pure v) (λ a. a ≡ v) stack_unchanged 0 0 0 s s
 unfolding pure
-done = record { sticky = λ e. refl; monotone = omega arith; progress = λ e. omega arith; simulates = λ R L stack m h. (refl, h) }
+done = record { sticky = λ e. refl; same = refl; monotone = omega arith; progress = λ e. omega arith; simulates = λ R L stack m h. (refl, h) }
 
 pub refused : {A : Type 0} {tokens : List ℕ} {number wanted : ℕ} {Q : A → Type 0} {grow : A → List ℕ → List ℕ} {d r' l' : ℕ} {s s' : Code}
     → Refuses tokens number wanted s s' → Refines tokens 0 0 (fail_expecting {A = A} number wanted) Q grow d r' l' s s'
 unfolding fail_expecting
 refused p = record {
   sticky = p.sticky;
+  same = p.same;
   monotone = p.monotone;
   progress = λ e. absurd (true≢false e p.fails);
   simulates = λ R L stack m h. p.simulates R L stack m (represents_less _ _ (omega arith) (omega arith) h);
@@ -193,6 +197,7 @@ module _ {A : Type 0} {tokens : List ℕ} {Q : A → Type 0} {grow : A → List 
   unfolding by_kind
   at-kind n p e = record {
     sticky = p.sticky;
+    same = p.same;
     monotone = p.monotone;
     progress = p.progress;
     simulates = λ R L stack m h. subst (λ (k : ℕ). Ends tokens Q grow s' R L r' l' stack (f k m)) (sym (ap (λ (t : Token). t.kind) (current_represents h.related) ∙ e)) (p.simulates R L stack m h);
@@ -217,6 +222,7 @@ module _ {A B : Type 0} {tokens : List ℕ} {x : Rule A} {v : A} {run : B} {d r�
   unfolding ◌>>◌
   lists_then p q = record {
     sticky = λ e. let e₁ : s₁ ≡ s = p.sticky e in q.sticky (ap going e₁ ∙ e) ∙ e₁;
+    same = q.same ∙ p.same;
     monotone = omega (arith, p.monotone, q.monotone);
     progress = λ e. either (going s₁)
         (λ g. omega (arith, p.progress g, q.progress e))
@@ -241,6 +247,7 @@ module _ {A : Type 0} {tokens : List ℕ} {Q : A → Type 0} {grow : A → List 
   pub as_rule : ((m : State) → y m ≡ x m) → Refines tokens r l x Q grow d r' l' s s' → Refines tokens r l y Q grow d r' l' s s'
   as_rule e p = record {
     sticky = p.sticky;
+    same = p.same;
     monotone = p.monotone;
     progress = p.progress;
     simulates = λ R L stack m h. subst (Ends tokens Q grow s' R L r' l' stack) (sym (e m)) (p.simulates R L stack m h);
@@ -262,7 +269,7 @@ module _ {A B C : Type 0} {tokens : List ℕ} {Q : C → Type 0} {grow : C → L
 -- the token being read is looked at
 pub looks : {tokens : List ℕ} {s : Code} → Refines tokens 0 0 cur (λ t. t ≡ token_of s.parser.cur) stack_unchanged 0 0 0 s s
 unfolding cur
-looks = record { sticky = λ e. refl; monotone = omega arith; progress = λ e. omega arith; simulates = λ R L stack m h. (current_represents h.related, h) }
+looks = record { sticky = λ e. refl; same = refl; monotone = omega arith; progress = λ e. omega arith; simulates = λ R L stack m h. (current_represents h.related, h) }
 
 module _ {A : Type 0} {tokens : List ℕ} {Q : A → Type 0} {grow : A → List ℕ → List ℕ} {r l d r' l' : ℕ} {s s' : Code} (k : ℕ) (x y : Rule A) where
   -- the code is the same by either rule
@@ -278,6 +285,7 @@ module _ {A : Type 0} {tokens : List ℕ} {x : Rule (List (List ℕ))} {run : A}
   unfolding ◌>>=◌
   lists-after p q k = record {
     sticky = λ e. let e₁ : s₁ ≡ s = p.sticky e in q.sticky (ap going e₁ ∙ e) ∙ e₁;
+    same = q.same ∙ p.same;
     monotone = omega (arith, p.monotone, q.monotone);
     progress = λ e. either (going s₁)
         (λ g. omega (arith, p.progress g, q.progress e))
@@ -301,6 +309,7 @@ module _ {A B : Type 0} {tokens : List ℕ} {y : List (List ℕ) → Rule A} {ru
   unfolding ◌>>=◌
   lists_seq p q a b = record {
     sticky = λ e. let e₁ : s₁ ≡ s = p.sticky e in q.sticky (ap going e₁ ∙ e) ∙ e₁;
+    same = q.same ∙ p.same;
     monotone = omega (arith, p.monotone, q.monotone);
     progress = λ e. either (going s₁)
         (λ g. omega (arith, p.progress g, q.progress e))
@@ -326,6 +335,7 @@ module _ {A : Type 0} {tokens : List ℕ} {x : Rule (List (List ℕ))} {y : Rule
   unfolding ◌>>=◌ ◌>>◌ pure
   collected_then p q = record {
     sticky = λ e. let e₁ : s₁ ≡ s = p.sticky e in q.sticky (ap going e₁ ∙ e) ∙ e₁;
+    same = q.same ∙ p.same;
     monotone = omega (arith, p.monotone, q.monotone);
     progress = λ e. either (going s₁)
         (λ g. omega (arith, p.progress g, q.progress e))
@@ -350,6 +360,7 @@ pub collected_one : {tokens : List ℕ} {l : ℕ} {s s' : Code} (cells : List �
 unfolding pure flatten
 collected_one {tokens} {l} {s} {s'} cells p = record {
   sticky = p.sticky;
+  same = p.same;
   monotone = p.monotone;
   progress = p.progress;
   simulates = λ R L stack m h.

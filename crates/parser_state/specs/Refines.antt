@@ -1,5 +1,5 @@
 -- A run of code from `s` to `s'` does what a rule does.
-use Rattle.std.specs.Prelude.{◌≡◌, ℕ, ◌+◌, ◌*◌, ◌%◌, ◌≤◌, Bool, true, false, not, ◌&&◌, List, ◌++◌, length, ◌==◌, nat_le, nat_lt, slice_index}
+use Rattle.std.specs.Prelude.{◌≡◌, ℕ, ◌+◌, ◌%◌, ◌≤◌, Bool, true, false, not, ◌&&◌, List, ◌++◌, length, ◌==◌, slice_index}
 use Rattle.std.proofs.Math.Option.{Option}
 use mathlib.Core.List.{flatten}
 use Rattle.lex.specs.Kind.{k_eof, k_doc, k_s}
@@ -9,14 +9,12 @@ use Rattle.lex.specs.declared.tok.Token.{Token}
 use Rattle.rules.specs.Tree.{State, Result, ok, err}
 use Rattle.tokens.specs.Table.{token_of}
 use Rattle.tokens.specs.declared.Entry.{Entry}
-use Rattle.ast.specs.Layout.{node_width}
 use Rattle.rules.specs.Combinators.{Rule, Readers, ◌>>◌, current, at_token, expect, alloc_slice, pure, ControlFlow, continue}
 use Rattle.rules.specs.Rules.{readers, stage_one, require_no_docs}
 use Rattle.ast.specs.declared.Run.{Run}
 use Rattle.ast.specs.declared.NodeId.{NodeId}
 use Rattle.ast.specs.declared.TypeExprId.{TypeExprId}
-use Rattle.parser_state.specs.Represents.{Failed, with_status, Code, code, going, ahead, Represents, FailedAt, is_going}
-use Rattle.parser_state.specs.declared.Parser.{Parser}
+use Rattle.parser_state.specs.Represents.{Failed, with_error, Reading, Code, going, ahead, Represents, FailedAt, is_going}
 
 -- a set of rules: the powers of the signs, and the script whose signs they are
 pub record Rules : Type 0 where
@@ -58,13 +56,15 @@ Collected tokens n s xs = (length xs ≡ n) × (length xs + length (ahead tokens
 pub record Refines {A : Type 0} (tokens : List ℕ) (r l : ℕ) (x : Rule A) (Q : A → Type 0) (grow : A → List ℕ → List ℕ) (d r' l' : ℕ) (s s' : Code) : Type 0 where
   -- once failed, the code changes nothing
   pub sticky : going s ≡ false → s' ≡ s
+  -- the arrays stay those that were lent
+  pub same : s'.names ≡ s.names
   pub monotone : length (ahead tokens s') ≤ length (ahead tokens s)
   pub progress : going s' ≡ true → length (ahead tokens s') + d ≤ length (ahead tokens s)
   pub simulates : (R L : ℕ) (stack : List ℕ) (m : State) → Represents tokens s (R + r) (L + l) stack m → Ends tokens Q grow s' R L r' l' stack (x m)
 
 -- a token is taken
-abbrev pub Takes : List ℕ → Rule Token → Parser → Parser → Type 0
-Takes tokens x p q = (nodes types lists : List ℕ) → Refines tokens 0 0 x (λ t. t ≡ token_of p.cur) stack_unchanged 1 1 8 (code nodes types lists p) (code nodes types lists q)
+abbrev pub Takes : List ℕ → Rule Token → Code → Code → Type 0
+Takes tokens x s s' = Refines tokens 0 0 x (λ t. t ≡ token_of s.parser.cur) stack_unchanged 1 1 8 s s'
 
 -- a type is read
 abbrev pub ReadsType : List ℕ → Rule TypeExprId → Code → Code → TypeExprId → Type 0
@@ -97,6 +97,7 @@ Pushes tokens l cells s s' = Refines tokens 0 l (pure cells) (λ _. Unit {0}) gr
 -- the code fails at the token being read
 pub record Refuses (tokens : List ℕ) (number wanted : ℕ) (s s' : Code) : Type 0 where
   pub sticky : going s ≡ false → s' ≡ s
+  pub same : s'.names ≡ s.names
   pub monotone : length (ahead tokens s') ≤ length (ahead tokens s)
   pub fails : going s' ≡ false
   pub simulates : (R L : ℕ) (stack : List ℕ) (m : State) → Represents tokens s R L stack m → FailedAt tokens s' (at_token number wanted (current m.left)) R L stack m
@@ -109,9 +110,12 @@ fail_at number t = λ s. err (at_token number 0 t) s
 unfoldable pub no_docs_wait : Rule ℕ
 no_docs_wait = require_no_docs (pure 0)
 
--- a parser that has failed
-abbrev pub failed : Parser → Diagnostic → Parser
-failed p e = with_status p (Failed e)
+-- the reading fails with an error, unless it has failed before
+abbrev pub failed : Code → Diagnostic → Code
+failed s e = with_error s (Failed e)
+
+abbrev pub FailsWith : Diagnostic → Code → Code → Type 0
+FailsWith e s s' = (going s ≡ true → s' ≡ failed s e) × (going s ≡ false → s' ≡ s)
 
 -- an error at a token that the code has: the start of its span has 32 bits
 unfoldable pub at_entry : ℕ → ℕ → Token → Diagnostic
@@ -123,22 +127,18 @@ at_entry number wanted t =
 abbrev pub doc_at : List ℕ → ℕ → Entry
 doc_at types at = record { kind = slice_index types (at + 2); start = slice_index types (at + 1); len = slice_index types at }
 
--- a node of a parser that has not failed has room in so many cells, and its value numbers fit
-unfoldable pub has_room : ℕ → Parser → Bool
-has_room len p = is_going p.status && (nat_lt p.used.nodes max_bytes && (nat_le (node_width * p.used.nodes + node_width) len && nat_lt p.used.values 4000000000))
-
 -- a loop over members goes on
 abbrev pub follows_by : Bool → Bool → Bool → Bool
 follows_by false ends stops = false
 follows_by true true stops = false
 follows_by true false stops = not stops
 
-abbrev pub member_follows : Parser → ℕ → Bool
-member_follows p stop = follows_by (is_going p.status) (p.cur.kind == k_eof) (p.cur.kind == stop)
+abbrev pub member_follows : Reading → ℕ → Bool
+member_follows p stop = follows_by (is_going p.error) (p.cur.kind == k_eof) (p.cur.kind == stop)
 
 -- a doc is read next
-unfoldable pub doc_follows : Parser → Bool
-doc_follows p = is_going p.status && p.cur.kind == k_doc
+unfoldable pub doc_follows : Reading → Bool
+doc_follows p = is_going p.error && p.cur.kind == k_doc
 
 -- the end of a list
 unfoldable pub closed : ℕ → List (List ℕ) → Rule Run
@@ -147,6 +147,7 @@ closed stop xs = expect stop >> alloc_slice xs
 -- what is pushed above `mark` cells becomes a list of `n` members
 pub record Lists {A : Type 0} (tokens : List ℕ) (x : List (List ℕ) → Rule A) (run : A) (d r' l' : ℕ) (mark n : ℕ) (s s' : Code) : Type 0 where
   pub sticky : going s ≡ false → s' ≡ s
+  pub same : s'.names ≡ s.names
   pub monotone : length (ahead tokens s') ≤ length (ahead tokens s)
   pub progress : going s' ≡ true → length (ahead tokens s') + d ≤ length (ahead tokens s)
   pub simulates : (R L : ℕ) (stack : List ℕ) (xs : List (List ℕ)) (m : State) → length stack ≡ mark → length xs ≡ n → length xs + length m.left ≤ max_bytes + 1

@@ -1,5 +1,6 @@
 -- The lent arrays and the parser hold a state of the rules.
-use Rattle.std.specs.Prelude.{◌≡◌, ℕ, suc, ◌+◌, ◌*◌, ◌≤◌, Bool, true, false, List, [], ◌∷◌, ◌++◌, map, reverse, length, ◌==◌, slice_index}
+use Rattle.std.specs.Prelude.{Option, None, Some, is_none, ◌≡◌, ℕ, suc, ◌+◌, ◌*◌, ◌<◌, ◌≤◌, Bool, true, false, List, [], ◌∷◌, ◌++◌, map, reverse, length, ◌==◌}
+use Rattle.std.specs.Borrow.{GName}
 use mathlib.Core.List.{flatten}
 use Rattle.lex.specs.Kind.{k_eof}
 use Rattle.lex.specs.declared.diagnostic.Diagnostic.{Diagnostic}
@@ -10,62 +11,80 @@ use Rattle.rules.specs.Tree.{State}
 use Rattle.ast.specs.Layout.{token_cells, node_width, type_width, cells_per_byte, node_cells, type_cells}
 use Rattle.lex.specs.Answer.{max_bytes}
 use Rattle.ast.specs.declared.Node.{Node}
-use Rattle.ast.specs.declared.Node.TheVariants as N
-use Rattle.parser_state.specs.declared.WideNode.{WideNode}
-use Rattle.parser_state.specs.declared.WideNode.TheVariants as W
 use Rattle.ast.specs.declared.TypeExpr.{TypeExpr}
 use Rattle.parser_state.specs.declared.Parser.{Parser}
 use Rattle.parser_state.specs.declared.Used.{Used}
-use Rattle.parser_state.specs.declared.Status.{Status}
-
--- ---- nodes
-
-abbrev pub node_of : WideNode → Node
-node_of (W.Fn id docs name args return-type body) = N.Fn id docs (token_of name) args return-type body
-node_of (W.Match id cases token body) = N.Match id cases (token_of token) body
-node_of (W.Extern id src docs name fns) = N.Extern id (token_of src) docs (token_of name) fns
 
 -- ---- the code and the state
 
-abbrev pub is_going : Status → Bool
-is_going s = s.failed == 0
+abbrev pub is_going : Option Diagnostic → Bool
+is_going e = is_none e
 
-abbrev pub Going : Status
-Going = record { failed = 0; error = record { number = 0; start = 0; len = 0; wanted = 0; seen = 0 } }
+abbrev pub Going : Option Diagnostic
+Going = None
 
-abbrev pub Failed : Diagnostic → Status
-Failed e = record { failed = 1; error = e }
+abbrev pub Failed : Diagnostic → Option Diagnostic
+Failed e = Some e
 
--- what the cells of a parser say
-unfoldable pub parser_of : List ℕ → Parser
-parser_of c = record {
-  cur = record { kind = slice_index c 1; start = slice_index c 0; len = slice_index c 2 };
-  at = slice_index c 3;
-  used = record { nodes = slice_index c 4; values = slice_index c 5; types = slice_index c 6; docs = slice_index c 7; cells = slice_index c 8; scratch = slice_index c 9 };
-  status = record { failed = slice_index c 10; error = record { number = slice_index c 11; start = slice_index c 12; len = slice_index c 13; wanted = slice_index c 14; seen = slice_index c 15 } };
-}
+-- the token being read and the number of its record, what is used, and the error
+pub record Reading : Type 0 where
+  pub cur : Entry
+  pub at : ℕ
+  pub used : Used
+  pub error : Option Diagnostic
 
-abbrev pub with_token : Parser → Entry → ℕ → Parser
-with_token p t at = record { cur = t; at = at; used = p.used; status = p.status }
-
-abbrev pub with_used : Parser → Used → Parser
-with_used p u = record { cur = p.cur; at = p.at; used = u; status = p.status }
-
-abbrev pub with_status : Parser → Status → Parser
-with_status p s = record { cur = p.cur; at = p.at; used = p.used; status = s }
+-- the references that the arrays are lent by
+pub record Names : Type 0 where
+  pub nodes : GName
+  pub types : GName
+  pub lists : GName
 
 -- all that the code changes
 pub record Code : Type 0 where
   pub nodes : List ℕ
   pub types : List ℕ
   pub lists : List ℕ
-  pub parser : Parser
+  pub parser : Reading
+  pub names : Names
 
-abbrev pub code : List ℕ → List ℕ → List ℕ → Parser → Code
-code nodes types lists p = record { nodes = nodes; types = types; lists = lists; parser = p }
+abbrev pub reading : Parser → Reading
+reading p = record { cur = p.cur; at = p.at; used = p.used; error = p.error }
+
+abbrev pub code_of : Parser → Code
+code_of p = record {
+  nodes = p.nodes.now;
+  types = p.types.now;
+  lists = p.lists.now;
+  parser = reading p;
+  names = record { nodes = p.nodes.ghost_name; types = p.types.ghost_name; lists = p.lists.ghost_name };
+}
+
+abbrev pub with_token : Code → Entry → ℕ → Code
+with_token s t at = record s { parser = record { cur = t; at = at; used = s.parser.used; error = s.parser.error } }
+
+abbrev pub with_used : Code → Used → Code
+with_used s u = record s { parser = record { cur = s.parser.cur; at = s.parser.at; used = u; error = s.parser.error } }
+
+abbrev pub with_error : Code → Option Diagnostic → Code
+with_error s e = record s { parser = record { cur = s.parser.cur; at = s.parser.at; used = s.parser.used; error = e } }
+
+abbrev pub with_nodes : Code → List ℕ → Code
+with_nodes s xs = record s { nodes = xs }
+
+abbrev pub with_types : Code → List ℕ → Code
+with_types s xs = record s { types = xs }
+
+abbrev pub with_lists : Code → List ℕ → Code
+with_lists s xs = record s { lists = xs }
 
 abbrev pub going : Code → Bool
-going s = is_going s.parser.status
+going s = is_going s.parser.error
+
+-- where a record of so many cells goes that has `made` before it: nowhere, if the reading has failed
+-- or there is no room among `len` cells
+abbrev pub IsPlace : Code → ℕ → ℕ → ℕ → Option ℕ → Type 0
+IsPlace s made width len None = going s ≡ true → made < max_bytes → width * made + width ≤ len → ⊥
+IsPlace s made width len (Some at) = (going s ≡ true) × (made < max_bytes) × (at ≡ width * made) × (at + width ≤ len)
 
 -- a token and those behind record `at` of the table
 unfoldable pub from : List ℕ → Token → ℕ → List Token
@@ -140,11 +159,11 @@ pub record Related (tokens : List ℕ) (s : Code) (r l : ℕ) (stack : List ℕ)
   pub lent : EnoughLent bytes s.nodes s.types s.lists
 
 pub record Represents (tokens : List ℕ) (s : Code) (r l : ℕ) (stack : List ℕ) (m : State) : Type 0 where
-  pub status : s.parser.status ≡ Going
+  pub status : s.parser.error ≡ Going
   pub related : Related tokens s r l stack m
 
 -- a reading has failed; what was under construction still lies there
 pub record FailedAt (tokens : List ℕ) (s : Code) (e : Diagnostic) (r l : ℕ) (stack : List ℕ) (m : State) : Type 0 where
-  pub status : s.parser.status ≡ Failed e
+  pub status : s.parser.error ≡ Failed e
   pub over : List ℕ
   pub related : Related tokens s r l (stack ++ over) m

@@ -10,7 +10,7 @@ use Rattle.parser_state.proofs.Steps.{noted, represents_noted}
 module _ {tokens : List ℕ} {x : Rule (List (List ℕ))} {Q : List (List ℕ) → Type 0} {grow : List (List ℕ) → List ℕ → List ℕ} {r l d r' l' : ℕ} {s s' : Code} where
   pub strike_as : Refines tokens r l x Q grow d r' l' s s' → Refines tokens r l (strike_single x) Q grow d r' l' s s'
   unfolding strike_single
-  strike_as p = record { sticky = p.sticky; monotone = p.monotone; progress = p.progress; simulates = λ R L stack m h. go R L stack m (x m) (p.simulates R L stack m h) }
+  strike_as p = record { sticky = p.sticky; same = p.same; monotone = p.monotone; progress = p.progress; simulates = λ R L stack m h. go R L stack m (x m) (p.simulates R L stack m h) }
     where
       one : (R L : ℕ) (stack : List ℕ) (m t : State) (ps : List (List ℕ)) (b : Bool) → Ends tokens Q grow s' R L r' l' stack (ok ps t)
           → Ends tokens Q grow s' R L r' l' stack (elim b as (λ _. Result (List (List ℕ))) [ true ↦ ok ps (noted t (record { marks = m.notes.marks ++ (false ∷ true ∷ false ∷ []); after_default = t.notes.after_default })) | false ↦ ok ps t ])

@@ -1,2 +1,3 @@
--- What the contracts about import paths are written in.
+-- What the contracts about types with one inside and about import paths are written in.
+pub mod Inner
 pub mod Paths

@@ -7,229 +7,160 @@ ghost use Rattle.lex.specs.Answer.{max_bytes};
 ghost use Rattle.lex.specs.Kind.{k_curly_right};
 ghost use Rattle.tokens.specs.Table.{token_of};
 ghost use Rattle.rules.specs.Combinators.{list_until};
-ghost use Rattle.ast.specs.Layout.{token_cells, run_cells};
-ghost use Rattle.rules.specs.Rules.{open_angle, atom_type, foreign_type, option_type, array_type, record_type, typed_name, supplied_void, fn_return, extern_return, parse_args, import_path, bracketed_paths, one_path, import_paths, parse_import, extern_fn, parse_extern, extern_name};
-ghost use Rattle.parser_state.specs.Represents.{parser_of, code};
+ghost use Rattle.ast.specs.Layout.{token_cells, run_cells, type_cells, type_width, padded};
+ghost use Rattle.ast.specs.declared.TypeExpr.{TypeExpr};
+ghost use Rattle.ast.specs.declared.TypeExprId.{TypeExprId};
+ghost use Rattle.rules.specs.Rules.{open_angle, atom_type, foreign_type, record_type, typed_name, supplied_void, fn_return, extern_return, parse_args, import_path, bracketed_paths, one_path, import_paths, parse_import, extern_fn, parse_extern, extern_name};
+ghost use Rattle.parser_state.specs.Represents.{code_of};
 ghost use Rattle.parser_state.specs.Refines.{Refines, stack_unchanged, Takes, ReadsType, ReadsNode, ReadsList, ReadsMember, Pushes, Rules, deeper};
+ghost use Rattle.parser_types.specs.Inner.{inner_type};
 ghost use Rattle.parser_types.specs.Paths.{ReadsPaths};
 
 use ast::{NodeId, NodeKind, Run, TypeExprId, TypeExprKind};
 use lex::{Diagnostic, Type};
-use parser_state::{
-    State, WideNode, advance, alloc_slice, close, collect_docs, current, expect, expect_ident,
-    fail_expecting, get_used, kind, member_follows, push_cells, push_named, push_node, push_token,
-    push_token_node, push_type, reject_kind, take_docs,
-};
+use parser_state::Parser;
 use tokens::Entry;
 
 // ---- types
 
 // The word and the `<` of a type, `number` being the error where `>` follows.
-fn open_angle(tokens: &[u32], p: &mut State, number: u32)
-    requires { 1 < (parser_of p.old).cur.kind }
-    ensures { (nodes types lists : List ℕ) →
-        let before = code nodes types lists (parser_of p.old) in
-        let after = code nodes types lists (parser_of p.new) in
-        Refines tokens.now 0 0 (open_angle number) (λ n. n ≡ 0) stack_unchanged 2 2 16
-        before after }
+fn open_angle(p: &mut Parser, tokens: &[u32], number: u32)
+    requires { 1 < p.old.cur.kind }
+    ensures { Refines tokens.now 0 0 (open_angle number) (λ n. n ≡ 0) stack_unchanged 2 2 16
+        (code_of p.old) (code_of p.new) }
 {
-    advance(tokens, p);
-    expect(tokens, p, Type::LESS_THAN);
-    reject_kind(p, Type::GREATER_THAN, number);
+    p.advance(tokens);
+    p.expect(tokens, Type::LESS_THAN);
+    p.reject_kind(Type::GREATER_THAN, number);
 }
 
 // A type = atom-type
-fn atom_type(tokens: &[u32], types: &mut [u32], p: &mut State) -> TypeExprId
-    requires { 1 < (parser_of p.old).cur.kind }
-    ensures { (nodes lists : List ℕ) →
-        let before = code nodes types.old lists (parser_of p.old) in
-        let after = code nodes types.new lists (parser_of p.new) in
-        ReadsType tokens.now atom_type before after result }
+fn atom_type(p: &mut Parser, tokens: &[u32]) -> TypeExprId
+    requires { 1 < p.old.cur.kind }
+    ensures { ReadsType tokens.now atom_type (code_of p.old) (code_of p.new) result }
 {
-    let t = current(p);
-    advance(tokens, p);
-    push_type(types, p, TypeExprKind::ATOM, t.kind, t.start, t.len, 0, 0)
+    let t = p.cur;
+    p.advance(tokens);
+    p.push_type([TypeExprKind::ATOM, t.kind, t.start, t.len, 0, 0, 0, 0])
 }
 
 // A type = "Foreign" "<" ident ">"
-fn foreign_type(tokens: &[u32], types: &mut [u32], p: &mut State) -> TypeExprId
-    requires { 1 < (parser_of p.old).cur.kind }
-    ensures { (nodes lists : List ℕ) →
-        let before = code nodes types.old lists (parser_of p.old) in
-        let after = code nodes types.new lists (parser_of p.new) in
-        ReadsType tokens.now foreign_type before after result }
+fn foreign_type(p: &mut Parser, tokens: &[u32]) -> TypeExprId
+    requires { 1 < p.old.cur.kind }
+    ensures { ReadsType tokens.now foreign_type (code_of p.old) (code_of p.new) result }
 {
-    open_angle(tokens, p, Diagnostic::EMPTY_FOREIGN);
-    let name = current(p);
-    expect_ident(tokens, p);
-    expect(tokens, p, Type::GREATER_THAN);
-    push_type(
-        types,
-        p,
+    open_angle(p, tokens, Diagnostic::EMPTY_FOREIGN);
+    let name = p.cur;
+    p.expect_ident(tokens);
+    p.expect(tokens, Type::GREATER_THAN);
+    p.push_type([
         TypeExprKind::FOREIGN,
         name.kind,
         name.start,
         name.len,
         0,
         0,
-    )
+        0,
+        0,
+    ])
 }
 
-// A type = "Option" "<" type ">"
+// A type with one inside = word "<" type ">", `number` being the error where there is none.
 #[cycle(types)]
-fn option_type(
-    tokens: &[u32],
-    types: &mut [u32],
-    lists: &mut [u32],
-    p: &mut State,
-    levels: usize,
-) -> TypeExprId
-    requires { 1 < (parser_of p.old).cur.kind }
-    ensures { (rules : Rules) (nodes : List ℕ) →
-        let before = code nodes types.old lists.old
-        (parser_of p.old) in
-        let after = code nodes types.new lists.new (parser_of p.new) in
-        ReadsType tokens.now (option_type (deeper rules levels))
-        before after result }
+fn inner_type(p: &mut Parser, tokens: &[u32], kind: u32, number: u32, levels: usize) -> TypeExprId
+    requires { 1 < p.old.cur.kind }
+    ensures { (rules : Rules) (make : TypeExprId → TypeExpr) →
+        ((id : TypeExprId) → type_cells (make id) ≡ padded type_width (kind ∷ id.0 ∷ []))
+        → ReadsType tokens.now (inner_type number make (deeper rules levels))
+        (code_of p.old) (code_of p.new) result }
 {
-    open_angle(tokens, p, Diagnostic::EMPTY_OPTION);
-    let id = parse_type(tokens, types, lists, p, levels);
-    expect(tokens, p, Type::GREATER_THAN);
-    push_type(types, p, TypeExprKind::OPTION, id.0, 0, 0, 0, 0)
-}
-
-// A type = "Array" "<" type ">"
-#[cycle(types)]
-fn array_type(
-    tokens: &[u32],
-    types: &mut [u32],
-    lists: &mut [u32],
-    p: &mut State,
-    levels: usize,
-) -> TypeExprId
-    requires { 1 < (parser_of p.old).cur.kind }
-    ensures { (rules : Rules) (nodes : List ℕ) →
-        let before = code nodes types.old lists.old
-        (parser_of p.old) in
-        let after = code nodes types.new lists.new (parser_of p.new) in
-        ReadsType tokens.now (array_type (deeper rules levels))
-        before after result }
-{
-    open_angle(tokens, p, Diagnostic::EMPTY_ARRAY);
-    let id = parse_type(tokens, types, lists, p, levels);
-    expect(tokens, p, Type::GREATER_THAN);
-    push_type(types, p, TypeExprKind::ARRAY, id.0, 0, 0, 0, 0)
+    open_angle(p, tokens, number);
+    let id = parse_type(p, tokens, levels);
+    p.expect(tokens, Type::GREATER_THAN);
+    p.push_type([kind, id.0, 0, 0, 0, 0, 0, 0])
 }
 
 // A name and its type = ident ":" type
 #[cycle(types)]
-fn typed_name(tokens: &[u32], types: &mut [u32], lists: &mut [u32], p: &mut State, levels: usize)
-    ensures { (rules : Rules) (nodes : List ℕ) →
-        let before = code nodes types.old lists.old
-        (parser_of p.old) in
-        let after = code nodes types.new lists.new (parser_of p.new) in
+fn typed_name(p: &mut Parser, tokens: &[u32], levels: usize)
+    ensures { (rules : Rules) →
         ReadsMember tokens.now (typed_name (deeper rules levels))
-        before after }
+        (code_of p.old) (code_of p.new) }
 {
-    let name = current(p);
-    expect_ident(tokens, p);
-    expect(tokens, p, Type::COLON);
-    let id = parse_type(tokens, types, lists, p, levels);
-    push_named(lists, p, name, id.0);
+    let name = p.cur;
+    p.expect_ident(tokens);
+    p.expect(tokens, Type::COLON);
+    let id = parse_type(p, tokens, levels);
+    p.push_named(name, id.0);
 }
 
 // (ident ":" type)*, up to a closing token.
 #[cycle(types)]
-fn typed_names(
-    tokens: &[u32],
-    types: &mut [u32],
-    lists: &mut [u32],
-    p: &mut State,
-    stop: u32,
-    levels: usize,
-) -> Run
+fn typed_names(p: &mut Parser, tokens: &[u32], stop: u32, levels: usize) -> Run
     requires { 1 < stop }
-    ensures { ((rules : Rules) (nodes : List ℕ) →
-        let before = code nodes types.old lists.old
-        (parser_of p.old) in
-        let after = code nodes types.new lists.new (parser_of p.new) in
-        ReadsList tokens.now
-        (list_until stop (typed_name (deeper rules levels))) before after result)
-        × (result.len ≤ max_bytes) }
+    ensures { ((rules : Rules) →
+        ReadsList tokens.now (list_until stop (typed_name (deeper rules levels)))
+        (code_of p.old) (code_of p.new) result) × (result.len ≤ max_bytes) }
 {
-    let mark = get_used(p).scratch;
+    let mark = p.used.scratch;
     let mut members: u32 = 0;
-    while member_follows(p, stop) {
-        typed_name(tokens, types, lists, p, levels);
-        members = std::num::wrapping_add_u32(members, 1);
+    while p.member_follows(stop) {
+        typed_name(p, tokens, levels);
+        members = members.wrapping_add(1);
     }
-    close(tokens, lists, p, stop, mark, members)
+    p.close(tokens, stop, mark, members)
 }
 
 // A type = "Record" "<" (ident ":" type)* ">"
 #[cycle(types)]
-fn record_type(
-    tokens: &[u32],
-    types: &mut [u32],
-    lists: &mut [u32],
-    p: &mut State,
-    levels: usize,
-) -> TypeExprId
-    requires { 1 < (parser_of p.old).cur.kind }
-    ensures { (rules : Rules) (nodes : List ℕ) →
-        let before = code nodes types.old lists.old
-        (parser_of p.old) in
-        let after = code nodes types.new lists.new (parser_of p.new) in
+fn record_type(p: &mut Parser, tokens: &[u32], levels: usize) -> TypeExprId
+    requires { 1 < p.old.cur.kind }
+    ensures { (rules : Rules) →
         ReadsType tokens.now (record_type (deeper rules levels))
-        before after result }
+        (code_of p.old) (code_of p.new) result }
 {
-    let src = current(p);
-    advance(tokens, p);
-    expect(tokens, p, Type::LESS_THAN);
-    let run = typed_names(tokens, types, lists, p, Type::GREATER_THAN, levels);
-    push_type(
-        types,
-        p,
+    let src = p.cur;
+    p.advance(tokens);
+    p.expect(tokens, Type::LESS_THAN);
+    let run = typed_names(p, tokens, Type::GREATER_THAN, levels);
+    p.push_type([
         TypeExprKind::RECORD,
         src.kind,
         src.start,
         src.len,
         run.start,
         run.len,
-    )
+        0,
+        0,
+    ])
 }
 
 // type = atom-type | "Foreign" "<" ident ">" | "Option" "<" type ">" | "Array" "<" type ">" |
 // "Record" "<" (ident ":" type)* ">"
 #[cycle(types)]
-pub fn parse_type(
-    tokens: &[u32],
-    types: &mut [u32],
-    lists: &mut [u32],
-    p: &mut State,
-    levels: usize,
-) -> TypeExprId
-    ensures { (rules : Rules) (nodes : List ℕ) →
-        let before = code nodes types.old lists.old
-        (parser_of p.old) in
-        let after = code nodes types.new lists.new (parser_of p.new) in
-        ReadsType tokens.now (deeper rules levels).type
-        before after result }
+pub fn parse_type(p: &mut Parser, tokens: &[u32], levels: usize) -> TypeExprId
+    ensures { (rules : Rules) →
+        ReadsType tokens.now (deeper rules levels).type (code_of p.old) (code_of p.new) result }
 {
     if levels == 0 {
-        fail_expecting(p, Diagnostic::TOO_DEEP, 0);
+        p.fail_expecting(Diagnostic::TOO_DEEP, 0);
         return TypeExprId(0);
     }
-    match kind(p) {
-        Type::STR | Type::INT | Type::DOUBLE | Type::BOOL | Type::VOID => atom_type(
-            tokens, types, p,
-        ),
-        Type::FOREIGN => foreign_type(tokens, types, p),
-        Type::OPTION => option_type(tokens, types, lists, p, levels - 1),
-        Type::ARRAY => array_type(tokens, types, lists, p, levels - 1),
-        Type::RECORD => record_type(tokens, types, lists, p, levels - 1),
+    let below = levels - 1;
+    match p.kind() {
+        Type::STR | Type::INT | Type::DOUBLE | Type::BOOL | Type::VOID => atom_type(p, tokens),
+        Type::FOREIGN => foreign_type(p, tokens),
+        Type::OPTION => {
+            let number = Diagnostic::EMPTY_OPTION;
+            inner_type(p, tokens, TypeExprKind::OPTION, number, below)
+        }
+        Type::ARRAY => {
+            let number = Diagnostic::EMPTY_ARRAY;
+            inner_type(p, tokens, TypeExprKind::ARRAY, number, below)
+        }
+        Type::RECORD => record_type(p, tokens, below),
         _ => {
-            fail_expecting(p, Diagnostic::BAD_TYPE, 0);
+            p.fail_expecting(Diagnostic::BAD_TYPE, 0);
             TypeExprId(0)
         }
     }
@@ -238,278 +169,185 @@ pub fn parse_type(
 // ---- arguments and return types
 
 // A Void that the script leaves out, at the next token.
-fn supplied_void(types: &mut [u32], p: &mut State) -> TypeExprId
-    ensures { (tokens nodes lists : List ℕ) →
-        let before = code nodes types.old lists (parser_of p.old) in
-        let after = code nodes types.new lists (parser_of p.new) in
-        Refines tokens 1 0 supplied_void (λ t. t ≡ result) stack_unchanged 0 0 0 before after }
+fn supplied_void(p: &mut Parser) -> TypeExprId
+    ensures { (tokens : List ℕ) →
+        Refines tokens 1 0 supplied_void (λ t. t ≡ result) stack_unchanged 0 0 0
+        (code_of p.old) (code_of p.new) }
 {
-    let at = current(p).start;
-    push_type(types, p, TypeExprKind::ATOM, Type::VOID, at, 4, 0, 0)
+    let at = p.cur.start;
+    p.push_type([TypeExprKind::ATOM, Type::VOID, at, 4, 0, 0, 0, 0])
 }
 
 // The return type of a fn, Void where a `{` follows.
-pub fn fn_return(
-    tokens: &[u32],
-    types: &mut [u32],
-    lists: &mut [u32],
-    p: &mut State,
-    levels: usize,
-) -> TypeExprId
-    ensures { (rules : Rules) (nodes : List ℕ) →
-        let before = code nodes types.old lists.old
-        (parser_of p.old) in
-        let after = code nodes types.new lists.new (parser_of p.new) in
-        Refines tokens.now 1 0 (fn_return (deeper rules levels))
-        (λ t. t ≡ result) stack_unchanged 0 0 0 before after }
+pub fn fn_return(p: &mut Parser, tokens: &[u32], levels: usize) -> TypeExprId
+    ensures { (rules : Rules) →
+        Refines tokens.now 1 0 (fn_return (deeper rules levels)) (λ t. t ≡ result) stack_unchanged
+        0 0 0 (code_of p.old) (code_of p.new) }
 {
-    if kind(p) == Type::CURLY_LEFT {
-        supplied_void(types, p)
+    if p.kind() == Type::CURLY_LEFT {
+        supplied_void(p)
     } else {
-        parse_type(tokens, types, lists, p, levels)
+        parse_type(p, tokens, levels)
     }
 }
 
 // The return type in an extern, Void where a `}` or a `fn` follows.
-fn extern_return(
-    tokens: &[u32],
-    types: &mut [u32],
-    lists: &mut [u32],
-    p: &mut State,
-    levels: usize,
-) -> TypeExprId
-    ensures { (rules : Rules) (nodes : List ℕ) →
-        let before = code nodes types.old lists.old
-        (parser_of p.old) in
-        let after = code nodes types.new lists.new (parser_of p.new) in
-        Refines tokens.now 1 0 (extern_return (deeper rules levels))
-        (λ t. t ≡ result) stack_unchanged 0 0 0 before after }
+fn extern_return(p: &mut Parser, tokens: &[u32], levels: usize) -> TypeExprId
+    ensures { (rules : Rules) →
+        Refines tokens.now 1 0 (extern_return (deeper rules levels)) (λ t. t ≡ result)
+        stack_unchanged 0 0 0 (code_of p.old) (code_of p.new) }
 {
-    if kind(p) == Type::CURLY_RIGHT {
-        return supplied_void(types, p);
+    if p.kind() == Type::CURLY_RIGHT {
+        return supplied_void(p);
     }
-    if kind(p) == Type::FN {
-        return supplied_void(types, p);
+    if p.kind() == Type::FN {
+        return supplied_void(p);
     }
-    parse_type(tokens, types, lists, p, levels)
+    parse_type(p, tokens, levels)
 }
 
 // args = "(" (ident ":" type)* ")"
-pub fn parse_args(
-    tokens: &[u32],
-    types: &mut [u32],
-    lists: &mut [u32],
-    p: &mut State,
-    levels: usize,
-) -> Run
-    ensures { ((rules : Rules) (nodes : List ℕ) →
-        let before = code nodes types.old lists.old
-        (parser_of p.old) in
-        let after = code nodes types.new lists.new (parser_of p.new) in
-        ReadsList tokens.now (parse_args (deeper rules levels))
-        before after result)
-        × (result.len ≤ max_bytes) }
+pub fn parse_args(p: &mut Parser, tokens: &[u32], levels: usize) -> Run
+    ensures { ((rules : Rules) →
+        ReadsList tokens.now (parse_args (deeper rules levels)) (code_of p.old) (code_of p.new)
+        result) × (result.len ≤ max_bytes) }
 {
-    expect(tokens, p, Type::BRACE_LEFT);
-    typed_names(tokens, types, lists, p, Type::BRACE_RIGHT, levels)
+    p.expect(tokens, Type::BRACE_LEFT);
+    typed_names(p, tokens, Type::BRACE_RIGHT, levels)
 }
 
 // ---- imports
 
 // A path of an import.
-fn import_path(tokens: &[u32], lists: &mut [u32], p: &mut State)
-    ensures { (nodes types : List ℕ) →
-        let before = code nodes types lists.old (parser_of p.old) in
-        let after = code nodes types lists.new (parser_of p.new) in
-        ReadsMember tokens.now import_path before after }
+fn import_path(p: &mut Parser, tokens: &[u32])
+    ensures { ReadsMember tokens.now import_path (code_of p.old) (code_of p.new) }
 {
-    if kind(p) == Type::S {
-        let t = current(p);
-        advance(tokens, p);
-        push_token(lists, p, t);
+    if p.kind() == Type::S {
+        let t = p.cur;
+        p.advance(tokens);
+        p.push_token(t);
     } else {
-        fail_expecting(p, Diagnostic::IMPORT_PATH_NOT_A_STRING, 0);
+        p.fail_expecting(Diagnostic::IMPORT_PATH_NOT_A_STRING, 0);
     }
 }
 
 // Multiple package import: import ("io" "runtime")
-fn bracketed_paths(tokens: &[u32], lists: &mut [u32], p: &mut State) -> u32
-    ensures { (nodes types : List ℕ) →
-        let before = code nodes types lists.old (parser_of p.old) in
-        let after = code nodes types lists.new (parser_of p.new) in
-        ReadsPaths tokens.now bracketed_paths before after result }
+fn bracketed_paths(p: &mut Parser, tokens: &[u32]) -> u32
+    ensures { ReadsPaths tokens.now bracketed_paths (code_of p.old) (code_of p.new) result }
 {
-    expect(tokens, p, Type::BRACE_LEFT);
+    p.expect(tokens, Type::BRACE_LEFT);
     let mut members: u32 = 0;
-    while member_follows(p, Type::BRACE_RIGHT) {
-        import_path(tokens, lists, p);
-        members = std::num::wrapping_add_u32(members, 1);
+    while p.member_follows(Type::BRACE_RIGHT) {
+        import_path(p, tokens);
+        members = members.wrapping_add(1);
     }
-    expect(tokens, p, Type::BRACE_RIGHT);
+    p.expect(tokens, Type::BRACE_RIGHT);
     members
 }
 
 // Single package import: import "io"
-fn one_path(tokens: &[u32], lists: &mut [u32], p: &mut State) -> u32
-    requires { 1 < (parser_of p.old).cur.kind }
-    ensures { (nodes types : List ℕ) →
-        let before = code nodes types lists.old (parser_of p.old) in
-        let after = code nodes types lists.new (parser_of p.new) in
-        ReadsPaths tokens.now one_path before after result }
+fn one_path(p: &mut Parser, tokens: &[u32]) -> u32
+    requires { 1 < p.old.cur.kind }
+    ensures { ReadsPaths tokens.now one_path (code_of p.old) (code_of p.new) result }
 {
-    let t = current(p);
-    advance(tokens, p);
-    push_token(lists, p, t);
+    let t = p.cur;
+    p.advance(tokens);
+    p.push_token(t);
     1
 }
 
 // The paths of an import, in brackets or not.
-fn import_paths(tokens: &[u32], lists: &mut [u32], p: &mut State) -> u32
-    ensures { (nodes types : List ℕ) →
-        let before = code nodes types lists.old (parser_of p.old) in
-        let after = code nodes types lists.new (parser_of p.new) in
-        ReadsPaths tokens.now import_paths before after result }
+fn import_paths(p: &mut Parser, tokens: &[u32]) -> u32
+    ensures { ReadsPaths tokens.now import_paths (code_of p.old) (code_of p.new) result }
 {
-    if kind(p) == Type::S {
-        one_path(tokens, lists, p)
+    if p.kind() == Type::S {
+        one_path(p, tokens)
     } else {
-        bracketed_paths(tokens, lists, p)
+        bracketed_paths(p, tokens)
     }
 }
 
 // import = "import" string | "import" "(" string* ")"
-pub fn parse_import(tokens: &[u32], nodes: &mut [u32], lists: &mut [u32], p: &mut State) -> NodeId
-    requires { 1 < (parser_of p.old).cur.kind }
-    ensures { (types : List ℕ) →
-        let before = code nodes.old types lists.old
-        (parser_of p.old) in
-        let after = code nodes.new types lists.new (parser_of p.new) in
-        ReadsNode tokens.now parse_import before after result }
+pub fn parse_import(p: &mut Parser, tokens: &[u32]) -> NodeId
+    requires { 1 < p.old.cur.kind }
+    ensures { ReadsNode tokens.now parse_import (code_of p.old) (code_of p.new) result }
 {
-    let src = current(p);
-    advance(tokens, p);
-    let mark = get_used(p).scratch;
-    let members = import_paths(tokens, lists, p);
-    let pkgs = alloc_slice(lists, p, mark, members);
-    push_token_node(nodes, p, NodeKind::IMPORT, src, pkgs.start, pkgs.len)
+    let src = p.cur;
+    p.advance(tokens);
+    let mark = p.used.scratch;
+    let members = import_paths(p, tokens);
+    let pkgs = p.alloc_slice(mark, members);
+    p.push_token_node(NodeKind::IMPORT, src, pkgs.start, pkgs.len)
 }
 
 // ---- externs
 
 // The cells of a fn of an extern.
 #[tactic(auto, unfolding(ast::specs::Layout::token_cells, ast::specs::Layout::run_cells))]
-fn push_extern_fn(
-    lists: &mut [u32],
-    p: &mut State,
-    docs: Run,
-    name: Entry,
-    args: Run,
-    id: TypeExprId,
-)
-    ensures { (tokens nodes types : List ℕ) →
-        let before = code nodes types lists.old (parser_of p.old) in
-        let after = code nodes types lists.new (parser_of p.new) in
-        Pushes tokens 16
-        (run_cells docs ++ token_cells (token_of name) ++ run_cells args ++ (id.0 ∷ []))
-        before after }
+fn push_extern_fn(p: &mut Parser, docs: Run, name: Entry, args: Run, id: TypeExprId)
+    ensures { (tokens : List ℕ) →
+        Pushes tokens 16 (run_cells docs ++ token_cells (token_of name) ++ run_cells args ++
+        (id.0 ∷ [])) (code_of p.old) (code_of p.new) }
 {
-    let cells = [
+    p.push_cells(&[
         id.0, args.len, args.start, name.len, name.start, name.kind, docs.len, docs.start,
-    ];
-    push_cells(lists, p, &cells);
+    ]);
 }
 
 // A fn of an extern = doc* "fn" ident args type?
-fn extern_fn(tokens: &[u32], types: &mut [u32], lists: &mut [u32], p: &mut State, levels: usize)
-    ensures { (rules : Rules) (nodes : List ℕ) →
-        let before = code nodes types.old lists.old
-        (parser_of p.old) in
-        let after = code nodes types.new lists.new (parser_of p.new) in
-        ReadsMember tokens.now (extern_fn (deeper rules levels))
-        before after }
+fn extern_fn(p: &mut Parser, tokens: &[u32], levels: usize)
+    ensures { (rules : Rules) →
+        ReadsMember tokens.now (extern_fn (deeper rules levels)) (code_of p.old) (code_of p.new) }
 {
-    collect_docs(tokens, types, p);
-    reject_kind(p, Type::EXTERN, Diagnostic::NESTED_EXTERN);
-    let docs = take_docs(types, lists, p);
-    expect(tokens, p, Type::FN);
-    let name = current(p);
-    expect_ident(tokens, p);
-    let args = parse_args(tokens, types, lists, p, levels);
-    let id = extern_return(tokens, types, lists, p, levels);
-    push_extern_fn(lists, p, docs, name, args, id);
+    p.collect_docs(tokens);
+    p.reject_kind(Type::EXTERN, Diagnostic::NESTED_EXTERN);
+    let docs = p.take_docs();
+    p.expect(tokens, Type::FN);
+    let name = p.cur;
+    p.expect_ident(tokens);
+    let args = parse_args(p, tokens, levels);
+    let id = extern_return(p, tokens, levels);
+    push_extern_fn(p, docs, name, args, id);
 }
 
 // (doc* "fn" ident args type?)* "}"
-fn extern_fns(
-    tokens: &[u32],
-    types: &mut [u32],
-    lists: &mut [u32],
-    p: &mut State,
-    levels: usize,
-) -> Run
-    ensures { (rules : Rules) (nodes : List ℕ) →
-        let before = code nodes types.old lists.old
-        (parser_of p.old) in
-        let after = code nodes types.new lists.new (parser_of p.new) in
-        ReadsList tokens.now
-        (list_until k_curly_right (extern_fn (deeper rules levels)))
-        before after result }
+fn extern_fns(p: &mut Parser, tokens: &[u32], levels: usize) -> Run
+    ensures { (rules : Rules) →
+        ReadsList tokens.now (list_until k_curly_right (extern_fn (deeper rules levels)))
+        (code_of p.old) (code_of p.new) result }
 {
-    let mark = get_used(p).scratch;
+    let mark = p.used.scratch;
     let mut members: u32 = 0;
-    while member_follows(p, Type::CURLY_RIGHT) {
-        extern_fn(tokens, types, lists, p, levels);
-        members = std::num::wrapping_add_u32(members, 1);
+    while p.member_follows(Type::CURLY_RIGHT) {
+        extern_fn(p, tokens, levels);
+        members = members.wrapping_add(1);
     }
-    close(tokens, lists, p, Type::CURLY_RIGHT, mark, members)
+    p.close(tokens, Type::CURLY_RIGHT, mark, members)
 }
 
 // The string behind `extern`.
-fn extern_name(tokens: &[u32], p: &mut State)
-    ensures { Takes tokens.now extern_name (parser_of p.old)
-        (parser_of p.new) }
+fn extern_name(p: &mut Parser, tokens: &[u32])
+    ensures { Takes tokens.now extern_name (code_of p.old) (code_of p.new) }
 {
-    if kind(p) == Type::S {
-        advance(tokens, p);
+    if p.kind() == Type::S {
+        p.advance(tokens);
     } else {
-        fail_expecting(p, Diagnostic::EXTERN_WITHOUT_A_STRING, 0);
+        p.fail_expecting(Diagnostic::EXTERN_WITHOUT_A_STRING, 0);
     }
 }
 
 // extern = "extern" string "{" (doc* "fn" ident args type?)* "}"
-pub fn parse_extern(
-    tokens: &[u32],
-    nodes: &mut [u32],
-    types: &mut [u32],
-    lists: &mut [u32],
-    p: &mut State,
-    levels: usize,
-) -> NodeId
+pub fn parse_extern(p: &mut Parser, tokens: &[u32], levels: usize) -> NodeId
     ensures { (rules : Rules) →
-        let before = code nodes.old types.old lists.old
-        (parser_of p.old) in
-        let after = code nodes.new types.new lists.new
-        (parser_of p.new) in
-        ReadsNode tokens.now (parse_extern (deeper rules levels)) before after result }
+        ReadsNode tokens.now (parse_extern (deeper rules levels))
+        (code_of p.old) (code_of p.new) result }
 {
-    let docs = take_docs(types, lists, p);
-    let src = current(p);
-    expect(tokens, p, Type::EXTERN);
-    let name = current(p);
-    extern_name(tokens, p);
-    expect(tokens, p, Type::CURLY_LEFT);
-    let fns = extern_fns(tokens, types, lists, p, levels);
-    let id = get_used(p).values;
-    push_node(
-        nodes,
-        p,
-        WideNode::Extern {
-            id,
-            src,
-            docs,
-            name,
-            fns,
-        },
-        0,
-    )
+    let docs = p.take_docs();
+    let src = p.cur;
+    p.expect(tokens, Type::EXTERN);
+    let name = p.cur;
+    extern_name(p, tokens);
+    p.expect(tokens, Type::CURLY_LEFT);
+    let fns = extern_fns(p, tokens, levels);
+    p.push_extern(src, docs, name, fns)
 }

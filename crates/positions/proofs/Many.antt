@@ -1,19 +1,20 @@
 -- Laws of the lines and columns of many positions.
 use mathlib.Core.Path.{◌≡◌, refl, sym, ◌∙◌, ap}
-use mathlib.Core.Bool.{Bool, true, false}
+use mathlib.Core.Bool.{Bool, true, false, not}
 use mathlib.Core.List.{List, [], ◌∷◌, ◌++◌, append_assoc}
-use Prim.Native.Nat.{ℕ, suc, ◌+◌, ◌-◌, ◌*◌, ◌<◌, ◌≤◌}
+use Prim.Native.Nat.{ℕ, zero, suc, ◌+◌, ◌-◌, ◌*◌, ◌<◌, ◌≤◌}
 use native.Mathlib.Omega.{arith}
 use native.Mathlib.Numerals.{add-one}
-use lib.Dec.{ltb}
-use lib.ListN.{length, get_or, set, take, drop, drop_of_length-le, length-append, length-set}
+use lib.Dec.{leb, ltb}
+use lib.ListN.{length, get_or, set, take, drop, length-append, length-set}
 use lib.Seq.{drop-cons, take-suc, take_all, set_at, length-take-le}
-use borrow.Author.Tests.{lt-ltb, le-ltb, ltb-true, ltb-false}
+use borrow.Author.Tests.{lt-ltb, le-ltb, ltb-true, ltb-false, lt-leb, le-leb, leb-true, leb-false}
+use Rattle.std.specs.Bool.{MatchBool}
+use Rattle.std.specs.List.Sorted.{IsNonDecreasing}
 use Rattle.lex.specs.Answer.{max_bytes, Answer, refused, answer}
 use Rattle.positions.specs.Position.{feeds, since, place_of, onward}
 use Rattle.positions.specs.LineColumns.{falls_from, falls, pair_before, pairs, outcome, line_columns, all_inside, cells_of, Fillable}
 use Rattle.positions.specs.declared.Place.{Place}
-use Rattle.positions.specs.declared.Filled.TheVariants as F
 use Rattle.positions.proofs.Places.{place_outside, place_inside, onward-between, Near, near}
 
 -- ---- position `i` of a list
@@ -34,20 +35,40 @@ module _ (ps : List ℕ) (i : ℕ) (h : i < length ps) where
   module _ (n : ℕ) where
     pub inside_not : n < get_or ps i 0 → false ≡ all_inside n (drop i ps)
     unfolding all_inside
-    inside_not l = rw (next, lt-ltb n (get_or ps i 0) l)
+    inside_not l = rw (next, lt-leb (get_or ps i 0) n l)
 
     pub inside_on : get_or ps i 0 ≤ n → all_inside n (drop (i + 1) ps) ≡ all_inside n (drop i ps)
     unfolding all_inside
-    inside_on l = rw (next, le-ltb n (get_or ps i 0) l)
+    inside_on l = rw (next, le-leb (get_or ps i 0) n l)
 
-module _ (ps : List ℕ) (i : ℕ) (h : length ps ≤ i) where
-  pub falls_end : (last : ℕ) → false ≡ falls_from last (drop i ps)
-  unfolding falls_from
-  falls_end last = rw (drop_of_length-le ps h)
+-- a position that is below the one before it
+falls-behind : (ps : List ℕ) (k last : ℕ) → suc k < length ps → get_or ps (suc k) 0 < get_or ps k 0 → falls_from last ps ≡ true
+unfolding falls_from
+falls-behind [] k last h l = absurd (omega arith)
+falls-behind (p ∷ []) k last h l = absurd (omega arith)
+falls-behind (p ∷ q ∷ ps) zero last h l = go (ltb p last) refl
+  where
+    go : (t : Bool) → ltb p last ≡ t → falls_from last (p ∷ q ∷ ps) ≡ true
+    go true e = rw e
+    go false e = rw (e, falls_from, lt-ltb q p l)
+falls-behind (p ∷ q ∷ ps) (suc k) last h l = go (ltb p last) refl (falls-behind (q ∷ ps) k p (omega arith) l)
+  where
+    go : (t : Bool) → ltb p last ≡ t → falls_from p (q ∷ ps) ≡ true → falls_from last (p ∷ q ∷ ps) ≡ true
+    go true e more = rw e
+    go false e more = rw (e, falls_from) more
 
-  pub inside_end : (n : ℕ) → true ≡ all_inside n (drop i ps)
-  unfolding all_inside
-  inside_end n = rw (drop_of_length-le ps h)
+-- none is
+rises : (ps : List ℕ) (last : ℕ) → (0 < length ps → last ≤ get_or ps 0 0) → ((k : ℕ) → suc k < length ps → get_or ps k 0 ≤ get_or ps (suc k) 0) → falls_from last ps ≡ false
+unfolding falls_from
+rises [] last first h = refl
+rises (p ∷ ps) last first h =
+    let e : ltb p last ≡ false = le-ltb p last (first (omega arith)) in
+    rw e (rises ps p (λ l. h 0 (omega arith)) (λ k l. h (suc k) (omega arith)))
+
+-- what `is_sorted` answers
+pub falls-sorted : (ps : List ℕ) (r : Bool) → MatchBool r (IsNonDecreasing ps) ((k : ℕ) × (k + 1 < length ps) × ((d : ℕ) → get_or ps (k + 1) d < get_or ps k d)) → not r ≡ falls ps
+falls-sorted ps true h = sym (rises ps 0 (λ l. omega arith) (λ k l. h k (suc k) 0 (omega arith) l))
+falls-sorted ps false (k, l, h) = sym (falls-behind ps k 0 (rw add-one at l) (rw add-one at (h 0)))
 
 -- ---- the pairs
 
@@ -68,48 +89,48 @@ module _ (script : List ℕ) (short : length script ≤ max_bytes) where
   pairs-inside : (ps : List ℕ) → all_inside (length script) ps ≡ true → pairs script ps ≡ answer (cells_of script ps)
   unfolding pairs all_inside cells_of
   pairs-inside [] e = refl
-  pairs-inside (p ∷ ps) e = go (ltb (length script) p) refl (pairs-inside ps)
+  pairs-inside (p ∷ ps) e = go (leb p (length script)) refl (pairs-inside ps)
     where
-      go : (t : Bool) → ltb (length script) p ≡ t → (all_inside (length script) ps ≡ true → pairs script ps ≡ answer (cells_of script ps)) → pairs script (p ∷ ps) ≡ answer (cells_of script (p ∷ ps))
-      go true l more = absurd (never (rw (l, all_inside) at e))
-      go false l more =
-          ap (λ (a : Answer Place). pair_before a (pairs script ps)) (sym (place_inside script p short (ltb-false (length script) p l)))
+      go : (t : Bool) → leb p (length script) ≡ t → (all_inside (length script) ps ≡ true → pairs script ps ≡ answer (cells_of script ps)) → pairs script (p ∷ ps) ≡ answer (cells_of script (p ∷ ps))
+      go false l more = absurd (never (rw (l, all_inside) at e))
+      go true l more =
+          ap (λ (a : Answer Place). pair_before a (pairs script ps)) (sym (place_inside script p short (leb-true p (length script) l)))
           ∙ ap (λ (a : Answer (List ℕ)). pair_before (answer (place_of (take p script))) a) (more (rw (l, all_inside) at e))
 
   pairs_outside : (ps : List ℕ) → all_inside (length script) ps ≡ false → pairs script ps ≡ refused 3
   unfolding pairs all_inside
   pairs_outside [] e = absurd (never (sym e))
-  pairs_outside (p ∷ ps) e = go (ltb (length script) p) refl (pairs_outside ps)
+  pairs_outside (p ∷ ps) e = go (leb p (length script)) refl (pairs_outside ps)
     where
-      go : (t : Bool) → ltb (length script) p ≡ t → (all_inside (length script) ps ≡ false → pairs script ps ≡ refused 3) → pairs script (p ∷ ps) ≡ refused 3
-      go true l more = ap (λ (a : Answer Place). pair_before a (pairs script ps)) (sym (place_outside script p short (ltb-true (length script) p l)))
-      go false l more =
-          ap (λ (a : Answer Place). pair_before a (pairs script ps)) (sym (place_inside script p short (ltb-false (length script) p l)))
+      go : (t : Bool) → leb p (length script) ≡ t → (all_inside (length script) ps ≡ false → pairs script ps ≡ refused 3) → pairs script (p ∷ ps) ≡ refused 3
+      go false l more = ap (λ (a : Answer Place). pair_before a (pairs script ps)) (sym (place_outside script p short (leb-false p (length script) l)))
+      go true l more =
+          ap (λ (a : Answer Place). pair_before a (pairs script ps)) (sym (place_inside script p short (leb-true p (length script) l)))
           ∙ ap (λ (a : Answer (List ℕ)). pair_before (answer (place_of (take p script))) a) (more (rw (l, all_inside) at e))
 
 -- ---- how the call ends
 
 module _ (script ps places : List ℕ) where
-  pub ends_long : max_bytes < length script → outcome (F.Refused 1) places ≡ line_columns script ps places
+  pub ends_long : max_bytes < length script → outcome (refused 1) places ≡ line_columns script ps places
   unfolding line_columns
   ends_long h = rw (lt-ltb max_bytes (length script) h)
 
   module _ (short : length script ≤ max_bytes) where
-    pub ends_cramped : length places < 2 * length ps → outcome (F.Refused 50) places ≡ line_columns script ps places
+    pub ends_cramped : length places < 2 * length ps → outcome (refused 50) places ≡ line_columns script ps places
     unfolding line_columns
     ends_cramped l = rw (le-ltb max_bytes (length script) short, lt-ltb (length places) (2 * length ps) l)
 
     module _ (room : 2 * length ps ≤ length places) where
-      pub ends_falling : falls ps ≡ true → outcome (F.Refused 49) places ≡ line_columns script ps places
+      pub ends_falling : falls ps ≡ true → outcome (refused 49) places ≡ line_columns script ps places
       unfolding line_columns
       ends_falling f = rw (le-ltb max_bytes (length script) short, le-ltb (length places) (2 * length ps) room, f)
 
       module _ (rising : falls ps ≡ false) where
-        pub ends_outside : all_inside (length script) ps ≡ false → outcome (F.Refused 3) places ≡ line_columns script ps places
+        pub ends_outside : all_inside (length script) ps ≡ false → outcome (refused 3) places ≡ line_columns script ps places
         unfolding line_columns
         ends_outside o = rw (le-ltb max_bytes (length script) short, le-ltb (length places) (2 * length ps) room, rising, pairs_outside script short ps o)
 
-        pub ends-filled : all_inside (length script) ps ≡ true → outcome F.Done (cells_of script ps ++ drop (length (cells_of script ps)) places) ≡ line_columns script ps places
+        pub ends-filled : all_inside (length script) ps ≡ true → outcome (answer tt) (cells_of script ps ++ drop (length (cells_of script ps)) places) ≡ line_columns script ps places
         unfolding line_columns
         ends-filled i = rw (le-ltb max_bytes (length script) short, le-ltb (length places) (2 * length ps) room, rising, pairs-inside script short ps i)
 

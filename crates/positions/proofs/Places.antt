@@ -6,10 +6,11 @@ use Prim.Native.Nat.{ℕ, suc, ◌+◌, ◌-◌, ◌<◌, ◌≤◌}
 use native.Mathlib.Omega.{arith}
 use native.Mathlib.Nat.{add-zero, zero-add}
 use native.Mathlib.Numerals.{add-one}
-use lib.Dec.{eqb, leb, ltb}
+use lib.Dec.{eqb, ltb}
 use lib.ListN.{length, get_or, take, drop, drop_of_length-le, length-take}
 use lib.Seq.{drop-cons, take-add}
-use borrow.Author.Tests.{lt-ltb, le-ltb, ltb-true, ltb-false, lt-leb, le-leb, leb-true, eq-eqb, ne_eqb}
+use borrow.Author.Tests.{lt-ltb, le-ltb, ltb-true, ltb-false, lt-leb, le-leb, eq-eqb, ne_eqb}
+use Rattle.std.proofs.lemmas.Grind.{common_steps}
 use Rattle.lex.specs.Answer.{max_bytes, refused, answer}
 use Rattle.lex.specs.Bytes.{if, between}
 use Rattle.positions.specs.Position.{feeds, columns_of, since, place_of, place_at, onward, max_place, goes_on, advanced}
@@ -86,52 +87,57 @@ module _ (b : ℕ) (bs : List ℕ) where
   unfolding since
   since_other n e = rw (ne_eqb b 10 e)
 
--- what is counted after `i` bytes, `n` having been passed since the last line feed before them
-pub record Counted (n : ℕ) (bs : List ℕ) (i f s : ℕ) : Type 0 where
-  pub at : i ≤ length bs
-  pub lines : f ≤ i
-  pub columns : s ≤ n + i
-  pub fed : f + feeds (drop i bs) ≡ feeds bs
-  pub passed : since s (drop i bs) ≡ since n bs
+-- the place behind a byte
+module _ (p : Place) (b : ℕ) (bs : List ℕ) where
+  onward-feed : b ≡ 10 → onward (record { line = p.line + 1; column = 1 }) bs ≡ onward p (b ∷ bs)
+  unfolding onward
+  onward-feed e =
+      let l : p.line + 1 + feeds bs ≡ p.line + suc (feeds bs) = omega arith in
+      rw (feeds_feed b bs e, since_feed b bs (p.column - 1) e, l)
 
-pub counted_none : (n : ℕ) (bs : List ℕ) → Counted n bs 0 0 n
-counted_none n bs = record { at = omega arith; lines = omega arith; columns = omega arith; fed = zero-add (feeds bs); passed = refl }
+  onward-other : (b ≡ 10 → ⊥) → 1 ≤ p.column → onward (record { line = p.line; column = p.column + columns_of b }) bs ≡ onward p (b ∷ bs)
+  unfolding onward
+  onward-other n h =
+      let l : p.column + columns_of b - 1 ≡ p.column - 1 + columns_of b = omega arith in
+      rw (feeds_other b bs n, since_other b bs (p.column - 1) n, l)
 
-module _ (n : ℕ) (bs : List ℕ) (i f s : ℕ) (h : i < length bs) (c : Counted n bs i f s) where
+-- behind `i` bytes the place is `q`
+pub record Walked (p : Place) (bs : List ℕ) (i : ℕ) (q : Place) : Type 0 where
+  pub one : 1 ≤ q.column
+  pub column : q.column ≤ p.column + i
+  pub line : q.line ≤ p.line + i
+  pub rest : onward q (drop i bs) ≡ onward p bs
+
+pub walked_none : (p : Place) (bs : List ℕ) → 1 ≤ p.column → Walked p bs 0 p
+walked_none p bs h = record { one = h; column = omega arith; line = omega arith; rest = refl }
+
+module _ (p : Place) (bs : List ℕ) (i : ℕ) (q : Place) (h : i < length bs) (w : Walked p bs i q) where
   next : drop i bs ≡ get_or bs i 0 ∷ drop (i + 1) bs
   next = rw add-one (drop-cons bs i 0 h)
 
-  pub counted_feed : get_or bs i 0 ≡ 10 → Counted n bs (i + 1) (f + 1) 0
-  counted_feed e =
-      let g : feeds (drop i bs) ≡ suc (feeds (drop (i + 1) bs)) = ap feeds next ∙ feeds_feed (get_or bs i 0) (drop (i + 1) bs) e in
-      let k : f + feeds (drop i bs) ≡ feeds bs = c.fed in
-      record {
-        at = omega arith;
-        lines = omega (arith, c.lines);
-        columns = omega arith;
-        fed = omega arith;
-        passed = sym (since_feed (get_or bs i 0) (drop (i + 1) bs) s e) ∙ ap (since s) (sym next) ∙ c.passed;
-      }
+  pub walked_feed : get_or bs i 0 ≡ 10 → Walked p bs (i + 1) (record { line = q.line + 1; column = 1 })
+  walked_feed e = record {
+    one = omega arith;
+    column = omega (arith, w.one, w.column);
+    line = omega (arith, w.line);
+    rest = onward-feed q (get_or bs i 0) (drop (i + 1) bs) e ∙ ap (onward q) (sym next) ∙ w.rest;
+  }
 
-  pub counted_other : (get_or bs i 0 ≡ 10 → ⊥) → Counted n bs (i + 1) f (s + columns_of (get_or bs i 0))
-  counted_other e =
-      let g : feeds (drop i bs) ≡ feeds (drop (i + 1) bs) = ap feeds next ∙ feeds_other (get_or bs i 0) (drop (i + 1) bs) e in
-      let k : f + feeds (drop i bs) ≡ feeds bs = c.fed in
-      record {
-        at = omega arith;
-        lines = omega (arith, c.lines);
-        columns = omega (arith, c.columns, columns_le (get_or bs i 0));
-        fed = omega arith;
-        passed = sym (since_other (get_or bs i 0) (drop (i + 1) bs) s e) ∙ ap (since s) (sym next) ∙ c.passed;
-      }
+  pub walked_other : (get_or bs i 0 ≡ 10 → ⊥) → Walked p bs (i + 1) (record { line = q.line; column = q.column + columns_of (get_or bs i 0) })
+  walked_other n = record {
+    one = omega (arith, w.one);
+    column = omega (arith, w.column, columns_le (get_or bs i 0));
+    line = omega (arith, w.line);
+    rest = onward-other q (get_or bs i 0) (drop (i + 1) bs) n w.one ∙ ap (onward q) (sym next) ∙ w.rest;
+  }
 
-pub counted-all : (p : Place) (bs : List ℕ) (i f s : ℕ) → length bs ≤ i → Counted (p.column - 1) bs i f s → record { line = p.line + f; column = 1 + s } ≡ onward p bs
+pub walked-all : (p : Place) (bs : List ℕ) (i : ℕ) (q : Place) → length bs ≤ i → Walked p bs i q → q ≡ onward p bs
 unfolding onward feeds since
-counted-all p bs i f s h c =
+walked-all p bs i q h w =
     let d : drop i bs ≡ [] = drop_of_length-le bs h in
-    let k : f ≡ feeds bs = sym (add-zero f) ∙ ap (λ (l : List ℕ). f + feeds l) (sym d) ∙ c.fed in
-    let q : s ≡ since (p.column - 1) bs = ap (since s) (sym d) ∙ c.passed in
-    rw (← k, ← q)
+    let k : 1 + (q.column - 1) ≡ q.column = omega (arith, w.one) in
+    let e : onward q [] ≡ q = rw (add-zero, k) in
+    sym e ∙ ap (onward q) (sym d) ∙ w.rest
 
 -- ---- a place in a script that is not too long
 
@@ -207,25 +213,6 @@ unfolding onward place_of
 onward-start before = refl
 
 -- when the walk goes on
-module _ (from : ℕ) (known : Place) (to : ℕ) where
-  pub goes_back : to < from → false ≡ goes_on from known to
-  unfolding goes_on
-  goes_back h = rw (lt-ltb to from h)
-
-  module _ (ahead : from ≤ to) where
-    pub goes_nowhere : known.column < 1 → false ≡ goes_on from known to
-    unfolding goes_on
-    goes_nowhere h = rw (le-ltb to from ahead, lt-ltb known.column 1 h)
-
-    module _ (one : 1 ≤ known.column) where
-      pub goes_far : max_place < known.column → false ≡ goes_on from known to
-      unfolding goes_on
-      goes_far h = rw (le-ltb to from ahead, le-ltb known.column 1 one, lt-ltb max_place known.column h)
-
-      pub goes_by_line : known.column ≤ max_place → leb known.line max_place ≡ goes_on from known to
-      unfolding goes_on
-      goes_by_line h = rw (le-ltb to from ahead, le-ltb known.column 1 one, le-ltb max_place known.column h)
-
 pub record Ahead (from : ℕ) (known : Place) (to : ℕ) : Type 0 where
   pub ahead : from ≤ to
   pub one : 1 ≤ known.column
@@ -233,20 +220,8 @@ pub record Ahead (from : ℕ) (known : Place) (to : ℕ) : Type 0 where
   pub line : known.line ≤ max_place
 
 pub ahead : (from : ℕ) (known : Place) (to : ℕ) → goes_on from known to ≡ true → Ahead from known to
-ahead from known to h = go (ltb to from) (ltb known.column 1) (ltb max_place known.column) refl refl refl
-  where
-    never : false ≡ true → ⊥
-    never e = let z : ◌≡◌ {A = ℕ} 0 1 = cc in omega arith
-
-    go : (t u v : Bool) → ltb to from ≡ t → ltb known.column 1 ≡ u → ltb max_place known.column ≡ v → Ahead from known to
-    go true u v a b d = absurd (never (goes_back from known to (ltb-true to from a) ∙ h))
-    go false true v a b d = absurd (never (goes_nowhere from known to (ltb-false to from a) (ltb-true known.column 1 b) ∙ h))
-    go false false true a b d = absurd (never (goes_far from known to (ltb-false to from a) (ltb-false known.column 1 b) (ltb-true max_place known.column d) ∙ h))
-    go false false false a b d =
-        let x = ltb-false to from a in
-        let y = ltb-false known.column 1 b in
-        let z = ltb-false max_place known.column d in
-        record { ahead = x; one = y; column = z; line = leb-true known.line max_place (goes_by_line from known to x y z ∙ h) }
+unfolding goes_on
+ahead from known to h = record { ahead = grind (arith, common_steps); one = grind (arith, common_steps); column = grind (arith, common_steps); line = grind (arith, common_steps) }
 
 module _ (script : List ℕ) (from : ℕ) (known : Place) (to : ℕ) where
   pub advanced_long : max_bytes < length script → refused 1 ≡ advanced script from known to

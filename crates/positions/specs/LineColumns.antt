@@ -1,12 +1,11 @@
 -- The lines and columns of many positions, which never fall.
-use Rattle.std.specs.Prelude.{◌≡◌, Bool, true, false, List, [], ◌∷◌, ◌++◌, ℕ, ◌*◌, ◌≤◌, ltb, length, take, drop}
+use Rattle.std.specs.Prelude.{⊤, ◌≡◌, Bool, true, false, List, [], ◌∷◌, ◌++◌, ℕ, ◌*◌, ◌≤◌, leb, ltb, length, take, drop}
+use Rattle.std.specs.List.{list_all}
 use Rattle.lex.specs.Answer.{max_bytes, Answer, refused, answer}
 use Rattle.lex.specs.Refusals.{r_too_long, r_positions_fall, r_places_too_short}
 use Rattle.lex.specs.Bytes.{if}
 use Rattle.positions.specs.Position.{place_of, place_at}
 use Rattle.positions.specs.declared.Place.{Place}
-use Rattle.positions.specs.declared.Filled.{Filled}
-use Rattle.positions.specs.declared.Filled.TheVariants as F
 
 -- a position is below the one before it, `last` being the one before the first
 unfoldable pub falls_from : ℕ → List ℕ → Bool
@@ -29,36 +28,35 @@ pairs script (p ∷ ps) = pair_before (place_at script p) (pairs script ps)
 
 -- how the call ends, and the second list as it is left
 pub record Outcome : Type 0 where
-  pub answer : Filled
+  pub answer : Answer ⊤
   pub places : List ℕ
 
-abbrev pub outcome : Filled → List ℕ → Outcome
+abbrev pub outcome : Answer ⊤ → List ℕ → Outcome
 outcome a places = record { answer = a; places = places }
 
 -- the pairs stand in front; behind them the second list keeps what it held
 abbrev pub filled : Answer (List ℕ) → List ℕ → Outcome
-filled (refused n) places = outcome (F.Refused n) places
-filled (answer cells) places = outcome F.Done (cells ++ drop (length cells) places)
+filled (refused n) places = outcome (refused n) places
+filled (answer cells) places = outcome (answer tt) (cells ++ drop (length cells) places)
 
 -- 1 is tested first, then 50, then 49, then 3; none of them changes the second list
 unfoldable pub line_columns : List ℕ → List ℕ → List ℕ → Outcome
 line_columns script positions places =
-    if (ltb max_bytes (length script)) (outcome (F.Refused r_too_long) places)
-    (if (ltb (length places) (2 * length positions)) (outcome (F.Refused r_places_too_short) places)
-    (if (falls positions) (outcome (F.Refused r_positions_fall) places)
+    if (ltb max_bytes (length script)) (outcome (refused r_too_long) places)
+    (if (ltb (length places) (2 * length positions)) (outcome (refused r_places_too_short) places)
+    (if (falls positions) (outcome (refused r_positions_fall) places)
     (filled (pairs script positions) places)))
 
 -- the papers' number for each case of the answer
-unfoldable pub number_of : Filled → ℕ
-number_of F.Done = 0
-number_of (F.Refused n) = n
+unfoldable pub number_of : Answer ⊤ → ℕ
+number_of (answer _) = 0
+number_of (refused n) = n
 
 -- ---- what the code's own functions mean
 
 -- no position lies past the end of `n` bytes
 unfoldable pub all_inside : ℕ → List ℕ → Bool
-all_inside n [] = true
-all_inside n (p ∷ ps) = if (ltb n p) false (all_inside n ps)
+all_inside n positions = list_all (λ p. leb p n) positions
 
 -- the pairs of positions that lie in the script
 unfoldable pub cells_of : List ℕ → List ℕ → List ℕ

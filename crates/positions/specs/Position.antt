@@ -1,11 +1,9 @@
 -- The line and column of a byte position.
-use Rattle.std.specs.Prelude.{Bool, false, List, [], ◌∷◌, ℕ, suc, ◌+◌, ◌-◌, eqb, leb, ltb, length, take, drop}
+use Rattle.std.specs.Prelude.{Bool, ◌&&◌, List, [], ◌∷◌, ℕ, suc, ◌+◌, ◌-◌, eqb, leb, ltb, length, take, drop}
 use Rattle.lex.specs.Answer.{max_bytes, Answer, refused, answer}
 use Rattle.lex.specs.Refusals.{r_too_long, r_outside}
 use Rattle.lex.specs.Bytes.{if, between}
 use Rattle.positions.specs.declared.Place.{Place}
-use Rattle.positions.specs.declared.Position.{Position}
-use Rattle.positions.specs.declared.Position.TheVariants as P
 
 -- the line feeds among bytes
 unfoldable pub feeds : List ℕ → ℕ
@@ -31,10 +29,6 @@ place_at script at =
     (if (ltb (length script) at) (refused r_outside)
     (answer (place_of (take at script))))
 
-unfoldable pub position_answer : Position → Answer Place
-position_answer (P.At p) = answer p
-position_answer (P.Refused n) = refused n
-
 -- ---- from a place that is known
 
 -- the place behind bytes, from the place before them
@@ -49,10 +43,7 @@ max_place = 65537
 -- a place that a script can have
 unfoldable pub goes_on : ℕ → Place → ℕ → Bool
 goes_on from known to =
-    if (ltb to from) false
-    (if (ltb known.column 1) false
-    (if (ltb max_place known.column) false
-    (leb known.line max_place)))
+    leb from to && (leb 1 known.column && leb known.column max_place) && leb known.line max_place
 
 -- the place of `to` from `known`, taken for the place of `from`; from the script's beginning where
 -- the walk does not go on

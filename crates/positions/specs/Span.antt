@@ -7,8 +7,6 @@ use Rattle.lex.specs.Kind.{k_s}
 use Rattle.lex.specs.Spelling.{well_formed, as_str_length}
 use Rattle.lex.specs.declared.tok.Token.{Token}
 use Rattle.positions.specs.declared.Span.{Span}
-use Rattle.positions.specs.declared.SpanRead.{SpanRead}
-use Rattle.positions.specs.declared.SpanRead.TheVariants as SR
 
 -- as `Span::from_token`: a string starts one byte later; the length is that of `as_str`
 unfoldable pub span_of : Token → Span
@@ -22,7 +20,3 @@ unfoldable pub token_span : List ℕ → Token → Answer Span
 token_span script t =
     if (ltb max_bytes (length script)) (refused r_too_long)
     (if (well_formed script t) (answer (span_of t)) (refused r_malformed))
-
-unfoldable pub span_answer : SpanRead → Answer Span
-span_answer (SR.Found s) = answer s
-span_answer (SR.Refused n) = refused n

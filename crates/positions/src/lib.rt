@@ -2,15 +2,14 @@
 #![tactic(auto)]
 
 ghost use Rattle.std.specs.Prelude.{◌≡◌, true, ◌++◌, ◌≤◌, length, drop};
-ghost use Rattle.lex.specs.Answer.{max_bytes};
-ghost use Rattle.lex.specs.Spelling.{well_formed};
-ghost use Rattle.positions.specs.Span.{span_of, token_span, span_answer};
+ghost use Rattle.lex.specs.Answer.{max_bytes, answered};
+ghost use Rattle.positions.specs.Span.{token_span};
 ghost use Rattle.positions.specs.Position.{columns_of, onward, max_place, goes_on};
-ghost use Rattle.positions.specs.Position.{advanced, place_at, position_answer};
+ghost use Rattle.positions.specs.Position.{advanced, place_at};
 ghost use Rattle.positions.specs.LineColumns.{falls as falls_in, all_inside, cells_of};
 ghost use Rattle.positions.specs.LineColumns.{Fillable, outcome, line_columns};
 
-use lex::{MAX_BYTES, Refusal, Token, Type, well_formed};
+use lex::{MAX_BYTES, Refusal, Token, Type, as_str_len, well_formed};
 
 #[derive(Clone, Copy)]
 pub struct Span {
@@ -18,54 +17,26 @@ pub struct Span {
     pub len: usize,
 }
 
-#[derive(Clone, Copy)]
-pub enum SpanRead {
-    Found(Span),
-    Refused(u32),
-}
-
 impl Span {
     // The span of a token. A string's starts one byte later.
-    pub fn from_token(script: &[u8], t: Token) -> SpanRead
-        ensures { span_answer result ≡ token_span script.now t }
+    pub fn from_token(script: &[u8], t: Token) -> Result<Span, Refusal>
+        ensures { answered result ≡ token_span script.now t }
     {
         if MAX_BYTES < script.len() {
-            return SpanRead::Refused(Refusal::TOO_LONG);
+            return Err(Refusal::TooLong);
         }
-        if well_formed(script, t) {
-            SpanRead::Found(span_of(script, t))
+        if !well_formed(script, t) {
+            return Err(Refusal::Malformed);
+        }
+        let start = if t.kind == Type::S {
+            t.start + 1
         } else {
-            SpanRead::Refused(Refusal::MALFORMED)
-        }
-    }
-}
-
-fn span_of(script: &[u8], t: Token) -> Span
-    requires { well_formed script.now t ≡ true }
-    ensures { result ≡ span_of t }
-{
-    let kind = t.kind;
-    if kind == Type::S {
-        return Span {
-            start: t.start + 1,
-            len: t.len,
+            t.start
         };
-    }
-    if kind < Type::S {
-        return Span {
-            start: t.start,
-            len: Type::spelling_len(kind),
-        };
-    }
-    if Type::DOC < kind {
-        return Span {
-            start: t.start,
-            len: Type::spelling_len(kind),
-        };
-    }
-    Span {
-        start: t.start,
-        len: t.len,
+        Ok(Span {
+            start,
+            len: as_str_len(t),
+        })
     }
 }
 
@@ -73,12 +44,6 @@ fn span_of(script: &[u8], t: Token) -> Span
 pub struct Place {
     pub line: u32,
     pub column: u32,
-}
-
-#[derive(Clone, Copy)]
-pub enum Position {
-    At(Place),
-    Refused(u32),
 }
 
 const LINE_FEED: u8 = 10;
@@ -95,39 +60,34 @@ const MAX_PLACE: u32 = 65537;
 fn columns_of(b: u8) -> u32
     ensures { result ≡ columns_of b }
 {
-    if b < FIRST_CONTINUATION {
-        return 1;
+    match b {
+        FIRST_CONTINUATION..=LAST_CONTINUATION => 0,
+        _ => 1,
     }
-    if LAST_CONTINUATION < b {
-        return 1;
-    }
-    0
 }
 
-// The place behind some bytes, from the place before them.
-fn place_after(before: Place, bytes: &[u8]) -> Place
-    requires { (1 ≤ before.column)
-        × (before.column ≤ max_place)
-        × (before.line ≤ max_place)
-        × (length bytes.now ≤ max_bytes) }
-    ensures { result ≡ onward before bytes.now }
-{
-    let mut feeds: u32 = 0;
-    let mut since: u32 = before.column - 1;
-    let mut i = 0;
-    while i < bytes.len() {
-        let b = bytes[i];
-        if b == LINE_FEED {
-            feeds += 1;
-            since = 0;
-        } else {
-            since += columns_of(b);
+impl Place {
+    // Where a script starts.
+    const START: Place = Place { line: 1, column: 1 };
+
+    // The place behind some bytes, from the place before them.
+    fn after(self, bytes: &[u8]) -> Place
+        requires { (1 ≤ self.column)
+            × (self.column ≤ max_place)
+            × (self.line ≤ max_place)
+            × (length bytes.now ≤ max_bytes) }
+        ensures { result ≡ onward self bytes.now }
+    {
+        let mut place = self;
+        for b in bytes {
+            if *b == LINE_FEED {
+                place.line += 1;
+                place.column = 1;
+            } else {
+                place.column += columns_of(*b);
+            }
         }
-        i += 1;
-    }
-    Place {
-        line: before.line + feeds,
-        column: 1 + since,
+        place
     }
 }
 
@@ -135,124 +95,87 @@ fn place_after(before: Place, bytes: &[u8]) -> Place
 fn goes_on(from: u32, known: Place, to: u32) -> bool
     ensures { result ≡ goes_on from known to }
 {
-    if to < from {
-        return false;
-    }
-    if known.column < 1 {
-        return false;
-    }
-    if MAX_PLACE < known.column {
-        return false;
-    }
-    known.line <= MAX_PLACE
+    from <= to && (1..=MAX_PLACE).contains(&known.column) && known.line <= MAX_PLACE
 }
 
 // The line and column of the position `to`. Where `known` is the place of `from`, only the bytes
 // between the two are gone through; where `to` lies before `from`, all before `to`.
-pub fn advance(script: &[u8], from: u32, known: Place, to: u32) -> Position
-    ensures { position_answer result ≡ advanced script.now from known to }
+pub fn advance(script: &[u8], from: u32, known: Place, to: u32) -> Result<Place, Refusal>
+    ensures { answered result ≡ advanced script.now from known to }
 {
     if MAX_BYTES < script.len() {
-        return Position::Refused(Refusal::TOO_LONG);
+        return Err(Refusal::TooLong);
     }
     let n = to as usize;
     if script.len() < n {
-        return Position::Refused(Refusal::OUTSIDE);
+        return Err(Refusal::Outside);
     }
     if goes_on(from, known, to) {
         let start = from as usize;
-        return Position::At(place_after(known, &script[start..n]));
+        return Ok(known.after(&script[start..n]));
     }
-    Position::At(place_after(Place { line: 1, column: 1 }, &script[..n]))
+    Ok(Place::START.after(&script[..n]))
 }
 
 // The line and column of the position `at`, both from 1 on.
-pub fn line_column(script: &[u8], at: u32) -> Position
-    ensures { position_answer result ≡ place_at script.now at }
+pub fn line_column(script: &[u8], at: u32) -> Result<Place, Refusal>
+    ensures { answered result ≡ place_at script.now at }
 {
-    advance(script, 0, Place { line: 1, column: 1 }, at)
-}
-
-// How a call ends that looks up many positions.
-#[derive(Clone, Copy)]
-pub enum Filled {
-    Done,
-    Refused(u32),
+    advance(script, 0, Place::START, at)
 }
 
 // A position is below the one before it.
 fn falls(positions: &[u32]) -> bool
     ensures { result ≡ falls_in positions.now }
 {
-    let mut last = 0;
-    let mut i = 0;
-    while i < positions.len() {
-        let p = positions[i];
-        if p < last {
-            return true;
-        }
-        last = p;
-        i += 1;
-    }
-    false
+    !positions.is_sorted()
 }
 
 // No position lies past the script's end.
 fn all_inside(script: &[u8], positions: &[u32]) -> bool
     ensures { result ≡ all_inside (length script.now) positions.now }
 {
-    let mut i = 0;
-    while i < positions.len() {
-        let p = positions[i] as usize;
-        if script.len() < p {
-            return false;
-        }
-        i += 1;
-    }
-    true
+    positions.iter().all(|p| *p as usize <= script.len())
 }
 
 // The pairs of all positions. Each place is found from the one before it, so that the script is
-// gone through once.
+// gone through once. Pairs are written by index: of parts that `chunks_exact_mut` lends, a proof
+// knows no cell afterwards.
 fn fill(script: &[u8], positions: &[u32], places: &mut [u32])
     requires { Fillable script.now positions.now places.old }
     ensures { let cells = cells_of script.now positions.now in
         places.new ≡ cells ++ drop (length cells) places.old }
 {
     let mut at = 0;
-    let mut place = Place { line: 1, column: 1 };
-    let mut i = 0;
-    while i < positions.len() {
-        let to = positions[i] as usize;
-        place = place_after(place, &script[at..to]);
-        let j = 2 * i;
-        places[j] = place.line;
-        places[j + 1] = place.column;
+    let mut place = Place::START;
+    for (i, p) in positions.iter().enumerate() {
+        let to = *p as usize;
+        place = place.after(&script[at..to]);
+        places[2 * i] = place.line;
+        places[2 * i + 1] = place.column;
         at = to;
-        i += 1;
     }
 }
 
 // The lines and columns of positions that never fall: those of position `i` go into cells `2 * i`
 // and `2 * i + 1` of `places`. All is tested before anything is written.
-pub fn line_columns(script: &[u8], positions: &[u32], places: &mut [u32]) -> Filled
-    ensures { let left = outcome result places.new in
+pub fn line_columns(script: &[u8], positions: &[u32], places: &mut [u32]) -> Result<(), Refusal>
+    ensures { let left = outcome (answered result) places.new in
         let bytes = script.now in
         left ≡ line_columns bytes positions.now places.old }
 {
     if MAX_BYTES < script.len() {
-        return Filled::Refused(Refusal::TOO_LONG);
+        return Err(Refusal::TooLong);
     }
     if places.len() / 2 < positions.len() {
-        return Filled::Refused(Refusal::PLACES_TOO_SHORT);
+        return Err(Refusal::PlacesTooShort);
     }
     if falls(positions) {
-        return Filled::Refused(Refusal::POSITIONS_FALL);
+        return Err(Refusal::PositionsFall);
     }
-    if all_inside(script, positions) {
-        fill(script, positions, places);
-        Filled::Done
-    } else {
-        Filled::Refused(Refusal::OUTSIDE)
+    if !all_inside(script, positions) {
+        return Err(Refusal::Outside);
     }
+    fill(script, positions, places);
+    Ok(())
 }

@@ -1,115 +1,102 @@
 -- What is drawn, by the draw that picks: laws that the writing functions' proofs cite.
-use Rattle.std.proofs.Common.{◌≡◌, ℕ, suc, ◌+◌, ◌-◌, ◌/◌, ◌%◌, ◌<◌, ◌≤◌, List, [], ◌∷◌, ◌++◌, length, sym, refl, ap, ◌∙◌, subst, append_assoc, append-nil, add-one, arith, le-ltb, lt-ltb, eq-eqb, ne_eqb}
-use Rattle.practice.specs.declared.Place.{Place}
+use Rattle.std.proofs.Common.{◌≡◌, ℕ, suc, ◌+◌, ◌-◌, ◌<◌, ◌≤◌, List, [], ◌∷◌, ◌++◌, length, sym, refl, ap, ◌∙◌, subst, append_assoc, append-nil, add-one, arith, le-ltb, lt-ltb, eq-eqb, ne_eqb}
+use Rattle.text.specs.declared.Writer.{Writer}
 use Rattle.text.specs.Text.{bytes, number as decimal}
-use Rattle.text.specs.Emit.{last, Emits}
+use Rattle.text.specs.Emit.{last, Emits, Writes}
 use Rattle.text.specs.Answer.{written, result, refuse}
-use Rattle.text.proofs.EmitLaws.{then, by, nothing, same_size, whole}
+use Rattle.text.proofs.EmitLaws.{and_then, writes_by, writes_nothing, whole}
 use Rattle.text.proofs.Plain.{kept, counted}
-use Rattle.practice.specs.Practice.{next, Drawn, draw, map_drawn, Expr, sum, leaf, sum_of, picked, expression, top_level, expressions, name_text, text, line, lines_from, sheet, promised}
+use Rattle.practice.specs.Practice.{Drawn, draw, map_drawn, Expr, sum, leaf, sum_of, picked, expression, top_level, expressions, name_text, text, line, lines_from, sheet, promised}
 use Rattle.practice.specs.Drawing.{WritesDrawn}
 use Rattle.practice.proofs.Sheets.{lines_short, sheet-plain}
 
 -- ---- a leaf
 
-module _ {x y : List ℕ} {at to : ℕ} (pick seed s : ℕ) (new : s ≡ next seed) where
-  pub leaf-number : pick ≡ 0 → Emits (decimal (s / 65536 % 100)) x at y to
-      → WritesDrawn text (leaf pick seed) x at y (record { at = to; seed = s })
-  unfolding leaf map_drawn draw text
-  leaf-number e f = rw (eq-eqb pick 0 e, leaf) (record {
-    emits = by (ap (λ (n : ℕ). decimal (n / 65536 % 100)) new) f;
-    seed = new;
-  })
+module _ (pick seed : ℕ) {u w : Writer} {s n : ℕ} where
+  pub leaf-number : pick ≡ 0 → n ≡ (draw 100 seed).value → s ≡ (draw 100 seed).seed → Writes (decimal n) u w
+      → WritesDrawn text (leaf pick seed) u w s
+  unfolding leaf map_drawn text
+  leaf-number e value next f = rw (eq-eqb pick 0 e, leaf) (record { writes = writes_by (ap decimal value) f; seed = next })
 
-  pub leaf-name : {z : List ℕ} {v : ℕ} → (pick ≡ 0 → ⊥) → Emits (118 ∷ []) x at z v
-      → Emits (decimal (s / 65536 % 10)) z v y to → WritesDrawn text (leaf pick seed) x at y (record { at = to; seed = s })
-  unfolding leaf map_drawn draw text name_text bytes
-  leaf-name e f g = rw (ne_eqb pick 0 e, leaf) (record {
-    emits = by (ap (λ (n : ℕ). 118 ∷ decimal (n / 65536 % 10)) new) (then f g);
-    seed = new;
-  })
+  pub leaf-name : {v : Writer} → (pick ≡ 0 → ⊥) → n ≡ (draw 10 seed).value → s ≡ (draw 10 seed).seed
+      → Writes (118 ∷ []) u v → Writes (decimal n) v w → WritesDrawn text (leaf pick seed) u w s
+  unfolding leaf map_drawn text name_text bytes
+  leaf-name e value next f g =
+      rw (ne_eqb pick 0 e, leaf) (record { writes = writes_by (ap (λ (m : ℕ). 118 ∷ decimal m) value) (and_then f g); seed = next })
 
 -- ---- an expression
 
-up : (level seed : ℕ) → expression (suc level) seed ≡ picked (expression level) (next seed / 65536 % 4) (next seed)
-unfolding expression draw
+up : (level seed : ℕ)
+    → expression (suc level) seed ≡ picked (expression level) (draw 4 seed).value (draw 4 seed).seed
+unfolding expression
 up level seed = refl
 
-unpicked : (level seed s : ℕ) → s ≡ next seed → (level ≡ 0 → ⊥)
-    → picked (expression (level - 1)) (s / 65536 % 4) s ≡ expression level seed
-unpicked level seed s new some =
+unpicked : (level seed p s : ℕ) → (level ≡ 0 → ⊥) → p ≡ (draw 4 seed).value → s ≡ (draw 4 seed).seed
+    → picked (expression (level - 1)) p s ≡ expression level seed
+unpicked level seed p s some value next =
     let e : suc (level - 1) ≡ level = omega (arith, some) in
-    ap (λ (n : ℕ). picked (expression (level - 1)) (n / 65536 % 4) n) new ∙ sym (up (level - 1) seed)
-    ∙ ap (λ (l : ℕ). expression l seed) e
+    rw (value, next) (sym (up (level - 1) seed) ∙ ap (λ (l : ℕ). expression l seed) e)
 
-as_drawn : {d d' : Drawn Expr} {x y : List ℕ} {at : ℕ} {r : Place} → d ≡ d' → WritesDrawn text d x at y r
-    → WritesDrawn text d' x at y r
-as_drawn {x = x} {y} {at} {r} e w = subst (λ d. WritesDrawn text d x at y r) e w
+as_drawn : {d d' : Drawn Expr} {u v : Writer} {s : ℕ} → d ≡ d' → WritesDrawn text d u v s → WritesDrawn text d' u v s
+as_drawn {u = u} {v} {s} e f = subst (λ d. WritesDrawn text d u v s) e f
 
 sum-text : (a b : Expr) → (40 ∷ []) ++ (text a ++ ((32 ∷ 43 ∷ 32 ∷ []) ++ (text b ++ (41 ∷ [])))) ≡ text (sum a b)
 unfolding text bytes
 sum-text a b = refl
 
-module _ (level seed s : ℕ) (new : s ≡ next seed) {x y : List ℕ} {at : ℕ} where
-  pub lowest : {r : Place} → level ≡ 0 → WritesDrawn text (leaf (s / 65536 % 2) s) x at y r
-      → WritesDrawn text (expression level seed) x at y r
-  unfolding expression draw
-  lowest {r} e f = rw e (subst (λ (n : ℕ). WritesDrawn text (leaf (n / 65536 % 2) n) x at y r) new f)
+module _ (level seed : ℕ) {p s t : ℕ} {u v : Writer} where
+  pub lowest : level ≡ 0 → p ≡ (draw 2 seed).value → s ≡ (draw 2 seed).seed → WritesDrawn text (leaf p s) u v t
+      → WritesDrawn text (expression level seed) u v t
+  unfolding expression
+  lowest e value next f = rw e (as_drawn (rw (value, next) refl) f)
 
-  module _ (some : level ≡ 0 → ⊥) where
-    pub a_leaf : {r : Place} → s / 65536 % 4 < 2 → WritesDrawn text (leaf (s / 65536 % 4) s) x at y r
-        → WritesDrawn text (expression level seed) x at y r
+  module _ (some : level ≡ 0 → ⊥) (value : p ≡ (draw 4 seed).value) (next : s ≡ (draw 4 seed).seed) where
+    pub a_leaf : p < 2 → WritesDrawn text (leaf p s) u v t → WritesDrawn text (expression level seed) u v t
     unfolding picked
-    a_leaf h f = as_drawn (unpicked level seed s new some) (rw (lt-ltb (s / 65536 % 4) 2 h, picked) f)
+    a_leaf h f = as_drawn (unpicked level seed p s some value next) (rw (lt-ltb p 2 h, picked) f)
 
-    module _ (above : 2 ≤ s / 65536 % 4) where
-      pub a_sum : {z w v : List ℕ} {o to plus : ℕ} {a b : Place} → s / 65536 % 4 ≡ 2 → Emits (40 ∷ []) x at z o
-          → WritesDrawn text (expression (level - 1) s) z o w a
-          → Emits (32 ∷ 43 ∷ 32 ∷ []) w a.at v plus → {u : List ℕ}
-          → WritesDrawn text (expression (level - 1) a.seed) v plus u b → Emits (41 ∷ []) u b.at y to
-          → WritesDrawn text (expression level seed) x at y (record { at = to; seed = b.seed })
-      unfolding picked sum_of map_drawn
-      a_sum {v = v} {plus = p} {a} {b} two opening first plus {u} second closing =
-          let part = expression (level - 1) in
-          let second' = subst (λ (n : ℕ). WritesDrawn text (part n) v p u b) first.seed second in
-          as_drawn (unpicked level seed s new some) (rw (
-            le-ltb (s / 65536 % 4) 2 above,
-            eq-eqb (s / 65536 % 4) 2 two,
-            picked,
-          )
-          (record {
-            emits = by (sum-text (part s).value (part (part s).seed).value)
-                (then opening (then first.emits (then plus (then second'.emits closing))));
-            seed = second'.seed;
-          }))
+    pub a_sum : {a b c d : Writer} {r : ℕ} → p ≡ 2 → Writes (40 ∷ []) u a
+        → WritesDrawn text (expression (level - 1) s) a b r → Writes (32 ∷ 43 ∷ 32 ∷ []) b c
+        → WritesDrawn text (expression (level - 1) r) c d t → Writes (41 ∷ []) d v
+        → WritesDrawn text (expression level seed) u v t
+    unfolding picked sum_of map_drawn
+    a_sum {c = c} {d} two opening first plus second closing =
+        let part = expression (level - 1) in
+        let second' = subst (λ (n : ℕ). WritesDrawn text (part n) c d t) first.seed second in
+        as_drawn (unpicked level seed p s some value next) (rw (
+          le-ltb p 2 (omega (arith, two)),
+          eq-eqb p 2 two,
+          picked,
+        )
+        (record {
+          writes = writes_by (sum-text (part s).value (part (part s).seed).value)
+              (and_then opening (and_then first.writes (and_then plus (and_then second'.writes closing))));
+          seed = second'.seed;
+        }))
 
-      pub a_negated : {z : List ℕ} {minus : ℕ} {r : Place} → (s / 65536 % 4 ≡ 2 → ⊥) → Emits (45 ∷ []) x at z minus
-          → WritesDrawn text (expression (level - 1) s) z minus y r
-          → WritesDrawn text (expression level seed) x at y r
-      unfolding picked map_drawn text bytes
-      a_negated other minus f =
-          as_drawn (unpicked level seed s new some) (rw (
-            le-ltb (s / 65536 % 4) 2 above,
-            ne_eqb (s / 65536 % 4) 2 other,
-            picked,
-          )
-          (record { emits = then minus f.emits; seed = f.seed }))
+    pub a_negated : {a : Writer} → 2 ≤ p → (p ≡ 2 → ⊥) → Writes (45 ∷ []) u a
+        → WritesDrawn text (expression (level - 1) s) a v t → WritesDrawn text (expression level seed) u v t
+    unfolding picked map_drawn text bytes
+    a_negated above other minus f =
+        as_drawn (unpicked level seed p s some value next) (rw (
+          le-ltb p 2 above,
+          ne_eqb p 2 other,
+          picked,
+        )
+        (record { writes = and_then minus f.writes; seed = f.seed }))
 
 -- ---- lines
 
-module _ (i seed : ℕ) {x u v w z y : List ℕ} {at name' equal value to : ℕ} {e : Place} where
-  pub a_line : Emits (108 ∷ 101 ∷ 116 ∷ 32 ∷ 118 ∷ []) x at u name' → Emits (decimal i) u name' v equal
-      → Emits (32 ∷ 61 ∷ 32 ∷ []) v equal w value
-      → WritesDrawn text (expression top_level seed) w value z e → Emits (10 ∷ []) z e.at y to
-      → WritesDrawn (line i) (expression top_level seed) x at y (record { at = to; seed = e.seed })
-  unfolding line name_text bytes
-  a_line a b c d f = record { emits = then a (then b (then c (then d.emits f))); seed = d.seed }
+pub a_line : (i seed : ℕ) {u v a b c e : Writer} {s : ℕ} → Writes (108 ∷ 101 ∷ 116 ∷ 32 ∷ 118 ∷ []) u a
+    → Writes (decimal i) a b → Writes (32 ∷ 61 ∷ 32 ∷ []) b c → WritesDrawn text (expression top_level seed) c e s
+    → Writes (10 ∷ []) e v → WritesDrawn (line i) (expression top_level seed) u v s
+unfolding line name_text bytes
+a_line i seed a b c d f = record { writes = and_then a (and_then b (and_then c (and_then d.writes f))); seed = d.seed }
 
--- of a sheet the lines before `i` are written
-pub record Begun (seed lines : ℕ) (x y : List ℕ) (at s i : ℕ) : Type 0 where
-  pub bound : i ≤ lines
+-- of a sheet the lines before `i` are written, and `s` is the next seed
+pub record Begun (seed lines : ℕ) (before after : Writer) (s i : ℕ) : Type 0 where
   pub done : List ℕ
-  pub emits : Emits done x 0 y at
+  pub writes : Writes done before after
   pub left : done ++ lines_from i (expressions (lines - i) s) ≡ sheet seed lines
 
 line_and : (i n m s : ℕ) → n ≡ suc m
@@ -118,40 +105,39 @@ line_and : (i n m s : ℕ) → n ≡ suc m
 unfolding lines_from expressions
 line_and i n m s e = rw e
 
-module _ {seed lines : ℕ} {x : List ℕ} where
-  pub lines_none : Begun seed lines x x 0 seed 0
-  unfolding sheet
-  lines_none = record {
-    bound = omega arith;
-    done = [];
-    emits = nothing;
-    left = ap (λ (n : ℕ). lines_from 0 (expressions n seed)) (omega arith);
-  }
+pub lines_none : {seed lines : ℕ} {u : Writer} → Begun seed lines u u seed 0
+unfolding sheet
+lines_none {seed} = record {
+  done = [];
+  writes = writes_nothing;
+  left = ap (λ (n : ℕ). lines_from 0 (expressions n seed)) (omega arith);
+}
 
-  pub lines_next : {y z : List ℕ} {at s i : ℕ} {p : Place} → Begun seed lines x y at s i → i < lines
-      → WritesDrawn (line i) (expression top_level s) y at z p → Begun seed lines x z p.at p.seed (i + 1)
-  lines_next {s = s} {i} {p} b h w =
+module _ {seed lines s i : ℕ} {u v : Writer} (b : Begun seed lines u v s i) where
+  pub lines_next : {w : Writer} {r : ℕ} → i < lines → WritesDrawn (line i) (expression top_level s) v w r
+      → Begun seed lines u w r (i + 1)
+  lines_next {w} {r} h f =
       let e = expression top_level s in
-      let more : lines_from (i + 1) (expressions (lines - (i + 1)) p.seed)
-      ≡ lines_from (suc i) (expressions (lines - (i + 1)) e.seed) = rw (w.seed, add-one) refl in
+      let more : lines_from (i + 1) (expressions (lines - (i + 1)) r)
+      ≡ lines_from (suc i) (expressions (lines - (i + 1)) e.seed) = rw (f.seed, add-one) refl in
       record {
-        bound = omega arith;
         done = b.done ++ line i e.value;
-        emits = then b.emits w.emits;
+        writes = and_then b.writes f.writes;
         left = append_assoc b.done (line i e.value) _ ∙ ap (λ l. b.done ++ (line i e.value ++ l)) more
             ∙ ap (λ l. b.done ++ l) (sym (line_and i (lines - i) (lines - (i + 1)) s (omega arith))) ∙ b.left;
       }
 
-  pub lines_all : {y : List ℕ} {at s i : ℕ} → Begun seed lines x y at s i → lines ≤ i
-      → Emits (sheet seed lines) x 0 y at
+  pub lines_all : lines ≤ i → Writes (sheet seed lines) u v
   unfolding lines_from expressions
-  lines_all {s = s} {i} b h =
+  lines_all h =
       let none : lines - i ≡ 0 = omega arith in
-      by (sym (append-nil b.done) ∙ ap (λ (n : ℕ). b.done ++ lines_from i (expressions n s)) (sym none) ∙ b.left)
-      b.emits
+      writes_by (sym (append-nil b.done) ∙ ap (λ (n : ℕ). b.done ++ lines_from i (expressions n s)) (sym none) ∙ b.left)
+      b.writes
 
-  pub begun_size : {y : List ℕ} {at s i : ℕ} → Begun seed lines x y at s i → length y ≡ length x
-  begun_size b = same_size b.emits
+-- what is left of the buffer that was lent to a writer
+pub left_behind : {t x y : List ℕ} {u v : Writer} → Writes t u v → u.out.now ≡ x → u.at ≡ 0 → y ≡ v.out.now
+    → Emits t x 0 y v.at
+left_behind f a b d = rw (d, ← a, ← b) f.emits
 
 -- ---- answers
 

@@ -7,7 +7,7 @@ use Rattle.rules.specs.Parse.{read, parse}
 use Rattle.lex.specs.Answer.{max_bytes}
 use Rattle.rules.specs.Promise.{Arrays, too_short, promised}
 use Rattle.ast.specs.declared.Counts.{Counts}
-use Rattle.ast.specs.declared.Parsed.TheVariants as P
+use Rattle.rules.specs.Parsed as P
 use Rattle.practice.specs.Practice.{max_lines, sheet}
 
 -- what is asked of a set of infix signs: the power of `+`, and that `)`, `let` and Eof are none of

@@ -10,92 +10,76 @@ ghost use Rattle.practice.specs.Practice.{text, leaf, expression};
 ghost use Rattle.practice.specs.Practice.{top_level, line, sheet, promised};
 ghost use Rattle.practice.specs.Drawing.{WritesDrawn};
 
-use crate::draw::next;
+use crate::draw::draw;
 use lex::Refusal;
-use text::{Writing, write_byte, write_number, write_text};
-
-// Where writing has come to, and the seed for the next draw.
-#[derive(Clone, Copy)]
-struct Place {
-    at: usize,
-    seed: u32,
-}
+use text::{Writer, Writing};
 
 const MAX_LINES: u32 = 16;
 
 const TOP_LEVEL: u32 = 4;
 
+// The writer and the seed are lent side by side: from a struct of both it was not proved what the
+// buffer behind the writer ends as.
+
 // A number or a name.
-fn write_leaf(pick: u32, seed: u32, out: &mut [u8], at: usize) -> Place
-    ensures { let drawn = leaf pick seed in
-        WritesDrawn text drawn out.old at out.new result }
+fn write_leaf(pick: u32, seed: &mut u32, w: &mut Writer)
+    ensures { WritesDrawn text (leaf pick seed.old) w.old w.new seed.new }
 {
-    let s = next(seed);
     if pick == 0 {
-        let to = write_number((s / 65536 % 100) as usize, out, at);
-        return Place { at: to, seed: s };
+        let n = draw(seed, 100);
+        w.write_number(n as usize);
+    } else {
+        let n = draw(seed, 10);
+        w.write_byte(b'v');
+        w.write_number(n as usize);
     }
-    let v = write_byte(b'v', out, at);
-    let to = write_number((s / 65536 % 10) as usize, out, v);
-    Place { at: to, seed: s }
 }
 
 // The level falls.
-fn write_expression(level: u32, seed: u32, out: &mut [u8], at: usize) -> Place
-    ensures { let drawn = expression level seed in
-        WritesDrawn text drawn out.old at out.new result }
+fn write_expression(level: u32, seed: &mut u32, w: &mut Writer)
+    ensures { WritesDrawn text (expression level seed.old) w.old w.new seed.new }
 {
-    let s = next(seed);
     if level == 0 {
-        return write_leaf(s / 65536 % 2, s, out, at);
+        let pick = draw(seed, 2);
+        write_leaf(pick, seed, w);
+        return;
     }
-    let pick = s / 65536 % 4;
-    if pick < 2 {
-        return write_leaf(pick, s, out, at);
+    match draw(seed, 4) {
+        pick @ 0..=1 => write_leaf(pick, seed, w),
+        2 => {
+            w.write_byte(b'(');
+            write_expression(level - 1, seed, w);
+            w.write_text(b" + ");
+            write_expression(level - 1, seed, w);
+            w.write_byte(b')');
+        }
+        _ => {
+            w.write_byte(b'-');
+            write_expression(level - 1, seed, w);
+        }
     }
-    if pick == 2 {
-        let open = write_byte(b'(', out, at);
-        let a = write_expression(level - 1, s, out, open);
-        let plus = write_text(b" + ", out, a.at);
-        let b = write_expression(level - 1, a.seed, out, plus);
-        let to = write_byte(b')', out, b.at);
-        return Place {
-            at: to,
-            seed: b.seed,
-        };
-    }
-    let minus = write_byte(b'-', out, at);
-    write_expression(level - 1, s, out, minus)
 }
 
-fn write_line(i: u32, seed: u32, out: &mut [u8], at: usize) -> Place
-    ensures { let drawn = expression top_level seed in
-        WritesDrawn (line i) drawn out.old at out.new result }
+fn write_line(i: u32, seed: &mut u32, w: &mut Writer)
+    ensures { let drawn = expression top_level seed.old in
+        WritesDrawn (line i) drawn w.old w.new seed.new }
 {
-    let name = write_text(b"let v", out, at);
-    let equal = write_number(i as usize, out, name);
-    let value = write_text(b" = ", out, equal);
-    let e = write_expression(TOP_LEVEL, seed, out, value);
-    let to = write_byte(b'\n', out, e.at);
-    Place {
-        at: to,
-        seed: e.seed,
-    }
+    w.write_text(b"let v");
+    w.write_number(i as usize);
+    w.write_text(b" = ");
+    write_expression(TOP_LEVEL, seed, w);
+    w.write_byte(b'\n');
 }
 
 fn write_lines(seed: u32, lines: u32, out: &mut [u8]) -> usize
     ensures { Emits (sheet seed lines) out.old 0 out.new result }
 {
-    let mut at = 0;
-    let mut s = seed;
-    let mut i = 0;
-    while i < lines {
-        let p = write_line(i, s, out, at);
-        at = p.at;
-        s = p.seed;
-        i += 1;
+    let mut w = Writer { out, at: 0 };
+    let mut next = seed;
+    for i in 0..lines {
+        write_line(i, &mut next, &mut w);
     }
-    at
+    w.at
 }
 
 // The sheet of a seed. It is counted on an empty buffer before it is written, so that a buffer
@@ -105,11 +89,11 @@ pub fn write_sheet(seed: u32, lines: u32, out: &mut [u8]) -> Writing
         left ≡ promised seed lines out.old }
 {
     if MAX_LINES < lines {
-        return Writing::Refused(Refusal::TOO_MANY_LINES);
+        return Err(Refusal::TooManyLines);
     }
     let n = write_lines(seed, lines, &mut out[..0]);
     if out.len() < n {
-        return Writing::Refused(Refusal::PRACTICE_TOO_SHORT);
+        return Err(Refusal::PracticeTooShort);
     }
-    Writing::Written(write_lines(seed, lines, out))
+    Ok(write_lines(seed, lines, out))
 }

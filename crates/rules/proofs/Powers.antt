@@ -1,7 +1,7 @@
 -- The two powers of each sign, computed: the right one is the left one plus 1.
 use mathlib.Core.Path.{◌≡◌, refl}
 use mathlib.Core.Option.{Option, none, some}
-use mathlib.Core.List.{List, [], ◌∷◌, map}
+use mathlib.Core.List.{[], ◌∷◌, map}
 use Prim.Native.Nat.{ℕ}
 use Rattle.lex.specs.Kind.{k_plus, k_minus, k_asteriks, k_slash, k_percent, k_double_equal, k_not_equal, k_less_than, k_greater_than}
 use Rattle.rules.specs.Combinators.{choose}

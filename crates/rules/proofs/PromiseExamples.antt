@@ -7,8 +7,8 @@ use lib.ListN.{replicate}
 use Rattle.lex.specs.Bytes.{or}
 use Rattle.ast.specs.Layout.{token_cells, run_cells, node_cells, type_cells, diagnostic_cells}
 use Rattle.rules.specs.Promise.{Arrays, Outcome, too_short, zeroed, holding, outcome, promised}
-use Rattle.ast.specs.declared.Parsed.{Parsed}
-use Rattle.ast.specs.declared.Parsed.TheVariants as P
+use Rattle.rules.specs.Parsed.{Parsed}
+use Rattle.rules.specs.Parsed as P
 use Rattle.rules.proofs.Compute.{bytes, computed}
 
 -- arrays as a script of `n` bytes needs them, the nodes `more` cells longer, every cell the same

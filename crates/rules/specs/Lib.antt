@@ -3,6 +3,7 @@ pub mod Tree
 pub mod Combinators
 pub mod Rules
 pub mod Parse
+pub mod Parsed
 pub mod Promise
 pub mod Shape
 pub mod Strike

@@ -10,8 +10,8 @@ use Rattle.ast.specs.Layout.{node_width, type_width, diagnostic_width, cells_per
 use Rattle.ast.specs.Layout.{node_cells, type_cells, diagnostic_cells}
 use Rattle.lex.specs.Refusals.{r_too_long, r_too_short}
 use Rattle.ast.specs.declared.Counts.{Counts}
-use Rattle.ast.specs.declared.Parsed.{Parsed}
-use Rattle.ast.specs.declared.Parsed.TheVariants as P
+use Rattle.rules.specs.Parsed.{Parsed}
+use Rattle.rules.specs.Parsed as P
 
 -- the five arrays
 pub record Arrays : Type 0 where

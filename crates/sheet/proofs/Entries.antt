@@ -4,12 +4,12 @@
 use mathlib.Core.Path.{◌≡◌, refl, sym, ◌∙◌, ap}
 use mathlib.Core.Bool.{Bool, true, false}
 use mathlib.Core.Option.{Option, none, some}
-use mathlib.Core.List.{List, [], ◌++◌}
-use Prim.Native.Nat.{ℕ, zero, suc, ◌+◌, ◌*◌, ◌<◌, ◌≤◌}
+use mathlib.Core.List.{List, [], ◌∷◌, ◌++◌}
+use Prim.Native.Nat.{ℕ, zero, suc, ◌+◌, ◌*◌, ◌/◌, ◌%◌, ◌<◌, ◌≤◌, min}
 use native.Mathlib.Omega.{arith}
 use lib.Dec.{leb, ltb}
 use lib.ListN.{length, take, drop, length-append, length-drop}
-use borrow.Author.Tests.{le-leb, lt-leb, leb-true, leb-false, ltb-true, ltb-false}
+use borrow.Author.Tests.{leb-true, leb-false, ltb-true, ltb-false}
 use Rattle.lex.specs.declared.diagnostic.Diagnostic.{Diagnostic}
 use Rattle.lex.specs.Answer.{max_bytes, Answer, refused, answer}
 use Rattle.positions.specs.Position.{place_of, place_at}
@@ -120,34 +120,33 @@ back script e w t small p q = entry-back script e w small p (inside_of script e 
 
 -- ---- how many lines
 
-line_one : (fuel : ℕ) (w : List ℕ) → 0 < fuel → length w ≤ 57 → line_count fuel w ≡ 1
-line_one zero w f h = absurd (omega arith)
-line_one (suc fuel) w f h = rw (le-leb (length w) 57 h, line_count)
+line_count_is : (fuel : ℕ) (w : List ℕ) → length w < fuel → 0 < length w → line_count fuel w ≡ length w / 57 + min 1 (length w % 57)
+line_count_is zero w f h = absurd (omega arith)
+line_count_is (suc fuel) w f h = go (leb (length w) 57) refl (line_count_is fuel (drop 57 w))
+  where
+    go : (t : Bool) → leb (length w) 57 ≡ t
+        → (length (drop 57 w) < fuel → 0 < length (drop 57 w) → line_count fuel (drop 57 w) ≡ length (drop 57 w) / 57 + min 1 (length (drop 57 w) % 57))
+        → line_count (suc fuel) w ≡ length w / 57 + min 1 (length w % 57)
+    go true e more = let l = leb-true (length w) 57 e in rw (e, line_count) (omega arith)
+    go false e more =
+        let l = leb-false (length w) 57 e in
+        let d = length-drop 57 w in
+        let m = more (omega arith) (omega arith) in
+        rw (e, line_count) (omega arith)
 
-line_more : (fuel : ℕ) (w : List ℕ) → 57 < length w → line_count (suc fuel) w ≡ suc (line_count fuel (drop 57 w))
-line_more fuel w h = rw (lt-leb (length w) 57 h, line_count)
-
-line_two : (fuel : ℕ) (w : List ℕ) → 1 < fuel → 57 < length w → length w ≤ 114 → line_count fuel w ≡ 2
-line_two zero w f l h = absurd (omega arith)
-line_two (suc fuel) w f l h = let d = length-drop 57 w in line_more fuel w l ∙ ap suc (line_one fuel (drop 57 w) (omega arith) (omega arith))
-
-line_three : (fuel : ℕ) (w : List ℕ) → 2 < fuel → 114 < length w → length w ≤ 171 → line_count fuel w ≡ 3
-line_three zero w f l h = absurd (omega arith)
-line_three (suc fuel) w f l h = let d = length-drop 57 w in line_more fuel w (omega arith) ∙ ap suc (line_two fuel (drop 57 w) (omega arith) (omega arith) (omega arith))
+-- words are not empty
+not-empty : (e : Diagnostic) (w : List ℕ) → words e ≡ some w → 0 < length w
+not-empty e [] p = absurd ((is_line e [] p).first refl)
+not-empty e (b ∷ w) p = omega arith
 
 module _ (script : List ℕ) (e : Diagnostic) {w : List ℕ} (small : length script ≤ max_bytes) (p : words e ≡ some w) where
   pub size_outside : length script < e.start → refused 3 ≡ sized (entry script e)
   size_outside h = sym (ap sized (entry-refused script e p (sym (place_outside script e.start small h))))
 
-  module _ (inside : e.start ≤ length script) where
-    pub size_one : length w ≤ 57 → answer 73 ≡ sized (entry script e)
-    size_one h = sym (entry_size script e w small p inside ∙ ap (λ (n : ℕ). answer (73 * n)) (line_one (suc (length w)) w (omega arith) h))
-
-    pub size_two : 57 < length w → length w ≤ 114 → answer 146 ≡ sized (entry script e)
-    size_two l h = sym (entry_size script e w small p inside ∙ ap (λ (n : ℕ). answer (73 * n)) (line_two (suc (length w)) w (omega arith) l h))
-
-    pub size_three : 114 < length w → answer 219 ≡ sized (entry script e)
-    size_three l = let s = (is_line e w p).short in sym (entry_size script e w small p inside ∙ ap (λ (n : ℕ). answer (73 * n)) (line_three (suc (length w)) w (omega arith) l (omega arith)))
+  pub size_inside : {k : ℕ} → e.start ≤ length script → k ≡ length w / 57 + min 1 (length w % 57) → answer (73 * k) ≡ sized (entry script e)
+  size_inside inside h =
+      ap (λ (n : ℕ). answer (73 * n)) (h ∙ sym (line_count_is (suc (length w)) w (omega arith) (not-empty e w p)))
+      ∙ sym (entry_size script e w small p inside)
 
 -- ---- the lines themselves
 
@@ -187,14 +186,6 @@ made script e t small q = go (words e) refl
 
 -- ---- no error takes more than three lines
 
-few : (w : List ℕ) → length w ≤ 160 → line_count (suc (length w)) w ≤ 3
-few w s = go (leb (length w) 57) (leb (length w) 114) refl refl
-  where
-    go : (t u : Bool) → leb (length w) 57 ≡ t → leb (length w) 114 ≡ u → line_count (suc (length w)) w ≤ 3
-    go true u a b = let k = line_one (suc (length w)) w (omega arith) (leb-true (length w) 57 a) in omega arith
-    go false true a b = let l = leb-false (length w) 57 a in let k = line_two (suc (length w)) w (omega arith) l (leb-true (length w) 114 b) in omega arith
-    go false false a b = let l = leb-false (length w) 114 b in let k = line_three (suc (length w)) w (omega arith) l (omega arith) in omega arith
-
 pub few_lines : (script : List ℕ) (e : Diagnostic) (n : ℕ) → length script ≤ max_bytes → answer (73 * n) ≡ sized (entry script e) → n ≤ 3
 few_lines script e n small q = go (words e) refl (ltb (length script) e.start) refl
   where
@@ -204,5 +195,6 @@ few_lines script e n small q = go (words e) refl (ltb (length script) e.start) r
     go (some w) p false h =
         let a : answer (73 * n) ≡ answer (73 * line_count (suc (length w)) w) = q ∙ entry_size script e w small p (ltb-false _ _ h) in
         let b : 73 * n ≡ 73 * line_count (suc (length w)) w = cc in
-        let c = few w (is_line e w p).short in
+        let c = line_count_is (suc (length w)) w (omega arith) (not-empty e w p) in
+        let d = (is_line e w p).short in
         omega arith

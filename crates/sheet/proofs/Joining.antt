@@ -11,15 +11,19 @@ use lib.Dec.{ltb}
 use lib.ListN.{length, length-append}
 use borrow.Author.Tests.{lt-ltb, le-ltb, ltb-true, ltb-false}
 use Rattle.lex.specs.Answer.{max_bytes, Answer, refused, answer}
-use Rattle.text.specs.Emit.{Emits, last, plain}
+use Rattle.text.specs.Emit.{Emits, Writes, last, plain}
 use Rattle.text.specs.Answer.{result, answer_of}
-use Rattle.text.proofs.EmitLaws.{whole, then, nothing, by}
+use Rattle.text.specs.declared.Writer.{Writer}
+use Rattle.text.proofs.EmitLaws.{whole, by, and_then, writes_nothing, writes_by}
 use Rattle.lex.specs.declared.diagnostic.Diagnostic.{Diagnostic}
-use Rattle.sheet.specs.declared.Counted.{Counted}
-use Rattle.sheet.specs.declared.Counted.TheVariants as C
-use Rattle.text.specs.declared.Writing.TheVariants as W
+use Rattle.lex.specs.declared.diagnostic.Refusal.{Refusal}
+use Rattle.lex.specs.declared.diagnostic.Refusal.TheVariants.{TooLong, SheetTooShort}
+use Rattle.lex.specs.Refusals.{number}
+use Rattle.std.specs.Prelude.{Result, Ok, Err}
+use Rattle.ast.specs.Decode.{diagnostic_at}
 use Rattle.sheet.specs.Sheet.{entry, error_at, join_to, continue, up_to, sheet_of, printed, in_lines}
 use Rattle.sheet.specs.Count.{sized, counted_of, text_in, each}
+use Rattle.sheet.proofs.Taking.{Ahead, Next, goes_on, next_ahead, taken, all_taken}
 use Rattle.sheet.proofs.Entries.{entry_lines, few_lines}
 use Rattle.sheet.proofs.Rows.{InLines, no_lines, lines_append, lines_plain, counted_lines}
 
@@ -118,7 +122,7 @@ abbrev texts : List ℕ → List ℕ → List ℕ
 texts script cells = text_in (up_to (λ i. entry script (error_at cells i)) (length cells / 5))
 
 module _ (script cells buffer : List ℕ) where
-  pub too_long : max_bytes < length script → result (answer_of (W.Refused 1)) buffer ≡ printed script cells buffer
+  pub too_long : max_bytes < length script → result (answer_of (Err TooLong)) buffer ≡ printed script cells buffer
   unfolding printed sheet_of answer_of
   too_long h = rw (lt-ltb max_bytes (length script) h, printed, sheet_of)
 
@@ -127,9 +131,9 @@ module _ (script cells buffer : List ℕ) where
     unfolding sheet_of
     sheet_is = rw (le-ltb max_bytes (length script) small, sheet_of)
 
-    pub not_printed : {n : ℕ} → refused n ≡ sized (up_to (λ i. entry script (error_at cells i)) (length cells / 5)) → result (answer_of (W.Refused n)) buffer ≡ printed script cells buffer
+    pub not_printed : (r : Refusal) → refused (number r) ≡ sized (up_to (λ i. entry script (error_at cells i)) (length cells / 5)) → result (answer_of (Err r)) buffer ≡ printed script cells buffer
     unfolding printed answer_of
-    not_printed {n} p = rw (sheet_is ∙ not_answered (up_to (λ i. entry script (error_at cells i)) (length cells / 5)) n (sym p), printed)
+    not_printed r p = rw (sheet_is ∙ not_answered (up_to (λ i. entry script (error_at cells i)) (length cells / 5)) (number r) (sym p), printed)
 
     module _ (lines : ℕ) (p : answer (73 * lines) ≡ sized (up_to (λ i. entry script (error_at cells i)) (length cells / 5))) where
       is_text : sheet_of script cells ≡ answer (texts script cells)
@@ -138,12 +142,12 @@ module _ (script cells buffer : List ℕ) where
       text_size : length (texts script cells) ≡ 73 * lines
       text_size = answered_size (up_to (λ i. entry script (error_at cells i)) (length cells / 5)) (73 * lines) (sym p)
 
-      pub no_room : length buffer / 73 < lines → result (answer_of (W.Refused 44)) buffer ≡ printed script cells buffer
+      pub no_room : length buffer / 73 < lines → result (answer_of (Err SheetTooShort)) buffer ≡ printed script cells buffer
       unfolding printed answer_of
       no_room h = let s = text_size in rw (is_text, printed, lt-ltb (length buffer) (length (texts script cells)) (omega arith))
 
       pub all-printed : {out : List ℕ} {m : ℕ} → lines ≤ length buffer / 73 → length buffer ≤ last → Emits (each (λ i. text_in (entry script (error_at cells i))) (length cells / 5)) buffer 0 out m
-          → result (answer_of (W.Written m)) out ≡ printed script cells buffer
+          → result (answer_of (Ok m)) out ≡ printed script cells buffer
       unfolding printed answer_of
       all-printed {out} {m} h l f =
           let s = text_size in
@@ -154,59 +158,67 @@ module _ (script cells buffer : List ℕ) where
 
 -- ---- the loops
 
--- of `n` errors those before `i` are counted
-pub record Counting (script cells : List ℕ) (n lines i : ℕ) : Type 0 where
-  pub bound : i ≤ n
+-- the errors before those ahead are counted
+pub record Counting (script cells rest : List ℕ) (lines : ℕ) : Type 0 where
+  pub i : ℕ
+  pub ahead : Ahead cells rest i
   pub size : sized (up_to (λ k. entry script (error_at cells k)) i) ≡ answer (73 * lines)
   pub few : lines ≤ 3 * i
 
-module _ (script cells : List ℕ) (n : ℕ) where
-  pub counting_none : Counting script cells n 0 0
-  counting_none = record { bound = omega arith; size = up_to-none (λ k. entry script (error_at cells k)); few = omega arith }
+module _ {script cells rest : List ℕ} where
+  pub counting_none : Ahead cells rest 0 → Counting script cells rest 0
+  counting_none a = record { i = 0; ahead = a; size = up_to-none (λ k. entry script (error_at cells k)); few = omega arith }
 
-  module _ {lines i : ℕ} (m : Counting script cells n lines i) (h : i < n) {e : Diagnostic} (is : e ≡ error_at cells i) (r : Counted) (told : counted_of r ≡ sized (entry script e)) where
-    told_here : counted_of r ≡ sized (entry script (error_at cells i))
-    told_here = told ∙ ap (λ (d : Diagnostic). sized (entry script d)) is
+  pub counting_all : {lines : ℕ} → Counting script cells rest lines → length rest < 5 → counted_of (Ok lines) ≡ sized (up_to (λ j. entry script (error_at cells j)) (length cells / 5))
+  unfolding counted_of
+  counting_all m h = sym m.size ∙ ap (λ (k : ℕ). sized (up_to (λ j. entry script (error_at cells j)) k)) (all_taken m.ahead h)
 
-    module _ {k : ℕ} (p : r ≡ C.Lines k) where
-      size_here : answer (73 * k) ≡ sized (entry script (error_at cells i))
+  module _ {lines : ℕ} (m : Counting script cells rest lines) {x more : List ℕ} (n : Next rest x more) {e : Diagnostic} (is : e ≡ diagnostic_at x 0)
+      (r : Result ℕ Refusal) (told : counted_of r ≡ sized (entry script e)) where
+    told_here : counted_of r ≡ sized (entry script (error_at cells m.i))
+    told_here = told ∙ ap (λ (d : Diagnostic). sized (entry script d)) (is ∙ taken m.ahead n)
+
+    module _ {k : ℕ} (p : r ≡ Ok k) where
+      size_here : answer (73 * k) ≡ sized (entry script (error_at cells m.i))
       unfolding counted_of
       size_here = sym (ap counted_of p) ∙ told_here
 
-      pub few-here : length script ≤ max_bytes → k ≤ 3
-      few-here small = few_lines script (error_at cells i) k small size_here
+      pub few-here : length script ≤ max_bytes → lines + k ≤ 3 * (m.i + 1)
+      few-here small = let f = few_lines script (error_at cells m.i) k small size_here in let g = m.few in omega arith
 
-      pub counting_next : length script ≤ max_bytes → Counting script cells n (lines + k) (i + 1)
+      pub counting_next : length script ≤ max_bytes → Counting script cells more (lines + k)
       counting_next small =
-          let f = few-here small in
-          let g = m.few in
           let sum : 73 * lines + 73 * k ≡ 73 * (lines + k) = omega arith in
-          record { bound = omega arith; size = up_to-next (λ k. entry script (error_at cells k)) i m.size (sym size_here) ∙ ap answer sum; few = omega arith }
+          record {
+            i = m.i + 1;
+            ahead = next_ahead m.ahead n;
+            size = up_to-next (λ k. entry script (error_at cells k)) m.i m.size (sym size_here) ∙ ap answer sum;
+            few = few-here small;
+          }
 
-    pub counting_stop : {k : ℕ} → r ≡ C.Refused k → counted_of (C.Refused k) ≡ sized (up_to (λ j. entry script (error_at cells j)) n)
+      -- so many lines can be counted
+      pub sum-fits : length script ≤ max_bytes → 5 * lines + 5 * k ≤ 3 * length cells
+      sum-fits small = let f = few-here small in let g = goes_on m.ahead n in omega arith
+
+    pub counting_stop : {q : Refusal} → r ≡ Err q → counted_of (Err q) ≡ sized (up_to (λ j. entry script (error_at cells j)) (length cells / 5))
     unfolding counted_of
-    counting_stop {k} p = sym (ap sized (up_to_stop (λ j. entry script (error_at cells j)) i n h m.size (sym (sym (ap counted_of p) ∙ told_here))))
+    counting_stop {q} p =
+        sym (ap sized (up_to_stop (λ j. entry script (error_at cells j)) m.i (length cells / 5) (goes_on m.ahead n) m.size (sym (sym (ap counted_of p) ∙ told_here))))
 
-  pub counting_all : {lines i : ℕ} → Counting script cells n lines i → n ≤ i → counted_of (C.Lines lines) ≡ sized (up_to (λ j. entry script (error_at cells j)) n)
-  unfolding counted_of
-  counting_all {lines} {i} m h =
-      let b = m.bound in
-      let e : i ≡ n = omega arith in
-      sym m.size ∙ ap (λ (k : ℕ). sized (up_to (λ j. entry script (error_at cells j)) k)) e
+-- the lines of the errors before those ahead are written
+pub record Writing (script cells rest : List ℕ) (before after : Writer) : Type 0 where
+  pub i : ℕ
+  pub ahead : Ahead cells rest i
+  pub writes : Writes (each (λ k. text_in (entry script (error_at cells k))) i) before after
 
--- of `n` texts those before `i` are written
-pub record Members (f : ℕ → List ℕ) (n : ℕ) (x y : List ℕ) (to i : ℕ) : Type 0 where
-  pub bound : i ≤ n
-  pub emitted : Emits (each f i) x 0 y to
+pub writing-none : {script cells rest : List ℕ} {u : Writer} → Ahead cells rest 0 → Writing script cells rest u u
+unfolding each
+writing-none a = record { i = 0; ahead = a; writes = writes_nothing }
 
-module _ {f : ℕ → List ℕ} {n : ℕ} {x : List ℕ} where
-  pub members-none : Members f n x x 0 0
+module _ {script cells rest : List ℕ} {u v : Writer} where
+  pub writing-next : Writing script cells rest u v → {x more : List ℕ} {e : Diagnostic} {w : Writer} → Next rest x more → e ≡ diagnostic_at x 0
+      → Writes (text_in (entry script e)) v w → Writing script cells more u w
   unfolding each
-  members-none = record { bound = omega arith; emitted = nothing }
-
-  pub members-next : {y z : List ℕ} {q r i : ℕ} → Members f n x y q i → Emits (f i) y q z r → i < n → Members f n x z r (i + 1)
-  unfolding each
-  members-next m g h = record { bound = omega arith; emitted = rw add-one (then m.emitted g) }
-
-  pub members-all : {y : List ℕ} {q i : ℕ} → Members f n x y q i → n ≤ i → Emits (each f n) x 0 y q
-  members-all m h = let b = m.bound in by (ap (each f) (omega arith)) m.emitted
+  writing-next m n is f =
+      let same = ap (λ (d : Diagnostic). text_in (entry script d)) (is ∙ taken m.ahead n) in
+      record { i = m.i + 1; ahead = next_ahead m.ahead n; writes = rw add-one (and_then m.writes (writes_by same f)) }

@@ -113,7 +113,7 @@ number-seen : (n : ℕ) → blank (number n) ≡ false
 number-seen n = go (ltb n 10) refl
   where
     go : (t : Bool) → ltb n 10 ≡ t → blank (number n) ≡ false
-    go true e = ap blank (sym (one_digit n (ltb-true n 10 e))) ∙ digit_seen n
+    go true e = ap blank (sym (one_digit n (ltb-true n 10 e))) ∙ digit_seen (n % 10)
     go false e = ap blank (sym (more_digits n (ltb-false n 10 e))) ∙ blank-right (number (n / 10)) ((48 + n % 10) ∷ []) (digit_seen (n % 10))
 
 pub heading-seen : (p : Place) (n : ℕ) → blank (heading p n) ≡ false

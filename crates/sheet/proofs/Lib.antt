@@ -3,6 +3,7 @@ pub mod Length
 pub mod Back
 pub mod Rows
 pub mod Entries
+pub mod Taking
 pub mod Joining
 pub mod Whole
 pub mod Writing

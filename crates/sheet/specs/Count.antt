@@ -1,16 +1,15 @@
 -- What the code's own functions mean: how long a text is, texts one behind the other, and how far
 -- a sheet is written.
-use Rattle.std.specs.Prelude.{◌≡◌, List, [], ◌++◌, ℕ, zero, suc, ◌*◌, ◌/◌, length, take}
+use Rattle.std.specs.Prelude.{◌≡◌, List, [], ◌++◌, ℕ, zero, suc, ◌*◌, ◌/◌, length, take, Result, Ok, Err}
 use Rattle.std.proofs.Math.Option.{none, some}
 use Rattle.lex.specs.declared.diagnostic.Diagnostic.{Diagnostic}
+use Rattle.lex.specs.declared.diagnostic.Refusal.{Refusal}
+use Rattle.lex.specs.Refusals.{number}
 use Rattle.lex.specs.Answer.{Answer, refused, answer}
 use Rattle.ast.specs.Layout.{diagnostic_width}
 use Rattle.positions.specs.Position.{place_of}
 use Rattle.positions.specs.declared.Place.{Place}
-use Rattle.text.specs.Emit.{Emits}
 use Rattle.words.specs.Words.{words}
-use Rattle.sheet.specs.declared.Counted.{Counted}
-use Rattle.sheet.specs.declared.Counted.TheVariants as C
 use Rattle.sheet.specs.declared.Progress.{Progress}
 use Rattle.sheet.specs.Sheet.{heading, body, entry, error_at}
 
@@ -20,9 +19,9 @@ sized (refused n) = refused n
 sized (answer t) = answer (length t)
 
 -- a count of lines, as bytes
-unfoldable pub counted_of : Counted → Answer ℕ
-counted_of (C.Lines n) = answer (73 * n)
-counted_of (C.Refused n) = refused n
+unfoldable pub counted_of : Result ℕ Refusal → Answer ℕ
+counted_of (Ok n) = answer (73 * n)
+counted_of (Err r) = refused (number r)
 
 -- a text, or nothing
 abbrev pub text_in : Answer (List ℕ) → List ℕ
@@ -46,9 +45,3 @@ lines_at p e = elim (words e) [ none ↦ [] | some w ↦ heading p e.number ++ b
 -- `place` is that of `start`
 pub record Reached (script : List ℕ) (w : Progress) : Type 0 where
   pub known : w.place ≡ place_of (take w.start script)
-
--- one more error is written: from `w` and `before` the code came to `r` and `after`
-pub record EntryWritten (script : List ℕ) (e : Diagnostic)
-    (w : Progress) (before : List ℕ) (r : Progress) (after : List ℕ) : Type 0 where
-  pub emits : Emits (text_in (entry script e)) before w.to after r.to
-  pub reached : Reached script r

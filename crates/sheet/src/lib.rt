@@ -1,40 +1,29 @@
 // The correction sheet of a paper: each error by line and column, in words.
 #![tactic(auto)]
 
-ghost use Rattle.std.specs.Prelude.{◌≡◌, ◌-◌, ◌*◌, ◌≤◌, length};
+ghost use Rattle.std.specs.Prelude.{◌≡◌, ◌-◌, ◌≤◌, length};
 ghost use Rattle.lex.specs.Answer.{max_bytes};
-ghost use Rattle.ast.specs.Layout.{diagnostic_width};
 ghost use Rattle.text.specs.Answer.{result as result_of, answer_of};
-ghost use Rattle.text.specs.Emit.{Emits};
+ghost use Rattle.text.specs.Emit.{Emits, Writes};
 ghost use Rattle.text.specs.Text.{number as number_of};
 ghost use Rattle.sheet.specs.Sheet.{blanks, right, heading, body};
-ghost use Rattle.sheet.specs.Sheet.{entry, entries, error_at, printed};
-ghost use Rattle.sheet.specs.Count.{sized, counted_of, lines_at};
-ghost use Rattle.sheet.specs.Count.{texts_of, Reached, EntryWritten};
+ghost use Rattle.sheet.specs.Sheet.{entry, entries, printed};
+ghost use Rattle.sheet.specs.Count.{sized, counted_of, lines_at, text_in};
+ghost use Rattle.sheet.specs.Count.{texts_of, Reached};
 
 use ast::DIAGNOSTIC_WIDTH;
-use ast::decode::cell;
+use ast::decode::diagnostic_at;
 use lex::{Diagnostic, MAX_BYTES, Refusal};
-use positions::{Place, Position, advance};
-use text::{Writing, write_byte, write_number, write_text};
+use positions::{Place, advance};
+use text::{Writer, Writing};
 use words::{MAX_LINE, describe};
 
-// How many lines an error takes, or why it is refused.
-#[derive(Clone, Copy)]
-pub(crate) enum Counted {
-    Lines(usize),
-    Refused(u32),
-}
-
-// How far a sheet is written: where the next byte goes, and the place of the last error's start.
+// The place of the last error's start: the next one's is found from it.
 #[derive(Clone, Copy)]
 pub(crate) struct Progress {
-    pub to: usize,
     pub start: u32,
     pub place: Place,
 }
-
-const LINE_FEED: u8 = 10;
 
 // The bytes of a line, with its line feed.
 const LINE_BYTES: usize = 73;
@@ -44,166 +33,115 @@ const PIECE: usize = 57;
 
 const MARGIN: usize = 15;
 
-fn write_blanks(n: usize, out: &mut [u8], at: usize) -> usize
-    ensures { Emits (blanks n) out.old at out.new result }
+fn write_blanks(n: usize, w: &mut Writer)
+    ensures { Writes (blanks n) w.old w.new }
 {
-    let mut to = at;
-    let mut i = 0;
-    while i < n {
-        to = write_byte(b' ', out, to);
-        i += 1;
+    for _ in 0..n {
+        w.write_byte(b' ');
     }
-    to
 }
 
 // How many blanks stand before a number in five places.
 fn blanks_before(n: u32) -> usize
     ensures { result ≡ 5 - length (number_of n) }
 {
-    if n < 10 {
-        return 4;
+    match n {
+        ..=9 => 4,
+        10..=99 => 3,
+        100..=999 => 2,
+        1000..=9999 => 1,
+        _ => 0,
     }
-    if n < 100 {
-        return 3;
-    }
-    if n < 1000 {
-        return 2;
-    }
-    if n < 10000 {
-        return 1;
-    }
-    0
 }
 
-fn write_right(n: u32, out: &mut [u8], at: usize) -> usize
-    ensures { Emits (right (number_of n)) out.old at out.new result }
+fn write_right(n: u32, w: &mut Writer)
+    ensures { Writes (right (number_of n)) w.old w.new }
 {
-    let a = write_blanks(blanks_before(n), out, at);
-    write_number(n as usize, out, a)
+    write_blanks(blanks_before(n), w);
+    w.write_number(n as usize);
 }
 
 // Line, column and number of an error.
-fn write_heading(p: Place, number: u32, out: &mut [u8], at: usize) -> usize
-    ensures { Emits (heading p number) out.old at out.new result }
+fn write_heading(p: Place, number: u32, w: &mut Writer)
+    ensures { Writes (heading p number) w.old w.new }
 {
-    let a = write_right(p.line, out, at);
-    let b = write_blanks(1, out, a);
-    let c = write_right(p.column, out, b);
-    let d = write_blanks(1, out, c);
-    let e = write_number(number as usize, out, d);
-    write_blanks(1, out, e)
+    write_right(p.line, w);
+    write_blanks(1, w);
+    write_right(p.column, w);
+    write_blanks(1, w);
+    w.write_number(number as usize);
+    write_blanks(1, w);
 }
 
 // The words in pieces, each but the last followed by a line feed and a margin.
-fn write_body(words: &[u8], out: &mut [u8], at: usize) -> usize
-    ensures { Emits (body words.now) out.old at out.new result }
+fn write_body(words: &[u8], w: &mut Writer)
+    ensures { Writes (body words.now) w.old w.new }
 {
-    let mut to = at;
-    let mut from = 0;
-    while PIECE < words.len() - from {
-        let next = from + PIECE;
-        to = write_text(&words[from..next], out, to);
-        to = write_byte(LINE_FEED, out, to);
-        to = write_blanks(MARGIN, out, to);
-        from = next;
+    let mut rest = words;
+    while PIECE < rest.len() {
+        let (piece, behind) = rest.split_at(PIECE);
+        w.write_text(piece);
+        w.write_byte(b'\n');
+        write_blanks(MARGIN, w);
+        rest = behind;
     }
-    to = write_text(&words[from..], out, to);
-    to = write_blanks(PIECE - (words.len() - from), out, to);
-    write_byte(LINE_FEED, out, to)
-}
-
-fn error_at(errors: &[u32], i: usize) -> Diagnostic
-    requires { diagnostic_width * i ≤ length errors.now }
-    ensures { result ≡ error_at errors.now i }
-{
-    let at = DIAGNOSTIC_WIDTH * i;
-    let number = cell(errors, at, 0);
-    let start = cell(errors, at, 1);
-    let len = cell(errors, at, 2);
-    let wanted = cell(errors, at, 3);
-    let seen = cell(errors, at, 4);
-    Diagnostic {
-        number,
-        start,
-        len,
-        wanted,
-        seen,
-    }
+    w.write_text(rest);
+    write_blanks(PIECE - rest.len(), w);
+    w.write_byte(b'\n');
 }
 
 // The lines of an error at a place; none where it has no words.
-fn write_lines(p: Place, e: Diagnostic, out: &mut [u8], at: usize) -> usize
-    ensures { Emits (lines_at p e) out.old at out.new result }
+fn write_lines(p: Place, e: Diagnostic, w: &mut Writer)
+    ensures { Writes (lines_at p e) w.old w.new }
 {
     let mut line = [0u8; MAX_LINE];
-    match describe(e, &mut line) {
-        Writing::Refused(_) => at,
-        Writing::Written(n) => {
-            let a = write_heading(p, e.number, out, at);
-            write_body(&line[..n], out, a)
-        }
+    if let Ok(n) = describe(e, &mut line) {
+        write_heading(p, e.number, w);
+        write_body(&line[..n], w);
     }
 }
 
 // The lines of one more error; none where it is refused. Its place is found from the last one's.
-fn write_entry(script: &[u8], e: Diagnostic, w: Progress, out: &mut [u8]) -> Progress
-    requires { Reached script.now w }
-    ensures { EntryWritten script.now e w out.old result out.new }
+fn write_entry(script: &[u8], e: Diagnostic, known: Progress, w: &mut Writer) -> Progress
+    requires { Reached script.now known }
+    ensures writes { Writes (text_in (entry script.now e)) w.old w.new }
+    ensures reached { Reached script.now result }
 {
-    let place = w.place;
-    match advance(script, w.start, place, e.start) {
-        Position::Refused(_) => w,
-        Position::At(p) => {
-            let to = write_lines(p, e, out, w.to);
+    match advance(script, known.start, known.place, e.start) {
+        Err(_) => known,
+        Ok(place) => {
+            write_lines(place, e, w);
             Progress {
-                to,
                 start: e.start,
-                place: p,
+                place,
             }
         }
     }
 }
 
 // How many lines an error takes.
-fn count_lines(script: &[u8], e: Diagnostic) -> Counted
+fn count_lines(script: &[u8], e: Diagnostic) -> Result<usize, Refusal>
     requires { length script.now ≤ max_bytes }
     ensures { counted_of result ≡ sized (entry script.now e) }
 {
     let mut line = [0u8; MAX_LINE];
-    match describe(e, &mut line) {
-        Writing::Refused(n) => Counted::Refused(n),
-        Writing::Written(n) => {
-            let start = e.start as usize;
-            if script.len() < start {
-                return Counted::Refused(Refusal::OUTSIDE);
-            }
-            if n <= PIECE {
-                return Counted::Lines(1);
-            }
-            if n <= 2 * PIECE {
-                return Counted::Lines(2);
-            }
-            Counted::Lines(3)
-        }
+    let n = describe(e, &mut line)?;
+    if script.len() < e.start as usize {
+        return Err(Refusal::Outside);
     }
+    Ok(n.div_ceil(PIECE))
 }
 
 // How many lines all errors take, or the first refusal.
-fn count_all(script: &[u8], errors: &[u32]) -> Counted
+fn count_all(script: &[u8], errors: &[u32]) -> Result<usize, Refusal>
     requires { length script.now ≤ max_bytes }
     ensures { counted_of result ≡ sized (entries script.now errors.now) }
 {
-    let count = errors.len() / DIAGNOSTIC_WIDTH;
     let mut lines = 0;
-    let mut i = 0;
-    while i < count {
-        match count_lines(script, error_at(errors, i)) {
-            Counted::Refused(n) => return Counted::Refused(n),
-            Counted::Lines(k) => lines += k,
-        }
-        i += 1;
+    for cells in errors.chunks_exact(DIAGNOSTIC_WIDTH) {
+        lines += count_lines(script, diagnostic_at(cells, 0))?;
     }
-    Counted::Lines(lines)
+    Ok(lines)
 }
 
 // The lines of all errors.
@@ -211,18 +149,15 @@ fn write_all(script: &[u8], errors: &[u32], out: &mut [u8]) -> usize
     ensures { let text = texts_of script.now errors.now in
         Emits text out.old 0 out.new result }
 {
-    let count = errors.len() / DIAGNOSTIC_WIDTH;
-    let mut w = Progress {
-        to: 0,
+    let mut w = Writer { out, at: 0 };
+    let mut known = Progress {
         start: 0,
         place: Place { line: 1, column: 1 },
     };
-    let mut i = 0;
-    while i < count {
-        w = write_entry(script, error_at(errors, i), w, out);
-        i += 1;
+    for cells in errors.chunks_exact(DIAGNOSTIC_WIDTH) {
+        known = write_entry(script, diagnostic_at(cells, 0), known, &mut w);
     }
-    w.to
+    w.at
 }
 
 // The sheet of the errors, five numbers each. They are looked at before anything is written, so
@@ -232,15 +167,11 @@ pub fn print_sheet(script: &[u8], errors: &[u32], sheet: &mut [u8]) -> Writing
         left ≡ printed script.now errors.now sheet.old }
 {
     if MAX_BYTES < script.len() {
-        return Writing::Refused(Refusal::TOO_LONG);
+        return Err(Refusal::TooLong);
     }
-    match count_all(script, errors) {
-        Counted::Refused(n) => Writing::Refused(n),
-        Counted::Lines(lines) => {
-            if sheet.len() / LINE_BYTES < lines {
-                return Writing::Refused(Refusal::SHEET_TOO_SHORT);
-            }
-            Writing::Written(write_all(script, errors, sheet))
-        }
+    let lines = count_all(script, errors)?;
+    if sheet.len() / LINE_BYTES < lines {
+        return Err(Refusal::SheetTooShort);
     }
+    Ok(write_all(script, errors, sheet))
 }

@@ -2,19 +2,22 @@
 // the Rust's text.
 #![tactic(auto)]
 
-use ast::{Counts, Parsed};
+use ast::{Counts, ReadError};
 use lex::Diagnostic;
+use listing::Arrays;
 use std::io;
 
 fn sign(rt: &impl Print) -> io::Result<()> {
-    let nodes = [
-        2u32, 0, 25, 0, 1, 0, 0, 0, 0, 0, 0, 0, 0, 0, 0, 0, 2, 1, 25, 3, 1, 0, 0, 0, 0, 0, 0, 0, 0,
-        0, 0, 0, 4, 2, 5, 2, 1, 1, 0, 0, 0, 0, 0, 0, 0, 0, 0, 0,
-    ];
-    let types = [0u32];
-    let lists = [0u32];
-    let roots = [0u32, 2];
-    let diagnostics = [0u32];
+    let arrays = Arrays {
+        nodes: &[
+            2, 0, 25, 0, 1, 0, 0, 0, 0, 0, 0, 0, 0, 0, 0, 0, 2, 1, 25, 3, 1, 0, 0, 0, 0, 0, 0, 0,
+            0, 0, 0, 0, 4, 2, 5, 2, 1, 1, 0, 0, 0, 0, 0, 0, 0, 0, 0, 0,
+        ],
+        types: &[0],
+        lists: &[0],
+        roots: &[0, 2],
+        diagnostics: &[0],
+    };
     let counts = Counts {
         nodes: 3,
         types: 0,
@@ -23,29 +26,23 @@ fn sign(rt: &impl Print) -> io::Result<()> {
         values: 3,
         diagnostics: 0,
     };
-    list_script::print(
-        rt,
-        Parsed::Tree(counts),
-        &nodes,
-        &types,
-        &lists,
-        &roots,
-        &diagnostics,
-    )
+    list_script::print(rt, Ok(counts), &arrays)
 }
 
 // Script 1643 of the fixed list, strict.
 fn foreign(rt: &impl Print) -> io::Result<()> {
-    let nodes = [
-        6u32, 0, 0, 0, 25, 3, 1, 0, 0, 0, 0, 0, 0, 0, 0, 0, 12, 1, 28, 23, 6, 0, 0, 22, 30, 2, 4,
-        1, 0, 0, 0, 0,
-    ];
-    let types = [
-        2u32, 25, 17, 1, 0, 0, 0, 0, 5, 43, 46, 6, 12, 0, 0, 0, 1, 39, 56, 4, 0, 0, 0, 0,
-    ];
-    let lists = [25u32, 43, 1, 1, 0, 0, 25, 39, 1, 0, 1, 2];
-    let roots = [0u32, 1];
-    let diagnostics = [0u32];
+    let arrays = Arrays {
+        nodes: &[
+            6, 0, 0, 0, 25, 3, 1, 0, 0, 0, 0, 0, 0, 0, 0, 0, 12, 1, 28, 23, 6, 0, 0, 22, 30, 2, 4,
+            1, 0, 0, 0, 0,
+        ],
+        types: &[
+            2, 25, 17, 1, 0, 0, 0, 0, 5, 43, 46, 6, 12, 0, 0, 0, 1, 39, 56, 4, 0, 0, 0, 0,
+        ],
+        lists: &[25, 43, 1, 1, 0, 0, 25, 39, 1, 0, 1, 2],
+        roots: &[0, 1],
+        diagnostics: &[0],
+    };
     let counts = Counts {
         nodes: 2,
         types: 3,
@@ -54,28 +51,22 @@ fn foreign(rt: &impl Print) -> io::Result<()> {
         values: 2,
         diagnostics: 0,
     };
-    list_script::print(
-        rt,
-        Parsed::Tree(counts),
-        &nodes,
-        &types,
-        &lists,
-        &roots,
-        &diagnostics,
-    )
+    list_script::print(rt, Ok(counts), &arrays)
 }
 
 // Script 475 of the fixed list, collecting.
 fn arms(rt: &impl Print) -> io::Result<()> {
-    let nodes = [
-        1u32, 0, 24, 7, 1, 0, 0, 0, 0, 0, 0, 0, 0, 0, 0, 0, 13, 1, 20, 16, 1, 0, 0, 0, 0, 0, 0, 0,
-        0, 0, 0, 0, 4, 2, 5, 10, 1, 1, 0, 0, 0, 0, 0, 0, 0, 0, 0, 0, 3, 3, 6, 9, 1, 0, 2, 0, 0, 0,
-        0, 0, 0, 0, 0, 0, 7, 4, 0, 1, 20, 21, 1, 0, 0, 0, 0, 0, 0, 0, 0, 0,
-    ];
-    let types = [0u32];
-    let lists = [24u32, 7, 1, 3, 0, 0];
-    let roots = [4u32];
-    let diagnostics = [34u32, 11, 5, 0, 0];
+    let arrays = Arrays {
+        nodes: &[
+            1, 0, 24, 7, 1, 0, 0, 0, 0, 0, 0, 0, 0, 0, 0, 0, 13, 1, 20, 16, 1, 0, 0, 0, 0, 0, 0, 0,
+            0, 0, 0, 0, 4, 2, 5, 10, 1, 1, 0, 0, 0, 0, 0, 0, 0, 0, 0, 0, 3, 3, 6, 9, 1, 0, 2, 0, 0,
+            0, 0, 0, 0, 0, 0, 0, 7, 4, 0, 1, 20, 21, 1, 0, 0, 0, 0, 0, 0, 0, 0, 0,
+        ],
+        types: &[0],
+        lists: &[24, 7, 1, 3, 0, 0],
+        roots: &[4],
+        diagnostics: &[34, 11, 5, 0, 0],
+    };
     let counts = Counts {
         nodes: 5,
         types: 0,
@@ -84,27 +75,21 @@ fn arms(rt: &impl Print) -> io::Result<()> {
         values: 5,
         diagnostics: 1,
     };
-    list_script::print(
-        rt,
-        Parsed::Tree(counts),
-        &nodes,
-        &types,
-        &lists,
-        &roots,
-        &diagnostics,
-    )
+    list_script::print(rt, Ok(counts), &arrays)
 }
 
 // Script 407 of the fixed list, collecting.
 fn docs(rt: &impl Print) -> io::Result<()> {
-    let nodes = [
-        12u32, 0, 28, 14, 6, 0, 2, 22, 21, 1, 6, 0, 0, 0, 0, 0, 6, 1, 6, 0, 25, 3, 1, 6, 0, 0, 6,
-        1, 0, 0, 0, 0,
-    ];
-    let types = [1u32, 39, 6, 4, 0, 0, 0, 0];
-    let lists = [26u32, 7, 0, 26, 11, 0, 0];
-    let roots = [1u32];
-    let diagnostics = [33u32, 10, 1, 0, 36];
+    let arrays = Arrays {
+        nodes: &[
+            12, 0, 28, 14, 6, 0, 2, 22, 21, 1, 6, 0, 0, 0, 0, 0, 6, 1, 6, 0, 25, 3, 1, 6, 0, 0, 6,
+            1, 0, 0, 0, 0,
+        ],
+        types: &[1, 39, 6, 4, 0, 0, 0, 0],
+        lists: &[26, 7, 0, 26, 11, 0, 0],
+        roots: &[1],
+        diagnostics: &[33, 10, 1, 0, 36],
+    };
     let counts = Counts {
         nodes: 2,
         types: 1,
@@ -113,26 +98,27 @@ fn docs(rt: &impl Print) -> io::Result<()> {
         values: 2,
         diagnostics: 1,
     };
-    list_script::print(
-        rt,
-        Parsed::Tree(counts),
-        &nodes,
-        &types,
-        &lists,
-        &roots,
-        &diagnostics,
-    )
+    list_script::print(rt, Ok(counts), &arrays)
+}
+
+// Arrays that hold nothing else.
+fn with_nodes(nodes: &[u32]) -> Arrays<'_> {
+    Arrays {
+        nodes,
+        types: &[0],
+        lists: &[0],
+        roots: &[0],
+        diagnostics: &[0],
+    }
 }
 
 fn print_error(rt: &impl Print, e: Diagnostic) -> io::Result<()> {
-    let none = [0u32; 1];
-    list_script::print(rt, Parsed::Error(e), &none, &none, &none, &none, &none)
+    list_script::print(rt, Err(ReadError::Script(e)), &with_nodes(&[0]))
 }
 
 // The same counts with a kind that there is not, and with a node more than the array has.
 fn broken(rt: &impl Print, kind: u32, n: u32) -> io::Result<()> {
-    let nodes = [2u32, 0, kind, 0, 1, 0, 0, 0, 0, 0, 0, 0, 0, 0, 0, 0];
-    let none = [0u32; 1];
+    let nodes = [2, 0, kind, 0, 1, 0, 0, 0, 0, 0, 0, 0, 0, 0, 0, 0];
     let counts = Counts {
         nodes: n,
         types: 0,
@@ -141,7 +127,7 @@ fn broken(rt: &impl Print, kind: u32, n: u32) -> io::Result<()> {
         values: 1,
         diagnostics: 0,
     };
-    list_script::print(rt, Parsed::Tree(counts), &nodes, &none, &none, &none, &none)
+    list_script::print(rt, Ok(counts), &with_nodes(&nodes))
 }
 
 fn main(rt: HostRuntime) -> io::Result<()> {

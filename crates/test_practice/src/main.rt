@@ -3,64 +3,42 @@
 // Printed are the answer and the whole buffer.
 #![tactic(auto)]
 
-use console::frames::{Number, read_up_to};
-use console::output::{write, write_number};
+use console::frames::{ReadError, each_case, read_number, read_up_to};
+use console::output::print_answer;
+use practice::write_sheet;
 use std::io;
 use std::io::Read;
-use text::Writing;
 
 const ROOM: usize = 2048;
 
-fn write_answer(rt: &impl Print, answer: Writing) -> io::Result<()> {
-    match answer {
-        Writing::Written(n) => {
-            write(rt, b"written ")?;
-            write_number(rt, n as u64)?;
-        }
-        Writing::Refused(n) => {
-            write(rt, b"refused ")?;
-            write_number(rt, n as u64)?;
-        }
-    }
-    write(rt, b"\n")
-}
+// The greatest seed and the greatest number of lines.
+const MOST: usize = 4294967295;
 
-fn sheet_in(rt: &impl Print, seed: u32, lines: u32, out: &mut [u8]) -> io::Result<()> {
-    let answer = practice::write_sheet(seed, lines, out);
-    write_answer(rt, answer)?;
-    write(rt, out)?;
-    write(rt, b"\n")
-}
-
-fn sheet(rt: &impl Print, input: &mut impl Read, seed: u32) -> io::Result<()> {
-    let mut out = [b'.'; ROOM];
-    let lines = read_up_to(input, 4294967295)? as u32;
-    let n = read_up_to(input, ROOM)?;
-    sheet_in(rt, seed, lines, &mut out[..n])
+// What is answered, and what the buffer then holds.
+fn show(rt: &impl Print, seed: u32, lines: u32, out: &mut [u8]) -> io::Result<()> {
+    print_answer(
+        rt,
+        write_sheet(seed, lines, out),
+        |n| print!(rt; "written {n}"),
+    )?;
+    println!(rt;)?;
+    rt.write_all(out)?;
+    println!(rt;)
 }
 
 // The next case. Answers whether there was one.
-fn next_case(rt: &impl Print, input: &mut impl Read) -> io::Result<bool> {
-    match console::frames::read_number(input, 4294967295)? {
-        Number::Value(seed) => {
-            sheet(rt, input, seed as u32)?;
-            Ok(true)
-        }
-        Number::Malformed => {
-            write(rt, b"(malformed)\n")?;
-            Ok(false)
-        }
-        Number::End => Ok(false),
-    }
+fn next_case(rt: &impl Print, input: &mut impl Read) -> Result<bool, ReadError> {
+    let Some(seed) = read_number(input, MOST)? else {
+        return Ok(false);
+    };
+    let lines = read_up_to(input, MOST)?;
+    let n = read_up_to(input, ROOM)?;
+    let mut out = [b'.'; ROOM];
+    show(rt, seed as u32, lines as u32, &mut out[..n])?;
+    Ok(true)
 }
 
-// Nothing says that the input ends, so the cases are counted.
 fn main(rt: HostRuntime) -> io::Result<()> {
     let mut input = rt.stdin();
-    for _ in 0..1000000 {
-        if !next_case(&rt, &mut input)? {
-            break;
-        }
-    }
-    Ok(())
+    each_case(&rt, |_| next_case(&rt, &mut input))
 }

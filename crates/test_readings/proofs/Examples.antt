@@ -11,8 +11,8 @@ use Rattle.rules.specs.Rules.{stage_one}
 use Rattle.rules.specs.Parse.{Reading, parse, parse_collect}
 use Rattle.rules.specs.Promise.{Arrays, Outcome, too_short, zeroed, holding, outcome}
 use Rattle.parser.specs.Steps.{any_too_short, parse_promised}
-use Rattle.ast.specs.declared.Parsed.{Parsed}
-use Rattle.ast.specs.declared.Parsed.TheVariants as P
+use Rattle.rules.specs.Parsed.{Parsed}
+use Rattle.rules.specs.Parsed as P
 use Rattle.rules.proofs.Compute.{computed_from}
 
 abbrev tree : ℕ → ℕ → ℕ → ℕ → ℕ → ℕ → Parsed

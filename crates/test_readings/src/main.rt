@@ -6,111 +6,55 @@
 
 ghost use Rattle.std.specs.Prelude.{◌≤◌, length};
 
-use ast::Parsed;
-use console::frames::{Frame, read_script, read_up_to};
-use console::output::{write, write_number};
+use ast::{Parsed, ReadError};
+use console::frames::{ReadError as CaseError, each_case, read_frame, read_script, read_up_to};
 use std::io;
 use std::io::Read;
 
 // One more than a script may have.
 const ROOM: usize = 65537;
 
-// Room for scripts of 128 bytes.
-const TOKENS: usize = 516;
-
-const ERRORS: usize = 768;
-
-const NODES: usize = 2048;
-
-const TYPES: usize = 1024;
-
-const LISTS: usize = 1024;
-
-const ROOTS: usize = 128;
-
-const DIAGNOSTICS: usize = 640;
-
 // What every cell holds before a reading.
-const RUBBISH: u32 = 4294967295;
+const RUBBISH: u32 = u32::MAX;
 
-// A number behind a blank.
-fn write_next(rt: &impl Print, n: u32) -> io::Result<()> {
-    write(rt, b" ")?;
-    write_number(rt, n as u64)
-}
-
-fn write_answer(rt: &impl Print, answer: Parsed) -> io::Result<()> {
-    match answer {
-        Parsed::Tree(c) => {
-            write(rt, b"tree")?;
-            write_next(rt, c.nodes)?;
-            write_next(rt, c.types)?;
-            write_next(rt, c.cells)?;
-            write_next(rt, c.roots)?;
-            write_next(rt, c.values)?;
-            write_next(rt, c.diagnostics)?;
+fn print_parsed(rt: &impl Print, parsed: Parsed) -> io::Result<()> {
+    match parsed {
+        Ok(c) => {
+            print!(rt; "tree {} {} {}", c.nodes, c.types, c.cells)?;
+            println!(rt; " {} {} {}", c.roots, c.values, c.diagnostics)
         }
-        Parsed::Error(d) => {
-            write(rt, b"error")?;
-            write_next(rt, d.number)?;
-            write_next(rt, d.start)?;
-            write_next(rt, d.len)?;
-            write_next(rt, d.wanted)?;
-            write_next(rt, d.seen)?;
+        Err(ReadError::Script(d)) => {
+            println!(rt;
+                "error {} {} {} {} {}",
+                d.number, d.start, d.len, d.wanted, d.seen
+            )
         }
-        Parsed::Refused(n) => {
-            write(rt, b"refused")?;
-            write_next(rt, n)?;
-        }
+        Err(ReadError::Refused(refusal)) => println!(rt; "refused {}", u32::from(refusal)),
     }
-    write(rt, b"\n")
 }
 
 // How many cells there are without those at the end that hold `cell`.
 fn length_without(cells: &[u32], cell: u32) -> usize
     ensures { result ≤ length cells.now }
 {
-    let mut n = cells.len();
-    while 0 < n {
-        if cells[n - 1] != cell {
-            return n;
-        }
-        n -= 1;
-    }
-    0
+    cells
+        .iter()
+        .rposition(|c| *c != cell)
+        .map_or(0, |last| last + 1)
 }
 
 // The cells up to the last that is not zero, and how many zeros follow; or that all are as they
 // were.
-fn write_cells(rt: &impl Print, name: &[u8], cells: &[u32]) -> io::Result<()> {
-    write(rt, name)?;
+fn print_cells(rt: &impl Print, name: &str, cells: &[u32]) -> io::Result<()> {
     if length_without(cells, RUBBISH) == 0 {
-        return write(rt, b": as it was\n");
+        return println!(rt; "{name}: as it was");
     }
+    print!(rt; "{name}")?;
     let n = length_without(cells, 0);
     for cell in &cells[..n] {
-        write_next(rt, *cell)?;
+        print!(rt; " {cell}")?;
     }
-    write(rt, b", zeros ")?;
-    write_number(rt, (cells.len() - n) as u64)?;
-    write(rt, b"\n")
-}
-
-fn write_reading(
-    rt: &impl Print,
-    answer: Parsed,
-    nodes: &[u32],
-    types: &[u32],
-    lists: &[u32],
-    roots: &[u32],
-    diagnostics: &[u32],
-) -> io::Result<()> {
-    write_answer(rt, answer)?;
-    write_cells(rt, b"nodes", nodes)?;
-    write_cells(rt, b"types", types)?;
-    write_cells(rt, b"lists", lists)?;
-    write_cells(rt, b"roots", roots)?;
-    write_cells(rt, b"diagnostics", diagnostics)
+    println!(rt; ", zeros {}", cells.len() - n)
 }
 
 fn read(
@@ -123,10 +67,11 @@ fn read(
     roots: &mut [u32],
     diagnostics: &mut [u32],
 ) -> io::Result<()> {
-    let mut tokens = [RUBBISH; TOKENS];
-    let mut errors = [RUBBISH; ERRORS];
-    if collecting {
-        let answer = parser::parse_collect(
+    // room for scripts of 128 bytes
+    let mut tokens = [RUBBISH; 516];
+    let mut errors = [RUBBISH; 768];
+    let read = if collecting {
+        parser::parse_collect(
             script,
             &mut tokens,
             &mut errors,
@@ -135,10 +80,9 @@ fn read(
             lists,
             roots,
             diagnostics,
-        );
-        write_reading(rt, answer, nodes, types, lists, roots, diagnostics)
+        )
     } else {
-        let answer = parser::parse(
+        parser::parse(
             script,
             &mut tokens,
             &mut errors,
@@ -147,62 +91,62 @@ fn read(
             lists,
             roots,
             diagnostics,
-        );
-        write_reading(rt, answer, nodes, types, lists, roots, diagnostics)
-    }
+        )
+    };
+    print_parsed(rt, read)?;
+    print_cells(rt, "nodes", nodes)?;
+    print_cells(rt, "types", types)?;
+    print_cells(rt, "lists", lists)?;
+    print_cells(rt, "roots", roots)?;
+    print_cells(rt, "diagnostics", diagnostics)
 }
 
+// As many cells as the case says.
+fn lend<'a>(input: &mut impl Read, cells: &'a mut [u32]) -> io::Result<&'a mut [u32]> {
+    let n = read_up_to(input, cells.len())?;
+    Ok(&mut cells[..n])
+}
+
+// Arrays for scripts of 128 bytes.
 fn reading(rt: &impl Print, input: &mut impl Read) -> io::Result<()> {
     let mut script = [b' '; ROOM];
-    let mut nodes = [RUBBISH; NODES];
-    let mut types = [RUBBISH; TYPES];
-    let mut lists = [RUBBISH; LISTS];
-    let mut roots = [RUBBISH; ROOTS];
-    let mut diagnostics = [RUBBISH; DIAGNOSTICS];
+    let mut nodes = [RUBBISH; 2048];
+    let mut types = [RUBBISH; 1024];
+    let mut lists = [RUBBISH; 1024];
+    let mut roots = [RUBBISH; 128];
+    let mut diagnostics = [RUBBISH; 640];
     let collecting = read_up_to(input, 1)? == 1;
-    let a = read_up_to(input, NODES)?;
-    let b = read_up_to(input, TYPES)?;
-    let c = read_up_to(input, LISTS)?;
-    let d = read_up_to(input, ROOTS)?;
-    let e = read_up_to(input, DIAGNOSTICS)?;
+    let nodes = lend(input, &mut nodes)?;
+    let types = lend(input, &mut types)?;
+    let lists = lend(input, &mut lists)?;
+    let roots = lend(input, &mut roots)?;
+    let diagnostics = lend(input, &mut diagnostics)?;
     let n = read_script(input, &mut script)?;
     read(
         rt,
         collecting,
         &script[..n],
-        &mut nodes[..a],
-        &mut types[..b],
-        &mut lists[..c],
-        &mut roots[..d],
-        &mut diagnostics[..e],
+        nodes,
+        types,
+        lists,
+        roots,
+        diagnostics,
     )
 }
 
 // The next case. Answers whether there was one.
-fn next_case(rt: &impl Print, input: &mut impl Read) -> io::Result<bool> {
+fn next_case(rt: &impl Print, input: &mut impl Read) -> Result<bool, CaseError> {
     let mut name = [0u8; 4096];
-    match console::frames::read_frame(input, &mut name)? {
-        Frame::Bytes(n) => {
-            write(rt, &name[..n])?;
-            write(rt, b": ")?;
-            reading(rt, input)?;
-            Ok(true)
-        }
-        Frame::Malformed => {
-            write(rt, b"(malformed)\n")?;
-            Ok(false)
-        }
-        Frame::End => Ok(false),
-    }
+    let Some(n) = read_frame(input, &mut name)? else {
+        return Ok(false);
+    };
+    rt.write_all(&name[..n])?;
+    print!(rt; ": ")?;
+    reading(rt, input)?;
+    Ok(true)
 }
 
-// Nothing says that the input ends, so the cases are counted.
 fn main(rt: HostRuntime) -> io::Result<()> {
     let mut input = rt.stdin();
-    for _ in 0..1000000 {
-        if !next_case(&rt, &mut input)? {
-            break;
-        }
-    }
-    Ok(())
+    each_case(&rt, |_| next_case(&rt, &mut input))
 }

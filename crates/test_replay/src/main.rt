@@ -5,10 +5,13 @@
 // these leave something else.
 #![tactic(auto)]
 
+use ast::lent::Tree;
 use ast::{Counts, NodeId, Parsed, TypeExprId};
-use console::frames::Frame;
-use console::output::{write, write_number};
-use lookups::{Start, TypeToken, node_start, type_token};
+use console::frames::{ReadError, each_case, read_frame};
+use console::output::print_answer;
+use console::tokens::TokenForm;
+use listing::Arrays;
+use lookups::{node_start, type_token};
 use std::io;
 use std::io::Read;
 use tokens::cut;
@@ -16,35 +19,33 @@ use tokens::cut;
 // What the arrays of the second reading hold before it.
 const RUBBISH: u32 = 4294967295;
 
-fn write_refused(rt: &impl Print, n: u32) -> io::Result<()> {
-    write(rt, b"refused ")?;
-    write_number(rt, n as u64)
-}
-
-fn print_start(rt: &impl Print, i: u32, start: Start) -> io::Result<()> {
-    write(rt, b"(start ")?;
-    write_number(rt, i as u64)?;
-    write(rt, b" ")?;
-    match start {
-        Start::At(at) => write_number(rt, at as u64)?,
-        Start::Nothing => write(rt, b"none")?,
-        Start::Refused(n) => write_refused(rt, n)?,
+fn print_starts(rt: &impl Print, tree: &Tree) -> io::Result<()> {
+    for i in 0..tree.counts.nodes {
+        print!(rt; "(start {i} ")?;
+        print_answer(rt, node_start(tree, NodeId(i)), |start| match start {
+            Some(at) => print!(rt; "{at}"),
+            None => print!(rt; "none"),
+        })?;
+        println!(rt; ")")?;
     }
-    write(rt, b")\n")
+    Ok(())
 }
 
-fn print_type_token(rt: &impl Print, i: u32, token: TypeToken) -> io::Result<()> {
-    write(rt, b"(typetoken ")?;
-    write_number(rt, i as u64)?;
-    write(rt, b" ")?;
-    match token {
-        TypeToken::Found(t) => console::tokens::print_token(rt, t)?,
-        TypeToken::Refused(n) => write_refused(rt, n)?,
+fn print_type_tokens(rt: &impl Print, tree: &Tree) -> io::Result<()> {
+    for i in 0..tree.counts.types {
+        print!(rt; "(typetoken {i} ")?;
+        print_answer(
+            rt,
+            type_token(tree, TypeExprId(i)),
+            |t| print!(rt; "{}", TokenForm(t)),
+        )?;
+        println!(rt; ")")?;
     }
-    write(rt, b")\n")
+    Ok(())
 }
 
-fn print_starts(
+// The start of each node and the token of each type.
+fn print_lookups(
     rt: &impl Print,
     script: &[u8],
     nodes: &[u32],
@@ -53,50 +54,22 @@ fn print_starts(
     roots: &[u32],
     counts: Counts,
 ) -> io::Result<()> {
-    for i in 0..counts.nodes {
-        let start = node_start(script, nodes, types, lists, roots, counts, NodeId(i));
-        print_start(rt, i, start)?;
-    }
-    Ok(())
-}
-
-fn print_type_tokens(
-    rt: &impl Print,
-    script: &[u8],
-    nodes: &[u32],
-    types: &[u32],
-    lists: &[u32],
-    roots: &[u32],
-    counts: Counts,
-) -> io::Result<()> {
-    for i in 0..counts.types {
-        let token = type_token(script, nodes, types, lists, roots, counts, TypeExprId(i));
-        print_type_token(rt, i, token)?;
-    }
-    Ok(())
-}
-
-fn print_tokens(rt: &impl Print, script: &[u8]) -> io::Result<()> {
-    write(rt, b"(tokens)\n")?;
-    console::tokens::print_script(rt, script)
-}
-
-fn same_cells(a: &[u32], b: &[u32]) -> bool {
-    if a.len() != b.len() {
-        return false;
-    }
-    for i in 0..a.len() {
-        if a[i] != b[i] {
-            return false;
-        }
-    }
-    true
+    let tree = Tree {
+        script,
+        nodes,
+        types,
+        lists,
+        roots,
+        counts,
+    };
+    print_starts(rt, &tree)?;
+    print_type_tokens(rt, &tree)
 }
 
 // An answer as numbers.
 fn numbers(answer: Parsed) -> [u32; 7] {
     match answer {
-        Parsed::Tree(c) => [
+        Ok(c) => [
             0,
             c.nodes,
             c.types,
@@ -105,15 +78,45 @@ fn numbers(answer: Parsed) -> [u32; 7] {
             c.values,
             c.diagnostics,
         ],
-        Parsed::Error(d) => [1, d.number, d.start, d.len, d.wanted, d.seen, 0],
-        Parsed::Refused(n) => [2, n, 0, 0, 0, 0, 0],
+        Err(ast::ReadError::Script(d)) => [1, d.number, d.start, d.len, d.wanted, d.seen, 0],
+        Err(ast::ReadError::Refused(refusal)) => [2, u32::from(refusal), 0, 0, 0, 0, 0],
     }
 }
 
-fn same_answer(a: Parsed, b: Parsed) -> bool {
-    let x = numbers(a);
-    let y = numbers(b);
-    same_cells(&x, &y)
+// The script is cut and read in one step.
+fn read_whole(
+    script: &[u8],
+    collecting: bool,
+    tokens: &mut [u32],
+    errors: &mut [u32],
+    nodes: &mut [u32],
+    types: &mut [u32],
+    lists: &mut [u32],
+    roots: &mut [u32],
+    diagnostics: &mut [u32],
+) -> Parsed {
+    if collecting {
+        return parser::parse_collect(
+            script,
+            tokens,
+            errors,
+            nodes,
+            types,
+            lists,
+            roots,
+            diagnostics,
+        );
+    }
+    parser::parse(
+        script,
+        tokens,
+        errors,
+        nodes,
+        types,
+        lists,
+        roots,
+        diagnostics,
+    )
 }
 
 // The script is cut, and then read from the tables.
@@ -153,8 +156,7 @@ fn cut_and_read(
     )
 }
 
-// Both steps into other arrays: answer, tables and arrays have to be those that `parse` or
-// `parse_collect` left.
+// Both steps into other arrays: answer, tables and arrays have to be those that one step left.
 fn read_again(
     rt: &impl Print,
     script: &[u8],
@@ -162,11 +164,7 @@ fn read_again(
     answer: Parsed,
     tokens: &[u32],
     errors: &[u32],
-    nodes: &[u32],
-    types: &[u32],
-    lists: &[u32],
-    roots: &[u32],
-    diagnostics: &[u32],
+    arrays: &Arrays,
 ) -> io::Result<()> {
     let mut tokens2 = [RUBBISH; 3844];
     let mut errors2 = [RUBBISH; 5760];
@@ -186,22 +184,22 @@ fn read_again(
         &mut roots2,
         &mut diagnostics2,
     );
-    let mut same = same_answer(answer, answer2);
-    same = same & same_cells(tokens, &tokens2);
-    same = same & same_cells(errors, &errors2);
-    same = same & same_cells(nodes, &nodes2);
-    same = same & same_cells(types, &types2);
-    same = same & same_cells(lists, &lists2);
-    same = same & same_cells(roots, &roots2);
-    same = same & same_cells(diagnostics, &diagnostics2);
+    let same = numbers(answer)[..] == numbers(answer2)[..]
+        && tokens[..] == tokens2[..]
+        && errors[..] == errors2[..]
+        && arrays.nodes[..] == nodes2[..]
+        && arrays.types[..] == types2[..]
+        && arrays.lists[..] == lists2[..]
+        && arrays.roots[..] == roots2[..]
+        && arrays.diagnostics[..] == diagnostics2[..];
     if !same {
-        write(rt, b"(differs)\n")?;
+        println!(rt; "(differs)")?;
     }
     Ok(())
 }
 
-// Strict mode, and the lookups on the arrays that it leaves.
-fn print_strict(rt: &impl Print, script: &[u8]) -> io::Result<()> {
+// A reading in one step and in two, and the lookups on the arrays that a strict one leaves.
+fn print_reading(rt: &impl Print, script: &[u8], collecting: bool) -> io::Result<()> {
     let mut tokens = [0u32; 3844];
     let mut errors = [0u32; 5760];
     let mut nodes = [0u32; 15360];
@@ -209,8 +207,9 @@ fn print_strict(rt: &impl Print, script: &[u8]) -> io::Result<()> {
     let mut lists = [0u32; 7680];
     let mut roots = [0u32; 960];
     let mut diagnostics = [0u32; 4800];
-    let answer = parser::parse(
+    let answer = read_whole(
         script,
+        collecting,
         &mut tokens,
         &mut errors,
         &mut nodes,
@@ -219,95 +218,41 @@ fn print_strict(rt: &impl Print, script: &[u8]) -> io::Result<()> {
         &mut roots,
         &mut diagnostics,
     );
-    write(rt, b"(strict)\n")?;
-    list_script::print(rt, answer, &nodes, &types, &lists, &roots, &diagnostics)?;
-    write(rt, b"(starts)\n")?;
-    if let Parsed::Tree(counts) = answer {
-        print_starts(rt, script, &nodes, &types, &lists, &roots, counts)?;
-        print_type_tokens(rt, script, &nodes, &types, &lists, &roots, counts)?;
+    let arrays = Arrays {
+        nodes: &nodes,
+        types: &types,
+        lists: &lists,
+        roots: &roots,
+        diagnostics: &diagnostics,
+    };
+    list_script::print(rt, answer, &arrays)?;
+    if !collecting {
+        println!(rt; "(starts)")?;
+        if let Ok(counts) = answer {
+            print_lookups(rt, script, &nodes, &types, &lists, &roots, counts)?;
+        }
     }
-    read_again(
-        rt,
-        script,
-        false,
-        answer,
-        &tokens,
-        &errors,
-        &nodes,
-        &types,
-        &lists,
-        &roots,
-        &diagnostics,
-    )
-}
-
-fn print_collect(rt: &impl Print, script: &[u8]) -> io::Result<()> {
-    let mut tokens = [0u32; 3844];
-    let mut errors = [0u32; 5760];
-    let mut nodes = [0u32; 15360];
-    let mut types = [0u32; 7680];
-    let mut lists = [0u32; 7680];
-    let mut roots = [0u32; 960];
-    let mut diagnostics = [0u32; 4800];
-    let answer = parser::parse_collect(
-        script,
-        &mut tokens,
-        &mut errors,
-        &mut nodes,
-        &mut types,
-        &mut lists,
-        &mut roots,
-        &mut diagnostics,
-    );
-    write(rt, b"(collect)\n")?;
-    list_script::print(rt, answer, &nodes, &types, &lists, &roots, &diagnostics)?;
-    read_again(
-        rt,
-        script,
-        true,
-        answer,
-        &tokens,
-        &errors,
-        &nodes,
-        &types,
-        &lists,
-        &roots,
-        &diagnostics,
-    )
-}
-
-fn print_script(rt: &impl Print, i: u64, script: &[u8]) -> io::Result<()> {
-    write(rt, b"(script ")?;
-    write_number(rt, i)?;
-    write(rt, b")\n")?;
-    print_tokens(rt, script)?;
-    print_strict(rt, script)?;
-    print_collect(rt, script)
+    read_again(rt, script, collecting, answer, &tokens, &errors, &arrays)
 }
 
 // The next script, with number `i`. Answers whether there was one.
-fn replay(rt: &impl Print, input: &mut impl Read, i: u64) -> io::Result<bool> {
-    let mut script = [0u8; 960];
-    match console::frames::read_frame(input, &mut script)? {
-        Frame::Bytes(n) => {
-            print_script(rt, i, &script[..n])?;
-            Ok(true)
-        }
-        Frame::Malformed => {
-            write(rt, b"(malformed)\n")?;
-            Ok(false)
-        }
-        Frame::End => Ok(false),
-    }
+fn replay(rt: &impl Print, input: &mut impl Read, i: u64) -> Result<bool, ReadError> {
+    let mut buf = [0u8; 960];
+    let Some(n) = read_frame(input, &mut buf)? else {
+        return Ok(false);
+    };
+    let script = &buf[..n];
+    println!(rt; "(script {i})")?;
+    println!(rt; "(tokens)")?;
+    console::tokens::print_script(rt, script)?;
+    println!(rt; "(strict)")?;
+    print_reading(rt, script, false)?;
+    println!(rt; "(collect)")?;
+    print_reading(rt, script, true)?;
+    Ok(true)
 }
 
-// Nothing says that the input ends, so the scripts are counted.
 fn main(rt: HostRuntime) -> io::Result<()> {
     let mut input = rt.stdin();
-    for i in 0..1000000000000 {
-        if !replay(&rt, &mut input, i)? {
-            break;
-        }
-    }
-    Ok(())
+    each_case(&rt, |i| replay(&rt, &mut input, i))
 }

@@ -10,7 +10,8 @@ use lib.ListN.{length, set, drop, length-set}
 use lib.Seq.{set_out, sets, sets-eq}
 use borrow.Author.Tests.{lt-ltb, le-ltb, ltb-true, ltb-false}
 use Rattle.text.specs.Text.{digits, number}
-use Rattle.text.specs.Emit.{Output, last, put, emit, Emits, plain}
+use Rattle.text.specs.Emit.{Output, last, put, emit, Emits, Writes, plain}
+use Rattle.text.specs.declared.Writer.{Writer}
 use Rattle.text.specs.Answer.{written, result, in_front}
 
 -- a property of a choice holds if it holds of each case
@@ -36,6 +37,20 @@ nothing = record { emitted = refl }
 -- the text is another by an equation
 pub by : {a b x y : List ℕ} {p q : ℕ} → a ≡ b → Emits a x p y q → Emits b x p y q
 by {x = x} {p = p} e f = record { emitted = f.emitted ∙ ap (λ (t : List ℕ). emit t (record { buffer = x; at = p })) e }
+
+-- ---- writers
+
+module _ {a b : List ℕ} {u v w : Writer} where
+  pub and_then : Writes a u v → Writes b v w → Writes (a ++ b) u w
+  and_then f g = record { same_buffer = g.same_buffer ∙ f.same_buffer; emits = then f.emits g.emits }
+
+pub writes_nothing : {w : Writer} → Writes [] w w
+writes_nothing = record { same_buffer = refl; emits = nothing }
+
+pub writes_by : {a b : List ℕ} {u v : Writer} → a ≡ b → Writes a u v → Writes b u v
+writes_by e f = record { same_buffer = f.same_buffer; emits = by e f.emits }
+
+-- ---- a buffer's length
 
 length-put : (b : ℕ) (o : Output) → length (put b o).buffer ≡ length o.buffer
 unfolding put
@@ -64,17 +79,13 @@ output : {x y : List ℕ} {p q : ℕ} → x ≡ y → p ≡ q → ◌≡◌ {A =
 output e f = cc
 
 module _ (b : ℕ) (x : List ℕ) (at : ℕ) (small : b < 256) where
-  pub byte_inside : at < last → Emits (b ∷ []) x at (set x at b) (at + 1)
+  pub byte_inside : Emits (b ∷ []) x at (set x at b) (min (at + 1) last)
   unfolding emit
-  byte_inside h = record { emitted = output refl (omega arith) ∙ sym (put_byte b (record { buffer = x; at = at }) small) }
+  byte_inside = record { emitted = sym (put_byte b (record { buffer = x; at = at }) small) }
 
-  pub byte_behind : length x ≤ at → at < last → Emits (b ∷ []) x at x (at + 1)
+  pub byte_behind : length x ≤ at → Emits (b ∷ []) x at x (min (at + 1) last)
   unfolding emit
-  byte_behind l h = record { emitted = output (sym (set_out x at b l)) (omega arith) ∙ sym (put_byte b (record { buffer = x; at = at }) small) }
-
-  pub byte_last : length x ≤ at → last ≤ at → Emits (b ∷ []) x at x last
-  unfolding emit
-  byte_last l h = record { emitted = output (sym (set_out x at b l)) (omega arith) ∙ sym (put_byte b (record { buffer = x; at = at }) small) }
+  byte_behind l = record { emitted = output (sym (set_out x at b l)) refl ∙ sym (put_byte b (record { buffer = x; at = at }) small) }
 
 -- ---- numbers
 
@@ -89,10 +100,10 @@ fuel (suc f) (suc g) n h k =
     (cases (λ (l : List ℕ). l ≡ elim (ltb n 10) as (λ (_ : Bool). List ℕ) [ true ↦ [] | false ↦ digits g (n / 10) ]) (ltb n 10)
     (λ e. rw e) (λ e. let l : 10 ≤ n = ltb-false n 10 e in rw e (fuel f g (n / 10) (omega arith) (omega arith))))
 
-pub one_digit : (n : ℕ) → n < 10 → (48 + n) ∷ [] ≡ number n
+pub one_digit : (n : ℕ) → n < 10 → (48 + n % 10) ∷ [] ≡ number n
 unfolding number digits
 one_digit zero h = refl
-one_digit (suc m) h = let e : suc m % 10 ≡ suc m = omega arith in rw (lt-ltb (suc m) 10 h, e)
+one_digit (suc m) h = rw (lt-ltb (suc m) 10 h)
 
 pub more_digits : (n : ℕ) → 10 ≤ n → number (n / 10) ++ ((48 + n % 10) ∷ []) ≡ number n
 unfolding number digits

@@ -1,8 +1,8 @@
 -- How a call ends that writes a text into a lent buffer: refused with a number, or with the text's
 -- length in bytes.
-use Rattle.std.specs.Prelude.{List, ◌++◌, ℕ, length, drop}
-use Rattle.text.specs.declared.Writing.{Writing}
-use Rattle.text.specs.declared.Writing.TheVariants as W
+use Rattle.std.specs.Prelude.{List, ◌++◌, ℕ, length, drop, Result as Either, Ok, Err}
+use Rattle.lex.specs.declared.diagnostic.Refusal.{Refusal}
+use Rattle.lex.specs.Refusals.{number}
 
 pub data Answer : Type 0 where
   refused : ℕ → Answer
@@ -24,7 +24,7 @@ refuse n buffer = result (refused n) buffer
 abbrev pub in_front : List ℕ → List ℕ → Result
 in_front text buffer = result (written (length text)) (text ++ drop (length text) buffer)
 
--- the papers' number or length for each case of the code's answer
-unfoldable pub answer_of : Writing → Answer
-answer_of (W.Written n) = written n
-answer_of (W.Refused n) = refused n
+-- the papers' number or the length for each case of the code's answer
+unfoldable pub answer_of : Either ℕ Refusal → Answer
+answer_of (Ok n) = written n
+answer_of (Err r) = refused (number r)

@@ -4,48 +4,49 @@
 
 ghost use Rattle.std.specs.Prelude.{[], ◌∷◌};
 ghost use Rattle.text.specs.Text.{number};
-ghost use Rattle.text.specs.Emit.{Emits};
+ghost use Rattle.text.specs.Emit.{Writes};
 
-// How a call ends that writes a text into a lent buffer: the text's length in bytes, or the number
-// of the refusal.
-#[derive(Clone, Copy)]
-pub enum Writing {
-    Written(usize),
-    Refused(u32),
-}
+use lex::Refusal;
+
+// How a call ends that writes a text into a lent buffer: with the text's length in bytes.
+pub type Writing = Result<usize, Refusal>;
 
 // The last position: counting stops there.
-pub const LAST: usize = 18446744073709551615;
+pub const LAST: usize = usize::MAX;
 
-pub fn write_byte(b: u8, out: &mut [u8], at: usize) -> usize
-    ensures { Emits (b ∷ []) out.old at out.new result }
-{
-    if at < out.len() {
-        out[at] = b;
-        return at + 1;
-    }
-    if at < LAST { at + 1 } else { LAST }
+// A lent buffer, and where the next byte goes.
+#[derive(Drop)]
+pub struct Writer<'a> {
+    pub out: &'a mut [u8],
+    pub at: usize,
 }
 
-pub fn write_text(text: &[u8], out: &mut [u8], at: usize) -> usize
-    ensures { Emits text.now out.old at out.new result }
-{
-    let mut to = at;
-    let mut i = 0;
-    while i < text.len() {
-        to = write_byte(text[i], out, to);
-        i += 1;
+impl<'a> Writer<'a> {
+    pub fn write_byte(&mut self, b: u8)
+        ensures { Writes (b ∷ []) self.old self.new }
+    {
+        let at = self.at;
+        self.at = at.saturating_add(1);
+        if at < self.out.len() {
+            self.out[at] = b;
+        }
     }
-    to
-}
 
-// A number in decimal.
-pub fn write_number(n: usize, out: &mut [u8], at: usize) -> usize
-    ensures { Emits (number n) out.old at out.new result }
-{
-    if n < 10 {
-        return write_byte(b'0' + n as u8, out, at);
+    pub fn write_text(&mut self, text: &[u8])
+        ensures { Writes text.now self.old self.new }
+    {
+        for b in text {
+            self.write_byte(*b);
+        }
     }
-    let to = write_number(n / 10, out, at);
-    write_byte(b'0' + (n % 10) as u8, out, to)
+
+    // A number in decimal.
+    pub fn write_number(&mut self, n: usize)
+        ensures { Writes (number n) self.old self.new }
+    {
+        if 10 <= n {
+            self.write_number(n / 10);
+        }
+        self.write_byte(b'0' + (n % 10) as u8);
+    }
 }

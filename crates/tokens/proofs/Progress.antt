@@ -18,6 +18,7 @@ use Rattle.lex.specs.declared.tok.Step.{Step}
 use Rattle.lex.proofs.Laws.{cases, leading_le_one}
 use Rattle.lex.proofs.Steps.{Forward, step_forward, cut_step}
 use Rattle.tokens.specs.declared.Stop.{Stop}
+use Rattle.std.specs.Prelude.{Some, None}
 use Rattle.tokens.specs.Filling.{tokens_left, errors_left, Stops}
 use Rattle.tokens.specs.Tables.{token_record, error_record, token_records, error_records}
 use Rattle.tokens.proofs.Arrays.{stored}
@@ -154,32 +155,32 @@ module _ {script ts es : List ℕ} {from before n m pos : ℕ} (d : Filled scrip
       }
 
   -- no room for a token
-  pub stops_tokens : length ts < 4 * n + 4 → Stops script from before ts es (record { tokens = n; errors = m; pos = pos; ended = false })
+  pub stops_tokens : length ts < 4 * n + 4 → Stops script from before ts es (record { tokens = n; errors = m; next = Some pos })
   stops_tokens h = record {
     made = d.made;
     met = d.met;
     tokens_fit = d.tokens_fit;
     errors_fit = d.errors_fit;
-    inside = d.inside;
-    moves = λ p q e. omega (arith, d.steps);
+    inside = λ to e. let same : pos ≡ to = cc in omega (arith, d.inside);
+    moves = λ to e p q. let same : pos ≡ to = cc in omega (arith, d.steps);
     whole = λ p q. absurd (omega (arith, tokens-left));
   }
 
   -- no room for an error
-  pub stops_errors : {e : Fault} {next : ℕ} → step_at script pos ≡ Step.Fault e next → length es < 6 * m + 6 → Stops script from before ts es (record { tokens = n; errors = m; pos = pos; ended = false })
+  pub stops_errors : {e : Fault} {next : ℕ} → step_at script pos ≡ Step.Fault e next → length es < 6 * m + 6 → Stops script from before ts es (record { tokens = n; errors = m; next = Some pos })
   stops_errors s h = record {
     made = d.made;
     met = d.met;
     tokens_fit = d.tokens_fit;
     errors_fit = d.errors_fit;
-    inside = d.inside;
-    moves = λ p q e. omega (arith, d.steps);
+    inside = λ to e. let same : pos ≡ to = cc in omega (arith, d.inside);
+    moves = λ to e p q. let same : pos ≡ to = cc in omega (arith, d.steps);
     whole = λ p q. absurd (omega (arith, errors-left s));
   }
 
   -- the script's end
   pub stops_end : {ts' : List ℕ} {at : ℕ} → step_at script pos ≡ Step.End at → 4 * n + 4 ≤ length ts
-      → ts' ≡ take (4 * n) ts ++ token_record script (eof_token at) ++ drop (4 * n + 4) ts → Stops script from before ts' es (record { tokens = n + 1; errors = m; pos = pos; ended = true })
+      → ts' ≡ take (4 * n) ts ++ token_record script (eof_token at) ++ drop (4 * n + 4) ts → Stops script from before ts' es (record { tokens = n + 1; errors = m; next = None })
   unfolding tokens_of faults_of token_records token_record error_records flatten
   stops_end {ts'} {at} s h w =
       let c = cut_by_step script pos s in
@@ -189,16 +190,16 @@ module _ {script ts es : List ℕ} {from before n m pos : ℕ} (d : Filled scrip
         met = ap (λ (x : Cut). take (6 * m) es ++ error_records (faults_of (before + n) x)) (sym c) ∙ d.met;
         tokens_fit = omega (arith, k.same);
         errors_fit = d.errors_fit;
-        inside = d.inside;
-        moves = λ p q e. let z : ◌≡◌ {A = ℕ} 0 1 = cc in absurd (omega arith);
+        inside = λ to e. let z : ◌≡◌ {A = ℕ} 0 1 = cc in absurd (omega arith);
+        moves = λ to e p q. let z : ◌≡◌ {A = ℕ} 0 1 = cc in absurd (omega arith);
         whole = λ p q. refl;
       }
 
 -- how many records a filling that stopped has made and left
-pub made-left : {script ts es : List ℕ} {from before : ℕ} {s : Stop} → Stops script from before ts es s → s.tokens + length (tokens_left s.ended (cut_at script s.pos)) ≡ length (tokens_of (cut_at script from))
+pub made-left : {script ts es : List ℕ} {from before : ℕ} {s : Stop} → Stops script from before ts es s → s.tokens + length (tokens_left script s.next) ≡ length (tokens_of (cut_at script from))
 made-left {script} {ts} {s = s} p = made-count script ts s.tokens _ _ p.tokens_fit p.made
 
-pub met-left : {script ts es : List ℕ} {from before : ℕ} {s : Stop} → Stops script from before ts es s → s.errors + length (errors_left s.ended (before + s.tokens) (cut_at script s.pos)) ≡ length (faults_of before (cut_at script from))
+pub met-left : {script ts es : List ℕ} {from before : ℕ} {s : Stop} → Stops script from before ts es s → s.errors + length (errors_left script s.next (before + s.tokens)) ≡ length (faults_of before (cut_at script from))
 met-left {es = es} {s = s} p = met-count es s.errors _ _ p.errors_fit p.met
 
 -- ---- where a spelling begins

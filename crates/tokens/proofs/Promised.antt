@@ -12,14 +12,15 @@ use Rattle.lex.specs.Lex.{cut_at, cut, tokens_of, faults_of}
 use Rattle.lex.proofs.Steps.{cut_le}
 use Rattle.tokens.specs.declared.Stop.{Stop}
 use Rattle.tokens.specs.declared.TableCounts.{TableCounts}
+use Rattle.std.specs.Prelude.{Option, None}
 use Rattle.tokens.specs.Filling.{tokens_left, errors_left, Stops}
-use Rattle.tokens.specs.declared.Cutting.TheVariants as C
+use Rattle.lex.specs.Answer as A
 use Rattle.lex.specs.Cells.{zeros}
 use Rattle.tokens.specs.Tables.{token_records, error_records, token_table, error_table, counts_of, tabled, too_short, promised}
 use Rattle.tokens.proofs.Progress.{token-records-length, error-records-length, some-token, made-left, met-left}
 
 module _ (script ts es : List ℕ) where
-  pub too_long : 65536 < length script → promised script ts es ≡ record { answer = C.Refused 1; tokens = ts; errors = es }
+  pub too_long : 65536 < length script → promised script ts es ≡ record { answer = A.refused 1; tokens = ts; errors = es }
   unfolding promised
   too_long h = rw (lt-ltb 65536 (length script) h, promised)
 
@@ -35,7 +36,7 @@ module _ (script ts es : List ℕ) where
   unfolding too_short or
   long_enough k h = rw (le-ltb (length ts) (4 * length script + 4) k, or) (le-ltb (length es) (6 * length script) h)
 
-  pub too_short_lem : length script ≤ 65536 → too_short script ts es ≡ true → promised script ts es ≡ record { answer = C.Refused 2; tokens = ts; errors = es }
+  pub too_short_lem : length script ≤ 65536 → too_short script ts es ≡ true → promised script ts es ≡ record { answer = A.refused 2; tokens = ts; errors = es }
   unfolding promised
   too_short_lem h e = rw (le-ltb 65536 (length script) h, promised) (rw (e, promised))
 
@@ -65,17 +66,17 @@ pub record Full (script ts es : List ℕ) (s : Stop) : Type 0 where
   pub tokens : take (4 * s.tokens) ts ≡ token_table script
   pub errors : take (6 * s.errors) es ≡ error_table script
 
-full : {script ts es : List ℕ} {s : Stop} → Stops script 0 0 ts es s → s.ended ≡ true → Full script ts es s
+full : {script ts es : List ℕ} {s : Stop} → Stops script 0 0 ts es s → s.next ≡ None → Full script ts es s
 unfolding cut counts_of token_table error_table token_records error_records flatten
 full {script} {ts} {es} {s} p e =
-    let n : s.tokens + 0 ≡ length (tokens_of (cut_at script 0)) = ap (λ (b : Bool). s.tokens + length (tokens_left b (cut_at script s.pos))) (sym e) ∙ made-left p in
-    let m : s.errors + 0 ≡ length (faults_of 0 (cut_at script 0)) = ap (λ (b : Bool). s.errors + length (errors_left b (0 + s.tokens) (cut_at script s.pos))) (sym e) ∙ met-left p in
+    let n : s.tokens + 0 ≡ length (tokens_of (cut_at script 0)) = ap (λ (b : Option ℕ). s.tokens + length (tokens_left script b)) (sym e) ∙ made-left p in
+    let m : s.errors + 0 ≡ length (faults_of 0 (cut_at script 0)) = ap (λ (b : Option ℕ). s.errors + length (errors_left script b (0 + s.tokens))) (sym e) ∙ met-left p in
     let n' : s.tokens ≡ length (tokens_of (cut_at script 0)) = omega arith in
     let m' : s.errors ≡ length (faults_of 0 (cut_at script 0)) = omega arith in
     record {
       counts = λ i. record { tokens = n' i; errors = m' i };
-      tokens = sym (append-nil (take (4 * s.tokens) ts)) ∙ ap (λ (b : Bool). take (4 * s.tokens) ts ++ token_records script (tokens_left b (cut_at script s.pos))) (sym e) ∙ p.made;
-      errors = sym (append-nil (take (6 * s.errors) es)) ∙ ap (λ (b : Bool). take (6 * s.errors) es ++ error_records (errors_left b (0 + s.tokens) (cut_at script s.pos))) (sym e) ∙ p.met;
+      tokens = sym (append-nil (take (4 * s.tokens) ts)) ∙ ap (λ (b : Option ℕ). take (4 * s.tokens) ts ++ token_records script (tokens_left script b)) (sym e) ∙ p.made;
+      errors = sym (append-nil (take (6 * s.errors) es)) ∙ ap (λ (b : Option ℕ). take (6 * s.errors) es ++ error_records (errors_left script b (0 + s.tokens))) (sym e) ∙ p.met;
     }
 
 -- there is room for all
@@ -93,11 +94,11 @@ padded_by table {front} {back} {k} {n} {l} f e s b = rw (f, s, ← e) at (sym b)
 pub done : (script ts es ts₁ es₁ ts₂ es₂ : List ℕ) {s : Stop} → length script ≤ 65536 → 4 * length script + 4 ≤ length ts → 6 * length script ≤ length es
     → Stops script 0 0 ts₁ es₁ s → length ts₁ ≡ length ts → length es₁ ≡ length es
     → ts₂ ≡ take (4 * s.tokens) ts₁ ++ zeros (length ts₁ - 4 * s.tokens) → es₂ ≡ take (6 * s.errors) es₁ ++ zeros (length es₁ - 6 * s.errors)
-    → promised script ts es ≡ record { answer = C.Done (record { tokens = s.tokens; errors = s.errors }); tokens = ts₂; errors = es₂ }
+    → promised script ts es ≡ record { answer = A.answer (record { tokens = s.tokens; errors = s.errors }); tokens = ts₂; errors = es₂ }
 unfolding tabled
 done script ts es ts₁ es₁ ts₂ es₂ {s} h k l p m n v w =
     let u = fulls p (omega arith) (omega arith) in
     let f = counts_fit script u.counts in
     let x = padded_by (token_table script) u.tokens f.tokens m v in
     let y = padded_by (error_table script) u.errors f.errors n w in
-    taken script ts es h (long_enough script ts es k l) ∙ (λ i. record { answer = C.Done (sym u.counts i); tokens = x i; errors = y i })
+    taken script ts es h (long_enough script ts es k l) ∙ (λ i. record { answer = A.answer (sym u.counts i); tokens = x i; errors = y i })

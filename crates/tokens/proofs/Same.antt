@@ -3,18 +3,19 @@
 use mathlib.Core.Path.{◌≡◌, refl, ◌∙◌, sym, ap}
 use mathlib.Core.Bool.{Bool, true, false, not, ◌&&◌}
 use mathlib.Core.List.{List, [], ◌∷◌, ◌++◌, flatten, append_assoc}
-use Prim.Native.Nat.{ℕ, suc, ◌+◌, ◌*◌, ◌-◌, ◌≤◌, ◌<◌}
-use native.Mathlib.Nat.{add-zero}
+use Prim.Native.Nat.{ℕ, ◌+◌, ◌*◌, ◌-◌, ◌≤◌, ◌<◌}
 use native.Mathlib.Omega.{arith}
 use lib.Dec.{eqb}
-use lib.ListN.{length, get_or, take, drop, length-take, length-drop, take-append-drop, drop_of_length-le}
-use lib.Seq.{drop-cons, drop-drop}
+use lib.ListN.{length, take, drop, length-take, length-drop, take-append-drop}
+use lib.Seq.{drop-drop}
 use borrow.Author.Tests.{le-ltb, lt-ltb}
+use Rattle.std.specs.List.{fold}
 use Rattle.lex.specs.Kind.{same_bytes}
 use Rattle.lex.specs.Lex.{cut_at, cut, tokens_of, Occurrence, faults_of}
 use Rattle.lex.specs.declared.tok.Token.{Token}
 use Rattle.lex.proofs.Steps.{cut_le}
 use Rattle.tokens.specs.declared.Stop.{Stop}
+use Rattle.std.specs.Prelude.{Some, None}
 use Rattle.tokens.specs.Filling.{tokens_left, errors_left, Stops}
 use Rattle.lex.specs.Cells.{zeros, padded}
 use Rattle.tokens.specs.Tables.{token_records, error_records, token_table, error_table, too_short, is_cut}
@@ -52,24 +53,19 @@ and_false : (t : Bool) → t && false ≡ false
 and_false true = refl
 and_false false = refl
 
-zero-cons : (all t : Bool) (r : Bool) → all && t && r ≡ all && elim t as (λ (_ : Bool). Bool) [ true ↦ r | false ↦ false ]
-zero-cons false t r = refl
-zero-cons true false r = refl
-zero-cons true true r = refl
-
-pub zero_turn : (a : List ℕ) (i : ℕ) (all : Bool) {t : Bool} → i < length a → all && same_bytes (drop i a) (zeros (length a - i)) ≡ t
-    → all && eqb (get_or a i 0) 0 && same_bytes (drop (i + 1) a) (zeros (length a - (i + 1))) ≡ t
+-- the cells are zero where each is
+fold_zeros : (xs : List ℕ) (all : Bool) → fold (λ (all : Bool) (cell : ℕ). all && eqb cell 0) all xs ≡ all && same_bytes xs (zeros (length xs))
 unfolding same_bytes
-zero_turn a i all h e =
-    let next : i + 1 ≡ suc i = omega arith in
-    let left : length a - i ≡ suc (length a - suc i) = omega arith in
-    rw next (zero-cons all (eqb (get_or a i 0) 0) (same_bytes (drop (suc i) a) (zeros (length a - suc i))) ∙ (rw (drop-cons a i 0 h, left, same_bytes) at e))
+fold_zeros [] all = sym (and_true all)
+fold_zeros (x ∷ xs) all = fold_zeros xs (all && eqb x 0) ∙ go all (eqb x 0) (same_bytes xs (zeros (length xs)))
+  where
+    go : (all t r : Bool) → (all && t) && r ≡ all && elim t as (λ (_ : Bool). Bool) [ true ↦ r | false ↦ false ]
+    go false t r = refl
+    go true false r = refl
+    go true true r = refl
 
-pub zero_end : (a : List ℕ) (i : ℕ) (all : Bool) {t : Bool} → length a ≤ i → all && same_bytes (drop i a) (zeros (length a - i)) ≡ t → all ≡ t
-unfolding same_bytes
-zero_end a i all h e =
-    let none : length a - i ≡ 0 = omega arith in
-    sym (and_true all) ∙ (rw (drop_of_length-le a {i = i} h, none, same_bytes) at e)
+pub zeros_fold : (a : List ℕ) (from : ℕ) → fold (λ (all : Bool) (cell : ℕ). all && eqb cell 0) true (drop from a) ≡ same_bytes (drop from a) (zeros (length a - from))
+zeros_fold a from = fold_zeros (drop from a) true ∙ ap (λ (n : ℕ). same_bytes (drop from a) (zeros n)) (length-drop from a)
 
 no : (t : Bool) → not t ≡ true → t ≡ false
 no true e = sym e
@@ -78,44 +74,6 @@ no false e = refl
 yes : (t : Bool) → not t ≡ false → t ≡ true
 yes true e = refl
 yes false e = sym e
-
--- ---- cells compared one by one
-
-cell_cons : (all t r : Bool) → all && t && r ≡ all && elim t as (λ (_ : Bool). Bool) [ true ↦ r | false ↦ false ]
-cell_cons false t r = refl
-cell_cons true false r = refl
-cell_cons true true r = refl
-
--- so many cells more
-take_more : (k : ℕ) (xs : List ℕ) (i : ℕ) → i < length xs → take (suc k) (drop i xs) ≡ get_or xs i 0 ∷ take k (drop (suc i) xs)
-take_more k xs i h = ap (take (suc k)) (drop-cons xs i 0 h)
-
-pub cells_turn : (a b : List ℕ) (n at i : ℕ) (all : Bool) {t : Bool} → i < n → n ≤ length a → at + n ≤ length b
-    → all && same_bytes (take (n - i) (drop (at + i) b)) (take (n - i) (drop i a)) ≡ t
-    → all && eqb (get_or b (at + i) 0) (get_or a i 0) && same_bytes (take (n - (i + 1)) (drop (at + (i + 1)) b)) (take (n - (i + 1)) (drop (i + 1) a)) ≡ t
-unfolding same_bytes
-cells_turn a b n at i all h k l e =
-    let left : n - i ≡ suc (n - (i + 1)) = omega arith in
-    let one : i + 1 ≡ suc i = omega arith in
-    let there : at + (i + 1) ≡ suc (at + i) = omega arith in
-    let m : ℕ = n - (i + 1) in
-    let front : take (n - i) (drop (at + i) b) ≡ get_or b (at + i) 0 ∷ take m (drop (at + (i + 1)) b) =
-    ap (λ (j : ℕ). take j (drop (at + i) b)) left ∙ take_more m b (at + i) (omega arith) ∙ ap (λ (j : ℕ). get_or b (at + i) 0 ∷ take m (drop j b)) (sym there) in
-    let back : take (n - i) (drop i a) ≡ get_or a i 0 ∷ take m (drop (i + 1) a) =
-    ap (λ (j : ℕ). take j (drop i a)) left ∙ take_more m a i (omega arith) ∙ ap (λ (j : ℕ). get_or a i 0 ∷ take m (drop j a)) (sym one) in
-    cell_cons all (eqb (get_or b (at + i) 0) (get_or a i 0)) (same_bytes (take m (drop (at + (i + 1)) b)) (take m (drop (i + 1) a)))
-    ∙ ap (λ (x : Bool). all && x) (λ j. same_bytes (sym front j) (sym back j)) ∙ e
-
-pub cells_end : (a b : List ℕ) (n at i : ℕ) (all : Bool) {t : Bool} → n ≤ i → all && same_bytes (take (n - i) (drop (at + i) b)) (take (n - i) (drop i a)) ≡ t → all ≡ t
-unfolding same_bytes
-cells_end a b n at i all h e =
-    let none : n - i ≡ 0 = omega arith in
-    sym (and_true all) ∙ ap (λ (j : ℕ). all && same_bytes (take j (drop (at + i) b)) (take j (drop i a))) (sym none) ∙ e
-
-pub cells-start : (a b : List ℕ) (n at : ℕ) → true && same_bytes (take (n - 0) (drop (at + 0) b)) (take (n - 0) (drop 0 a)) ≡ same_bytes (take n (drop at b)) (take n a)
-cells-start a b n at =
-    let all : n - 0 ≡ n = omega arith in
-    λ j. same_bytes (take (all j) (drop (add-zero at j) b)) (take (all j) a)
 
 table_length : (script : List ℕ) → length (token_table script) ≡ 4 * length (tokens_of (cut script))
 unfolding token_table
@@ -154,10 +112,10 @@ module _ {script ts es : List ℕ} {n m pos : ℕ} (g : Agreeing script ts es n 
   ez = zeros (length es - length (error_table script))
 
   abbrev tl : List Token
-  tl = tokens_left s.ended (cut_at script s.pos)
+  tl = tokens_left script s.next
 
   abbrev el : List Occurrence
-  el = errors_left s.ended (n + s.tokens) (cut_at script s.pos)
+  el = errors_left script s.next (n + s.tokens)
 
   -- there is room in both
   pub part_fits : (n + s.tokens + length tl ≡ length (tokens_of (cut script))) × (m + s.errors + length el ≡ length (faults_of 0 (cut script)))
@@ -196,15 +154,15 @@ module _ {script ts es : List ℕ} {n m pos : ℕ} (g : Agreeing script ts es n 
     rest-same : same_bytes (drop (4 * (n + s.tokens)) ts) (token_records script tl ++ tz) && same_bytes (drop (6 * (m + s.errors)) es) (error_records el ++ ez) ≡ wholly script ts es
     rest-same = sym (pair_up _ _ _ _ (sym a ∙ yes q b) (sym c ∙ yes r d)) ∙ part_same h k
 
-    pub agreeing_part : s.ended ≡ false → Agreeing script ts es (n + s.tokens) (m + s.errors) s.pos
-    agreeing_part f = record {
+    pub agreeing_part : (to : ℕ) → s.next ≡ Some to → Agreeing script ts es (n + s.tokens) (m + s.errors) to
+    agreeing_part to f = record {
       tokens = rw f at part_fits.0;
       errors = rw f at part_fits.1;
-      inside = p.inside;
+      inside = p.inside to f;
       same = rw f at rest-same;
     }
 
-    end_same : s.ended ≡ true → same_bytes (drop (4 * (n + s.tokens)) ts) (zeros (length ts - 4 * (n + s.tokens))) && same_bytes (drop (6 * (m + s.errors)) es) (zeros (length es - 6 * (m + s.errors))) ≡ wholly script ts es
+    end_same : s.next ≡ None → same_bytes (drop (4 * (n + s.tokens)) ts) (zeros (length ts - 4 * (n + s.tokens))) && same_bytes (drop (6 * (m + s.errors)) es) (zeros (length es - 6 * (m + s.errors))) ≡ wholly script ts es
     unfolding token_records error_records flatten
     end_same f =
         let i : n + s.tokens + 0 ≡ length (tokens_of (cut script)) = rw f at part_fits.0 in
@@ -213,10 +171,10 @@ module _ {script ts es : List ℕ} {n m pos : ℕ} (g : Agreeing script ts es n 
         let v : length es - 6 * (m + s.errors) ≡ length es - length (error_table script) = omega (arith, errors-length script) in
         rw (u, v) (rw f at rest-same)
 
-    pub differs_behind : {o : Bool} → s.ended ≡ true → o ≡ same_bytes (drop (4 * (n + s.tokens)) ts) (zeros (length ts - 4 * (n + s.tokens))) → not o ≡ true → false ≡ wholly script ts es
+    pub differs_behind : {o : Bool} → s.next ≡ None → o ≡ same_bytes (drop (4 * (n + s.tokens)) ts) (zeros (length ts - 4 * (n + s.tokens))) → not o ≡ true → false ≡ wholly script ts es
     differs_behind {o} f x y = rw (sym x ∙ no o y) at (end_same f)
 
-    pub agrees_end : {o w : Bool} → s.ended ≡ true → o ≡ same_bytes (drop (4 * (n + s.tokens)) ts) (zeros (length ts - 4 * (n + s.tokens))) → not o ≡ false
+    pub agrees_end : {o w : Bool} → s.next ≡ None → o ≡ same_bytes (drop (4 * (n + s.tokens)) ts) (zeros (length ts - 4 * (n + s.tokens))) → not o ≡ false
         → w ≡ same_bytes (drop (6 * (m + s.errors)) es) (zeros (length es - 6 * (m + s.errors))) → w ≡ wholly script ts es
     agrees_end {o} f x y z = z ∙ (rw (sym x ∙ yes o y) at (end_same f))
 

@@ -11,7 +11,7 @@ use borrow.Author.Tests.{eq-eqb, eqb-true, ltb-false}
 use Rattle.lex.specs.Bytes.{or}
 use Rattle.lex.specs.Kind.{same_bytes}
 use Rattle.lex.proofs.Laws.{false-true}
-use Rattle.tokens.specs.declared.Cutting.TheVariants as C
+use Rattle.lex.specs.Answer as A
 use Rattle.lex.specs.Answer.{max_bytes}
 use Rattle.lex.specs.Cells.{zeros, padded}
 use Rattle.tokens.specs.Tables.{token_table, error_table, counts_of, tabled, too_short, promised, is_cut}
@@ -63,11 +63,11 @@ is_cut_tables script ts es e =
     }
 
 -- cutting leaves such arrays as they are
-pub is_cut-left : (script ts es : List ℕ) → is_cut script ts es ≡ true → promised script ts es ≡ record { answer = C.Done (counts_of script); tokens = ts; errors = es }
+pub is_cut-left : (script ts es : List ℕ) → is_cut script ts es ≡ true → promised script ts es ≡ record { answer = A.answer (counts_of script); tokens = ts; errors = es }
 unfolding tabled
 is_cut-left script ts es e =
     let c = is_cut_tables script ts es e in
-    taken script ts es c.short c.fits ∙ (λ i. record { answer = C.Done (counts_of script); tokens = sym c.tokens i; errors = sym c.errors i })
+    taken script ts es c.short c.fits ∙ (λ i. record { answer = A.answer (counts_of script); tokens = sym c.tokens i; errors = sym c.errors i })
 
 -- ---- what was just cut is cut
 

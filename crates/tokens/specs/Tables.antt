@@ -1,7 +1,8 @@
 -- The token and error tables of a script, and what cutting promises of both lent arrays.
 use Rattle.std.specs.Prelude.{Bool, true, false, ◌&&◌, ℕ, ◌+◌, ◌*◌, ltb, length}
 use mathlib.Core.List.{List, [], ◌∷◌, map, flatten}
-use Rattle.lex.specs.Answer.{max_bytes}
+use Rattle.lex.specs.Answer.{max_bytes, Answer}
+use Rattle.lex.specs.Answer as A
 use Rattle.lex.specs.Bytes.{or}
 use Rattle.lex.specs.Cells.{padded}
 use Rattle.lex.specs.Kind.{same_bytes}
@@ -10,8 +11,6 @@ use Rattle.lex.specs.Refusals.{r_too_long, r_too_short}
 use Rattle.lex.specs.Spelling.{spelling_start}
 use Rattle.lex.specs.declared.tok.Token.{Token}
 use Rattle.tokens.specs.declared.TableCounts.{TableCounts}
-use Rattle.tokens.specs.declared.Cutting.{Cutting}
-use Rattle.tokens.specs.declared.Cutting.TheVariants as C
 
 -- the cells of a record
 abbrev pub token_width : ℕ
@@ -53,14 +52,14 @@ counts_of script = record { tokens = length (tokens_of (cut script)); errors = l
 
 -- an answer, and both arrays as it leaves them
 pub record Outcome : Type 0 where
-  pub answer : Cutting
+  pub answer : Answer TableCounts
   pub tokens : List ℕ
   pub errors : List ℕ
 
 -- both arrays hold their tables, with zeros behind
 unfoldable pub tabled : List ℕ → List ℕ → List ℕ → Outcome
 tabled script tokens errors = record {
-  answer = C.Done (counts_of script);
+  answer = A.answer (counts_of script);
   tokens = padded (length tokens) (token_table script);
   errors = padded (length errors) (error_table script);
 }
@@ -73,9 +72,9 @@ too_short script tokens errors = or (ltb (length tokens) (token_width * length s
 unfoldable pub promised : List ℕ → List ℕ → List ℕ → Outcome
 promised script tokens errors =
     elim (ltb max_bytes (length script)) [
-      | true ↦ record { answer = C.Refused r_too_long; tokens = tokens; errors = errors }
+      | true ↦ record { answer = A.refused r_too_long; tokens = tokens; errors = errors }
       | false ↦ elim (too_short script tokens errors) [
-        | true ↦ record { answer = C.Refused r_too_short; tokens = tokens; errors = errors }
+        | true ↦ record { answer = A.refused r_too_short; tokens = tokens; errors = errors }
         | false ↦ tabled script tokens errors
       ]
     ]

@@ -1,20 +1,19 @@
 // Cutting a script into a lent table of tokens and a lent table of the lexer's errors.
 #![tactic(auto)]
 
-ghost use Rattle.std.specs.Prelude.{◌≡◌, ◌&&◌, ◌++◌, ℕ, ◌+◌, ◌*◌, ◌-◌, ◌≤◌, length, take, drop};
-ghost use Rattle.lex.specs.Answer.{max_bytes};
-ghost use Rattle.lex.specs.Bytes.{class_table};
+ghost use Rattle.std.specs.Prelude.{◌≡◌, true, ◌&&◌, ◌==◌, fold, ◌++◌, ℕ};
+ghost use Rattle.std.specs.Prelude.{◌+◌, ◌*◌, ◌-◌, ◌≤◌, length, take, drop};
+ghost use Rattle.lex.specs.Answer.{max_bytes, answered};
 ghost use Rattle.lex.specs.Cells.{zeros, padded};
 ghost use Rattle.lex.specs.Kind.{same_bytes};
-ghost use Rattle.lex.specs.Lex.{step_at, cut_at, tokens_of, diagnostic_of};
+ghost use Rattle.lex.specs.Lex.{cut_at, tokens_of, diagnostic_of};
 ghost use Rattle.tokens.specs.Tables.{token_width, error_width, token_record, error_record};
 ghost use Rattle.tokens.specs.Tables.{token_table, error_table, promised, is_cut};
 ghost use Rattle.tokens.specs.Table.{token_at, token_of, error_at, occurrence_of};
 ghost use Rattle.tokens.specs.Filling.{Stops};
 
 use lex::{
-    CLASS, Diagnostic, Fault, Lexer, MAX_BYTES, Refusal, Step, Token, Type, spelling_offset,
-    step_with,
+    Classes, Diagnostic, Fault, MAX_BYTES, Refusal, Step, Token, Type, spelling_offset, step_with,
 };
 
 // How many records each table has.
@@ -22,13 +21,6 @@ use lex::{
 pub struct TableCounts {
     pub tokens: u32,
     pub errors: u32,
-}
-
-// What cutting answers: how many records it made, or 1 or 2.
-#[derive(Clone, Copy)]
-pub enum Cutting {
-    Done(TableCounts),
-    Refused(u32),
 }
 
 // The cells of a record.
@@ -106,7 +98,7 @@ pub fn token_at(tokens: &[u32], i: usize) -> Entry
 }
 
 // What record `n` says of an error, and how many tokens were cut before it.
-#[derive(Clone, Copy)]
+#[derive(Clone, Copy, Default)]
 pub struct ErrorEntry {
     pub error: Diagnostic,
     pub after: u32,
@@ -129,16 +121,7 @@ pub fn error_at(errors: &[u32], i: usize) -> ErrorEntry
             after: errors[at + 5],
         };
     }
-    ErrorEntry {
-        error: Diagnostic {
-            number: 0,
-            start: 0,
-            len: 0,
-            wanted: 0,
-            seen: 0,
-        },
-        after: 0,
-    }
+    ErrorEntry::default()
 }
 
 // ---- the tables
@@ -148,51 +131,29 @@ fn clear_from(a: &mut [u32], from: usize)
     requires { from ≤ length a.old }
     ensures { a.new ≡ take from a.old ++ zeros (length a.old - from) }
 {
-    let mut i = from;
-    while i < a.len() {
-        a[i] = 0;
-        i += 1;
-    }
+    a[from..].fill(0);
 }
 
-// What stands at the position of a lexer: it is taken apart, and the reader of one piece is called.
-fn step_of<'c, 'l>(classes: &'c [u8; 256], lexer: Lexer<'l>) -> Step
-    requires { classes.now ≡ class_table }
-    ensures { result ≡ step_at lexer.entry.input.now lexer.entry.pos }
-{
-    step_with(classes, lexer.input, lexer.pos)
-}
-
-// What stands at a position of the script: a lexer there is stepped.
-fn step_at(classes: &[u8; 256], script: &[u8], pos: usize) -> Step
-    requires { classes.now ≡ class_table }
-    ensures { result ≡ step_at script.now pos }
-{
-    step_of(classes, Lexer { input: script, pos })
-}
-
-// Where filling stopped: how many records it made, where it would go on, and whether the script has
+// Where filling stopped: how many records it made, and where it would go on if the script has not
 // ended.
 #[derive(Clone, Copy)]
 struct Stop {
     tokens: usize,
     errors: usize,
-    pos: usize,
-    ended: bool,
+    next: Option<usize>,
 }
 
 // The records from a position on, which has so many tokens before it, at the front of both arrays,
 // as far as there is room. It is the only loop over the lexer: so the lexer is compiled into it.
 fn fill(
-    classes: &[u8; 256],
+    classes: &Classes,
     script: &[u8],
     from: usize,
     before: usize,
     tokens: &mut [u32],
     errors: &mut [u32],
 ) -> Stop
-    requires { (classes.now ≡ class_table)
-        × (length script.now ≤ max_bytes)
+    requires { (length script.now ≤ max_bytes)
         × (from ≤ length script.now)
         × (before + length (tokens_of (cut_at script.now from)) ≤ max_bytes + 1) }
     ensures { Stops script.now from before tokens.new errors.new result }
@@ -201,14 +162,13 @@ fn fill(
     let mut m: usize = 0;
     let mut pos: usize = from;
     loop {
-        match step_at(classes, script, pos) {
+        match step_with(classes, script, pos) {
             Step::Token { token, next } => {
                 if tokens.len() < TOKEN_WIDTH * n + TOKEN_WIDTH {
                     return Stop {
                         tokens: n,
                         errors: m,
-                        pos,
-                        ended: false,
+                        next: Some(pos),
                     };
                 }
                 put_token(script, tokens, n, token);
@@ -220,8 +180,7 @@ fn fill(
                     return Stop {
                         tokens: n,
                         errors: m,
-                        pos,
-                        ended: false,
+                        next: Some(pos),
                     };
                 }
                 put_error(errors, m, fault, before + n);
@@ -233,8 +192,7 @@ fn fill(
                     return Stop {
                         tokens: n,
                         errors: m,
-                        pos,
-                        ended: false,
+                        next: Some(pos),
                     };
                 }
                 let eof = Token {
@@ -246,8 +204,7 @@ fn fill(
                 return Stop {
                     tokens: n + 1,
                     errors: m,
-                    pos,
-                    ended: true,
+                    next: None,
                 };
             }
         }
@@ -257,24 +214,23 @@ fn fill(
 // Cuts a script into both tables, with zeros behind them. Refused, with nothing changed: 1 where the
 // script has more than 65,536 bytes, then 2 where `tokens` has fewer cells than 4 for each byte and
 // 4 more, or `errors` than 6 for each byte.
-pub fn cut(script: &[u8], tokens: &mut [u32], errors: &mut [u32]) -> Cutting
+pub fn cut(script: &[u8], tokens: &mut [u32], errors: &mut [u32]) -> Result<TableCounts, Refusal>
     ensures { promised script.now tokens.old errors.old
-        ≡ record { answer = result; tokens = tokens.new; errors = errors.new } }
+        ≡ record { answer = answered result; tokens = tokens.new; errors = errors.new } }
 {
     if MAX_BYTES < script.len() {
-        return Cutting::Refused(Refusal::TOO_LONG);
+        return Err(Refusal::TooLong);
     }
     if tokens.len() < TOKEN_WIDTH * script.len() + TOKEN_WIDTH {
-        return Cutting::Refused(Refusal::TOO_SHORT);
+        return Err(Refusal::TooShort);
     }
     if errors.len() < ERROR_WIDTH * script.len() {
-        return Cutting::Refused(Refusal::TOO_SHORT);
+        return Err(Refusal::TooShort);
     }
-    let classes = CLASS;
-    let s = fill(&classes, script, 0, 0, tokens, errors);
+    let s = fill(&Classes::new(), script, 0, 0, tokens, errors);
     clear_from(tokens, TOKEN_WIDTH * s.tokens);
     clear_from(errors, ERROR_WIDTH * s.errors);
-    Cutting::Done(TableCounts {
+    Ok(TableCounts {
         tokens: s.tokens as u32,
         errors: s.errors as u32,
     })
@@ -282,47 +238,34 @@ pub fn cut(script: &[u8], tokens: &mut [u32], errors: &mut [u32]) -> Cutting
 
 // ---- whether two arrays are these tables
 
-// Whether the first `n` cells of `a` stand in `b` from a place on. Here and below the loop has no
-// early exit: so the compiled code compares many cells in one step.
+// Whether the first `n` cells of `a` stand in `b` from a place on.
 fn same_cells(a: &[u32], n: usize, b: &[u32], at: usize) -> bool
     requires { (n ≤ length a.now) × (at + n ≤ length b.now) }
     ensures { result ≡ same_bytes (take n (drop at b.now)) (take n a.now) }
 {
-    let mut all = true;
-    let mut i = 0;
-    while i < n {
-        all = all & (b[at + i] == a[i]);
-        i += 1;
-    }
-    all
+    b[at..at + n] == a[..n]
 }
 
-// Whether an array is zero from a place on.
+// Whether an array is zero from a place on. There is no early exit: so the compiled code compares
+// many cells in one step.
 fn is_zero_from(a: &[u32], from: usize) -> bool
     requires { from ≤ length a.now }
-    ensures { result ≡ same_bytes (drop from a.now) (zeros (length a.now - from)) }
+    ensures { result ≡ fold (λ all cell. all && (cell == 0)) true (drop from a.now) }
 {
-    let mut all = true;
-    let mut i = from;
-    while i < a.len() {
-        all = all & (a[i] == 0);
-        i += 1;
-    }
-    all
+    a[from..].iter().fold(true, |all, cell| all & (*cell == 0))
 }
 
 // Whether both arrays hold their tables and zeros behind: a part of the script is cut into `t` and
 // `e`, and compared, one part after the other.
 fn agrees(
-    classes: &[u8; 256],
+    classes: &Classes,
     t: &mut [u32],
     e: &mut [u32],
     script: &[u8],
     tokens: &[u32],
     errors: &[u32],
 ) -> bool
-    requires { (classes.now ≡ class_table)
-        × (token_width ≤ length t.old)
+    requires { (token_width ≤ length t.old)
         × (error_width ≤ length e.old)
         × (length script.now ≤ max_bytes)
         × (token_width * length script.now + token_width ≤ length tokens.now)
@@ -344,13 +287,13 @@ fn agrees(
         }
         n += s.tokens;
         m += s.errors;
-        if s.ended {
+        let Some(next) = s.next else {
             if !is_zero_from(tokens, TOKEN_WIDTH * n) {
                 return false;
             }
             return is_zero_from(errors, ERROR_WIDTH * m);
-        }
-        pos = s.pos;
+        };
+        pos = next;
     }
 }
 
@@ -368,8 +311,7 @@ pub fn is_cut(script: &[u8], tokens: &[u32], errors: &[u32]) -> bool
     if errors.len() < ERROR_WIDTH * script.len() {
         return false;
     }
-    let classes = CLASS;
     let mut t = [0; 256];
     let mut e = [0; 192];
-    agrees(&classes, &mut t, &mut e, script, tokens, errors)
+    agrees(&Classes::new(), &mut t, &mut e, script, tokens, errors)
 }

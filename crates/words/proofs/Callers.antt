@@ -8,9 +8,11 @@ use native.Mathlib.Omega.{arith}
 use lib.ListN.{length, take, drop, length-append}
 use lib.Seq.{take-append_seam}
 use borrow.Author.Tests.{le-ltb}
+use Rattle.std.specs.Prelude.{Ok, Err}
 use Rattle.lex.specs.declared.diagnostic.Diagnostic.{Diagnostic}
+use Rattle.lex.specs.declared.diagnostic.Refusal.{Refusal}
+use Rattle.lex.specs.Refusals.{number}
 use Rattle.text.specs.Answer.{refused, written, Result, result, refuse, in_front, answer_of}
-use Rattle.text.specs.declared.Writing.TheVariants as W
 use Rattle.words.specs.Words.{words, described}
 
 -- refused: there are no words
@@ -31,15 +33,15 @@ module _ (e : Diagnostic) (buffer : List ℕ) (h : 160 ≤ length buffer) where
   unfolding described
   by_words = rw (le-ltb (length buffer) 160 h, described)
 
-  pub wordless : {n : ℕ} {out : List ℕ} → result (answer_of (W.Refused n)) out ≡ described e buffer → Wordless e n
+  pub wordless : (r : Refusal) {out : List ℕ} → result (answer_of (Err r)) out ≡ described e buffer → Wordless e (number r)
   unfolding answer_of
-  wordless {n} {out} p = go (words e) refl (p ∙ by_words)
+  wordless r {out} p = go (words e) refl (p ∙ by_words)
     where
-      go : (o : Option (List ℕ)) → words e ≡ o → result (refused n) out ≡ elim o as (λ (_ : Option (List ℕ)). Result) [ none ↦ refuse 42 buffer | some w ↦ in_front w buffer ] → Wordless e n
-      go none q r = record { none_there = q; number = let a : refused n ≡ refused 42 = ap (λ (x : Result). x.answer) r in cc }
-      go (some w) q r = absurd (let a : refused n ≡ written (length w) = ap (λ (x : Result). x.answer) r in let z : ◌≡◌ {A = ℕ} 0 1 = cc in omega arith)
+      go : (o : Option (List ℕ)) → words e ≡ o → result (refused (number r)) out ≡ elim o as (λ (_ : Option (List ℕ)). Result) [ none ↦ refuse 42 buffer | some w ↦ in_front w buffer ] → Wordless e (number r)
+      go none q s = record { none_there = q; number = let a : refused (number r) ≡ refused 42 = ap (λ (x : Result). x.answer) s in cc }
+      go (some w) q s = absurd (let a : refused (number r) ≡ written (length w) = ap (λ (x : Result). x.answer) s in let z : ◌≡◌ {A = ℕ} 0 1 = cc in omega arith)
 
-  pub wrote : {n : ℕ} {out : List ℕ} → result (answer_of (W.Written n)) out ≡ described e buffer → Wrote e n out
+  pub wrote : {n : ℕ} {out : List ℕ} → result (answer_of (Ok n)) out ≡ described e buffer → Wrote e n out
   unfolding answer_of
   wrote {n} {out} p = go (words e) refl (p ∙ by_words)
     where

@@ -24,7 +24,7 @@ use Rattle.lex.specs.Answer.{max_bytes}
 use Rattle.rules.specs.Promise.{Arrays, Outcome, outcome, holding, too_short, promised}
 use Rattle.ast.specs.declared.Counts.{Counts}
 use Rattle.ast.specs.declared.NodeId.{NodeId}
-use Rattle.ast.specs.declared.Parsed.TheVariants as P
+use Rattle.rules.specs.Parsed as P
 use Rattle.rules.proofs.Counting.Whole.{ended≢read}
 use Rattle.text.specs.Emit.{plain}
 use Rattle.text.specs.Answer.{in_front}

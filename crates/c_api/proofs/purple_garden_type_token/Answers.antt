@@ -1,11 +1,12 @@
 -- `purple_garden_type_token` meets its contract.
 -- Assumes nothing.
-use mathlib.Core.Path.{◌∙◌, ap}
-use Rattle.ast.specs.Layout.{token_cells}
-use Rattle.ast.specs.Answer.{lent}
+use Rattle.std.proofs.Common.{rules, refl, ap, ◌∙◌}
+use Rattle.ast.specs.Answer.{Lent}
 use Rattle.lookups.specs.Lookup.{type_token}
-use Rattle.c_api.proofs.Answers.{answers-same}
+use Rattle.lex.specs.Answer.{answered}
+use Rattle.ast.specs.Layout.{token_cells}
+use Rattle.c_api.proofs.Answers.{put_mapped}
 use Rattle.c_api.proofs.purple_garden_type_token.Goals as goal
 
 pub returns : goal.returns
-returns c = answers-same token_cells c.args.token.now (c.type_token-answer.ensures ∙ ap (λ x. type_token (lent c.args.script.now c.args.nodes.now c.args.types.now c.args.lists.now c.args.roots.now x) c.args.ty) c.counts_of-counts.ensures) c.put_token.ensures
+returns c = put_mapped token_cells answered (λ x y q. (x, refl, search rules)) (λ e. refl) _ c.map.ensures.cases (c.type_token.ensures ∙ ap (λ (l : Lent). type_token l c.args.ty) c.tree_of-tree.ensures) _ _ _ c.put.ensures

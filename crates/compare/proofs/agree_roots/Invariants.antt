@@ -1,11 +1,10 @@
 -- The roots before the place agree.
-use Rattle.compare.specs.Shapes.{view}
-use Rattle.compare.proofs.Listing.{node_lists, Walking}
+use Rattle.ast.specs.Answer.{lent_of}
+use Rattle.compare.specs.Shapes.{view_of}
+use Rattle.compare.proofs.Walk.{run_of}
+use Rattle.compare.proofs.Listing.{node_lists, Paired}
 use Rattle.compare.proofs.Roots.{root_env}
 use Rattle.compare.proofs.agree_roots.Given as goal
 
-abbrev pub invariant-loop-left : goal.invariant-loop-left
-invariant-loop-left l = Walking node_lists (root_env (view l.s.now l.nodes.now l.types.now l.cells.now l.k) l.n l.roots) (root_env (view l.s2.now l.nodes2.now l.types2.now l.cells2.now l.k2) l.m l.roots2) 0 0 l.initial.left l.at l.at l.left
-
-abbrev pub decreases-loop-left : goal.decreases-loop-left
-decreases-loop-left l = l.left
+abbrev pub invariant-loop-at : goal.invariant-loop-at
+invariant-loop-at l = Paired node_lists (root_env (view_of (lent_of l.a)) l.a.counts.nodes l.a.roots.now) (root_env (view_of (lent_of l.b)) l.b.counts.nodes l.b.roots.now) (run_of 0 l.a.counts.roots) (run_of 0 l.b.counts.roots) l.at-iterator

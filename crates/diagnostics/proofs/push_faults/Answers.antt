@@ -2,19 +2,19 @@
 use Rattle.std.proofs.Common.{arith, ◌∙◌, sym, ap}
 use Rattle.lex.specs.Lex.{Occurrence}
 use Rattle.diagnostics.specs.Records.{diagnostics, pushed}
-use Rattle.diagnostics.proofs.Faults.{pushing_none, pushing_past, pushing_out, pushing_on}
+use Rattle.diagnostics.proofs.Faults.{pushing_none, pushing_all, pushing_out, pushing_on}
+use Rattle.diagnostics.proofs.push_faults.Goals.{then-e-eq0-via-then-e-eq0, then-e-eq0-via-else-e-eq0+then-at-e}
 use Rattle.diagnostics.proofs.push_faults.Goals as goal
 
 pub returns-then-e-eq0 : goal.returns-then-e-eq0
-returns-then-e-eq0 c =
-    pushing_none c.loop-i.invariant.0 (sym (ap (λ (o : Occurrence). o.diagnostic.number) c.error_at-e.ensures) ∙ c.if-e-eq0.true)
-
-pub returns-then-at-e : goal.returns-then-at-e
-returns-then-at-e c =
-    pushing_out
-    c.loop-i.invariant.0
-    (λ e. c.if-e-eq0.false (ap (λ (o : Occurrence). o.diagnostic.number) c.error_at-e.ensures ∙ e))
-    (omega (arith, ap (λ (o : Occurrence). o.after) c.error_at-e.ensures))
+returns-then-e-eq0 c = elim c.then-e-eq0.branch [
+  | then-e-eq0-via-then-e-eq0 w ↦ pushing_none c.loop-i.invariant.0 (sym (ap (λ (o : Occurrence). o.diagnostic.number) c.error_at-e.ensures) ∙ w.if-e-eq0.true)
+  | then-e-eq0-via-else-e-eq0+then-at-e w ↦
+      pushing_out
+      c.loop-i.invariant.0
+      (λ e. w.if-e-eq0.false (ap (λ (o : Occurrence). o.diagnostic.number) c.error_at-e.ensures ∙ e))
+      (omega (arith, ap (λ (o : Occurrence). o.after) c.error_at-e.ensures))
+]
 
 pub loop-i-preserved : goal.loop-i-preserved
 loop-i-preserved c = (
@@ -27,4 +27,4 @@ loop-i-preserved c = (
 )
 
 pub returns : goal.returns
-returns c = pushing_past c.loop-i.invariant.0 c.loop-i-test.false
+returns c = pushing_all c.loop-i.invariant.0 _ (omega arith) (omega arith)

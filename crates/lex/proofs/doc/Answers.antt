@@ -5,20 +5,13 @@ use native.Mathlib.Omega.{arith}
 use lib.Seq.{length-take-le}
 use lib.ListN.{take, length-take}
 use borrow.Author.Rules.{part_to_end}
-use Rattle.lex.specs.Bytes.{is_plain}
 use Rattle.lex.specs.Lex.{doc, doc_in}
 use Rattle.lex.proofs.Characters.{plain-utf8, leading_utf8}
-use Rattle.lex.proofs.Laws.{before_le, leading_le, run_le, plain-before, nonzero_inside}
+use Rattle.lex.proofs.Laws.{before_le, leading_le, plain-before}
 use Rattle.lex.proofs.doc.Goals as goal
-
-pub slice_bounds-leading_space-end : goal.slice_bounds-leading_space-end
-slice_bounds-leading_space-end c = sym (length-take-le _ c.args.rest.now (omega (arith, c.skip_plain-plain.ensures, run_le (is_plain 10) c.args.rest.now)))
 
 pub overflow_sub-result : goal.overflow_sub-result
 overflow_sub-result c = omega (arith, c.leading_space.ensures, leading_le (take c.skip_plain-plain.result c.args.rest.now), length-take c.skip_plain-plain.result c.args.rest.now)
-
-pub overflow_add-result : goal.overflow_add-result
-overflow_add-result c = omega (arith, nonzero_inside c.args.rest.now c.skip_plain-plain.result (omega (arith, c.peek.ensures, c.if-peek-eq10.true)))
 
 pub returns-then-peek-eq10 : goal.returns-then-peek-eq10
 unfolding doc doc_in

@@ -9,13 +9,10 @@ use Rattle.lex.proofs.Runs.{double_whole, double_field, double_fault}
 use Rattle.lex.proofs.double.Goals as goal
 
 pub overflow_add-second : goal.overflow_add-second
-overflow_add-second c = omega (arith, run_fits is_digit c.args.rest.now _ _ c.requires.1 (rw part_to_end at c.skip_digits.ensures))
+overflow_add-second c = omega (arith, run_fits is_digit c.args.rest.now _ _ c.requires (rw part_to_end at c.skip_digits.ensures))
 
 pub returns-then-peek-ne46 : goal.returns-then-peek-ne46
 returns-then-peek-ne46 c = double_whole c.args.rest.now _ _ (rw part_to_end at c.skip_digits.ensures) (λ e. c.if-peek-ne46.true (c.peek.ensures ∙ e))
-
-pub overflow_add-second-2 : goal.overflow_add-second-2
-overflow_add-second-2 c = omega (arith, run_fits is_digit c.args.rest.now _ _ c.requires.1 (rw part_to_end at c.skip_digits.ensures))
 
 pub returns-then-begins_name : goal.returns-then-begins_name
 returns-then-begins_name c =
@@ -23,15 +20,9 @@ returns-then-begins_name c =
     let name = ap is_ident_start (sym c.peek-2.ensures) ∙ sym c.begins_name.ensures ∙ c.if-begins_name.true in
     double_field c.args.rest.now _ _ (rw part_to_end at c.skip_digits.ensures) dot name
 
-pub slice_bounds-skip_num_cont-count : goal.slice_bounds-skip_num_cont-count
-slice_bounds-skip_num_cont-count c = omega (arith, run_fits is_digit c.args.rest.now _ _ c.requires.1 (rw part_to_end at c.skip_digits.ensures))
-
-pub slice_bounds-skip_num_cont-start : goal.slice_bounds-skip_num_cont-start
-slice_bounds-skip_num_cont-start c = omega (arith, run_fits is_digit c.args.rest.now _ _ c.requires.1 (rw part_to_end at c.skip_digits.ensures))
-
 pub overflow_add-n : goal.overflow_add-n
 overflow_add-n c =
-    let second = run_fits is_digit c.args.rest.now _ _ c.requires.1 (rw part_to_end at c.skip_digits.ensures) in
+    let second = run_fits is_digit c.args.rest.now _ _ c.requires (rw part_to_end at c.skip_digits.ensures) in
     omega (arith, run_fits is_num_cont c.args.rest.now _ _ second (rw part_to_end at c.skip_num_cont.ensures))
 
 pub returns : goal.returns

@@ -1,29 +1,18 @@
 -- `number` meets its contract: what stands behind the digits picks the case of `number`.
 -- Assumes nothing.
 use mathlib.Core.Path.{◌∙◌, sym, ap}
-use native.Mathlib.Omega.{arith}
-use Rattle.lex.specs.Bytes.{is_ident_start, is_digit}
-use Rattle.lex.proofs.Laws.{run_le, nonzero_inside}
+use Rattle.lex.specs.Bytes.{is_ident_start}
 use Rattle.lex.proofs.Runs.{number-whole, number-field, number_double}
 use Rattle.lex.proofs.number.Goals as goal
 
 pub returns-then-peek-ne46 : goal.returns-then-peek-ne46
 returns-then-peek-ne46 c = number-whole c.args.rest.now _ c.skip_digits-first.ensures (λ e. c.if-peek-ne46.true (c.peek.ensures ∙ e))
 
-pub overflow_add-first : goal.overflow_add-first
-overflow_add-first c = omega (arith, c.skip_digits-first.ensures, run_le is_digit c.args.rest.now)
-
 pub returns-then-begins_name : goal.returns-then-begins_name
 returns-then-begins_name c =
     let dot = sym c.peek.ensures ∙ c.if-peek-ne46.false in
     let name = ap is_ident_start (sym c.peek-2.ensures) ∙ sym c.begins_name.ensures ∙ c.if-begins_name.true in
     number-field c.args.rest.now _ c.skip_digits-first.ensures dot name
-
-pub overflow_add-first-2 : goal.overflow_add-first-2
-overflow_add-first-2 c = omega (arith, c.skip_digits-first.ensures, run_le is_digit c.args.rest.now)
-
-pub double-requires : goal.double-requires
-double-requires c = (c.requires, omega (arith, nonzero_inside c.args.rest.now c.skip_digits-first.result (omega (arith, c.peek.ensures, c.if-peek-ne46.false))))
 
 pub returns : goal.returns
 returns c =

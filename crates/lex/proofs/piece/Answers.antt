@@ -8,8 +8,10 @@ use Rattle.lex.specs.Lex.{punctuation, piece}
 use Rattle.lex.proofs.Signs.{sign_piece, digit_no_name, quote_no_name}
 use Rattle.lex.proofs.piece.Goals as goal
 
-pub returns-then-kind-gt0 : goal.returns-then-kind-gt0
-returns-then-kind-gt0 c = c.punctuation.ensures ∙ ap (punctuation _) c.peek.ensures ∙ sym (sign_piece c.args.rest.now (omega (arith, c.type_inv.rest 0)) (rw c.from_punctuator-kind.ensures at c.if-kind-gt0.true))
+pub returns-in-Some : goal.returns-in-Some
+returns-in-Some c =
+    let sign = c.in-Some.ensures in
+    c.punctuation.ensures ∙ ap (punctuation _) c.peek.ensures ∙ sym (sign_piece c.args.rest.now (omega (arith, c.type_inv.rest 0)) (omega (arith, sign.same, sign.some)))
 
 pub returns-then-begins_number : goal.returns-then-begins_number
 unfolding piece

@@ -7,7 +7,7 @@ use Rattle.lex.proofs.punctuation.Goals as goal
 
 pub returns-then-next-ne61 : goal.returns-then-next-ne61
 unfolding punctuation
-returns-then-next-ne61 c = rw (ne_eqb _ _ c.if-next-ne61.true, punctuation) (sign _ _ c.requires.0 c.requires.1)
+returns-then-next-ne61 c = rw (ne_eqb _ _ c.if-next-ne61.true, punctuation) (sign _ _ c.requires.same c.requires.some)
 
 pub returns-then-b-eq61 : goal.returns-then-b-eq61
 unfolding punctuation
@@ -19,4 +19,4 @@ returns-then-b-eq33 c = rw (eq-eqb _ _ c.if-next-ne61.false, ne_eqb _ _ c.if-b-e
 
 pub returns : goal.returns
 unfolding punctuation
-returns c = rw (eq-eqb _ _ c.if-next-ne61.false, ne_eqb _ _ c.if-b-eq61.false, ne_eqb _ _ c.if-b-eq33.false, punctuation) (sign _ _ c.requires.0 c.requires.1)
+returns c = rw (eq-eqb _ _ c.if-next-ne61.false, ne_eqb _ _ c.if-b-eq61.false, ne_eqb _ _ c.if-b-eq33.false, punctuation) (sign _ _ c.requires.same c.requires.some)

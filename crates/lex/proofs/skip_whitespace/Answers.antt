@@ -7,9 +7,6 @@ use Rattle.lex.proofs.Skips.{stands, skip_stop, skip_space, skip_none}
 use Rattle.lex.proofs.skip_whitespace.Goals as goal
 use Rattle.lex.proofs.skip_whitespace.Goals.{then-peek-eq32, else-peek-eq32}
 
-pub overflow_add-p : goal.overflow_add-p
-overflow_add-p c = omega (arith, nonzero_inside c.args.script.now c.args.pos (omega (arith, c.peek.ensures)))
-
 pub returns-then-b-ne35 : goal.returns-then-b-ne35
 returns-then-b-ne35 c =
     let above = rw c.peek-b.ensures at c.if-b-gt32.true in

@@ -8,9 +8,6 @@ use Rattle.lex.proofs.Characters.{plain-utf8}
 use Rattle.lex.proofs.Laws.{found, find_hit, before_le, nonzero_inside, plain-before}
 use Rattle.lex.proofs.string.Goals as goal
 
-pub overflow_add-result : goal.overflow_add-result
-overflow_add-result c = omega (arith, nonzero_inside c.args.rest.now c.skip_plain-plain.result (omega (arith, c.peek.ensures, c.if-peek-eq34.true)))
-
 pub returns-then-peek-eq34 : goal.returns-then-peek-eq34
 unfolding string
 returns-then-peek-eq34 c =
@@ -25,21 +22,21 @@ unfolding string
 returns-in_default c = rw (sym c.find_byte.ensures ∙ c.in_default.is, c.line_end-line.ensures, string)
 
 pub slice_bounds-is_utf8-end : goal.slice_bounds-is_utf8-end
-slice_bounds-is_utf8-end c = sym (length-take-le _ c.args.rest.now (omega (arith, (found _ c.args.rest.now _ (sym c.find_byte.ensures ∙ c.in-At.is)).1)))
+slice_bounds-is_utf8-end c = sym (length-take-le _ c.args.rest.now (omega (arith, (found _ c.args.rest.now _ (sym c.find_byte.ensures ∙ c.in-Some.is)).1)))
 
 pub overflow_add-result-then-is_utf8 : goal.overflow_add-result-then-is_utf8
-overflow_add-result-then-is_utf8 c = omega (arith, (found _ c.args.rest.now _ (sym c.find_byte.ensures ∙ c.in-At.is)).1)
+overflow_add-result-then-is_utf8 c = omega (arith, (found _ c.args.rest.now _ (sym c.find_byte.ensures ∙ c.in-Some.is)).1)
 
 pub overflow_add-result-else-is_utf8 : goal.overflow_add-result-else-is_utf8
-overflow_add-result-else-is_utf8 c = omega (arith, (found _ c.args.rest.now _ (sym c.find_byte.ensures ∙ c.in-At.is)).1)
+overflow_add-result-else-is_utf8 c = omega (arith, (found _ c.args.rest.now _ (sym c.find_byte.ensures ∙ c.in-Some.is)).1)
 
 pub overflow_add-result-else-is_utf8-2 : goal.overflow_add-result-else-is_utf8-2
-overflow_add-result-else-is_utf8-2 c = omega (arith, (found _ c.args.rest.now _ (sym c.find_byte.ensures ∙ c.in-At.is)).1)
+overflow_add-result-else-is_utf8-2 c = omega (arith, (found _ c.args.rest.now _ (sym c.find_byte.ensures ∙ c.in-Some.is)).1)
 
 pub returns-then-is_utf8 : goal.returns-then-is_utf8
 unfolding string
-returns-then-is_utf8 c = rw (sym c.find_byte.ensures ∙ c.in-At.is, sym c.is_utf8.ensures ∙ c.if-is_utf8.true, string)
+returns-then-is_utf8 c = rw (sym c.find_byte.ensures ∙ c.in-Some.is, sym c.is_utf8.ensures ∙ c.if-is_utf8.true, string)
 
 pub returns-else-is_utf8 : goal.returns-else-is_utf8
 unfolding string
-returns-else-is_utf8 c = rw (sym c.find_byte.ensures ∙ c.in-At.is, sym c.is_utf8.ensures ∙ c.if-is_utf8.false, string)
+returns-else-is_utf8 c = rw (sym c.find_byte.ensures ∙ c.in-Some.is, sym c.is_utf8.ensures ∙ c.if-is_utf8.false, string)

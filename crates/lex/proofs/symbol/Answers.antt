@@ -1,27 +1,19 @@
 -- `symbol` meets its contract.
 -- Assumes nothing.
 use mathlib.Core.Path.{◌∙◌, sym}
-use native.Mathlib.Omega.{arith}
 use borrow.Author.Rules.{part_to_end}
 use borrow.Author.Tests.{eq-eqb, ne_eqb}
 use Rattle.lex.specs.Lex.{symbol}
-use Rattle.lex.proofs.Laws.{nonzero_inside}
 use Rattle.lex.proofs.Signs.{no_sign, no-punctuation}
 use Rattle.lex.proofs.symbol.Goals as goal
 
 pub returns-then-b-ne35 : goal.returns-then-b-ne35
 unfolding symbol
-returns-then-b-ne35 c = rw (ne_eqb _ _ c.if-b-ne35.true, symbol) (c.unknown_character.ensures ∙ sym (no-punctuation _ _ c.requires.2))
+returns-then-b-ne35 c = rw (ne_eqb _ _ c.if-b-ne35.true, symbol) (c.unknown_character.ensures ∙ sym (no-punctuation _ _ c.requires.1))
 
 pub returns-then-peek-ne33 : goal.returns-then-peek-ne33
 unfolding symbol
-returns-then-peek-ne33 c = rw (eq-eqb _ _ c.if-b-ne35.false, ne_eqb _ _ (λ e. c.if-peek-ne33.true (c.peek.ensures ∙ e)), symbol) (c.unknown_character-then-peek-ne33.ensures ∙ sym (no_sign _ c.requires.2))
-
-pub slice_bounds-doc-count : goal.slice_bounds-doc-count
-slice_bounds-doc-count c = nonzero_inside c.args.rest.now 1 (omega (arith, c.peek.ensures, c.if-peek-ne33.false))
-
-pub slice_bounds-doc-start : goal.slice_bounds-doc-start
-slice_bounds-doc-start c = nonzero_inside c.args.rest.now 1 (omega (arith, c.peek.ensures, c.if-peek-ne33.false))
+returns-then-peek-ne33 c = rw (eq-eqb _ _ c.if-b-ne35.false, ne_eqb _ _ (λ e. c.if-peek-ne33.true (c.peek.ensures ∙ e)), symbol) (c.unknown_character-then-peek-ne33.ensures ∙ sym (no_sign _ c.requires.1))
 
 pub returns : goal.returns
 unfolding symbol

@@ -1,12 +1,8 @@
 -- `parser::drop_docs` meets its contract.
-use Rattle.std.proofs.Common.{sym, ◌∙◌, ap}
-use Rattle.parser_state.specs.declared.Parser.{Parser}
+use Rattle.std.proofs.Common.{refl, sym, ◌∙◌}
+use Rattle.parser_state.specs.Represents.{code_of}
 use Rattle.parser.proofs.Roots.{dropping}
 use Rattle.parser.proofs.drop_docs.Goals as goal
 
-pub returns : goal.returns
-returns c = (
-  λ tokens nodes types lists. dropping tokens nodes types lists (sym c.going.ensures ∙ c.if-not-going.false) c.get_used-u.ensures c.set_used.ensures,
-  ap (λ (p : Parser). p.cur) c.set_used.ensures,
-  ap (λ (p : Parser). p.at) c.set_used.ensures,
-)
+pub returns-then-going : goal.returns-then-going
+returns-then-going c = (λ tokens. dropping tokens (code_of c.args.p.now) (sym c.going.ensures ∙ c.if-going.true), refl, refl)

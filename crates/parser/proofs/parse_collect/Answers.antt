@@ -1,20 +1,20 @@
 -- `parser::parse_collect` meets its contract.
-use Rattle.std.proofs.Common.{arith}
+use Rattle.std.proofs.Common.{refl, arith}
 use Rattle.rules.specs.Parse.{parse_collect}
 use Rattle.rules.specs.Rules.{stage_one}
 use Rattle.rules.specs.Promise.{arrays_of}
-use Rattle.parser.proofs.Promised.{parse-refused, accepted, is_parsed, tables_are, begins, enough_of}
+use Rattle.parser.proofs.Promised.{some_number, unrefused, parse-refused, accepted, is_parsed, tables_are, begins, enough_of}
 use Rattle.parser.proofs.parse_collect.Goals as goal
 
-pub returns-then-refused-ne0 : goal.returns-then-refused-ne0
-returns-then-refused-ne0 c = parse-refused _ _ _ _ _ _ c.refusal-refused.ensures c.if-refused-ne0.true
+pub returns-in-Err : goal.returns-in-Err
+returns-in-Err c = parse-refused _ _ _ _ _ _ c.in-Err.ensures (some_number c.in-Err.refused)
 
 pub read_cut_collect-requires : goal.read_cut_collect-requires
 read_cut_collect-requires c =
     let args = c.args in
-    let ok = accepted (parse_collect stage_one) args.script.now args.tokens.now args.errors.now (arrays_of args.nodes.now args.types.now args.lists.now args.roots.now args.diagnostics.now) _ c.refusal-refused.ensures c.if-refused-ne0.false in
+    let ok = accepted (parse_collect stage_one) args.script.now args.tokens.now args.errors.now (arrays_of args.nodes.now args.types.now args.lists.now args.roots.now args.diagnostics.now) 0 (unrefused c.refusal.result c.in_default.not-Err c.refusal.ensures) refl in
     let tables = tables_are _ _ _ _ _ ok c.cut.ensures (omega (arith, c.cut.auto.tokens)) (omega (arith, c.cut.auto.errors)) in
     (begins _ _ _ _ _ ok _ tables.0, tables.1, (enough_of _ _ _ _ _ ok).diagnostics)
 
 pub returns : goal.returns
-returns c = is_parsed _ _ _ _ _ (accepted _ _ _ _ _ _ c.refusal-refused.ensures c.if-refused-ne0.false) c.cut.ensures c.read_cut_collect.ensures
+returns c = is_parsed _ _ _ _ _ (accepted _ _ _ _ _ 0 (unrefused c.refusal.result c.in_default.not-Err c.refusal.ensures) refl) c.cut.ensures c.read_cut_collect.ensures

@@ -2,16 +2,15 @@
 use Rattle.std.proofs.Common.{sym, ◌∙◌, arith}
 use Rattle.parser_state.proofs.Steps.{true≢false}
 use Rattle.parser.proofs.Roots.{root-written, root-left_out}
+use Rattle.parser.proofs.push_root.Goals.{else-going-via-then-going+then-at-roots+else-at-lt-MAX_BYTES, else-going-via-then-going+else-at-roots, else-going-via-else-going}
 use Rattle.parser.proofs.push_root.Goals as goal
 
-pub returns-then-not-going : goal.returns-then-not-going
-returns-then-not-going c = root-left_out (λ g h k. true≢false g (sym c.going.ensures ∙ c.if-not-going.true))
-
-pub returns-then-roots-at : goal.returns-then-roots-at
-returns-then-roots-at c = root-left_out (λ g h k. omega arith)
-
-pub returns-then-at-ge-MAX_BYTES : goal.returns-then-at-ge-MAX_BYTES
-returns-then-at-ge-MAX_BYTES c = root-left_out (λ g h k. omega arith)
+pub returns-then-at-lt-MAX_BYTES : goal.returns-then-at-lt-MAX_BYTES
+returns-then-at-lt-MAX_BYTES c = root-written (sym c.going.ensures ∙ c.if-going.true) (omega arith) (omega arith)
 
 pub returns : goal.returns
-returns c = root-written (sym c.going.ensures ∙ c.if-not-going.false) (omega arith) (omega arith)
+returns c = root-left_out (λ g h k. elim c.else-going.branch [
+  | else-going-via-then-going+then-at-roots+else-at-lt-MAX_BYTES w ↦ omega arith
+  | else-going-via-then-going+else-at-roots w ↦ omega arith
+  | else-going-via-else-going w ↦ true≢false g (sym c.going.ensures ∙ w.if-going.false)
+])

@@ -7,4 +7,4 @@ use Rattle.parser_operators.proofs.atom.Goals as goal
 
 pub returns : goal.returns
 unfolding atom node_cells token_cells
-returns c = λ types lists. enough (read _ (c.advance.ensures _ types lists) c.current-raw.ensures (c.push_token_node.ensures _ types lists _ refl)) tt
+returns c = enough (read _ c.advance.ensures refl (c.push_token_node.ensures _ _ refl)) tt

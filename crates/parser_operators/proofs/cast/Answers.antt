@@ -1,8 +1,9 @@
 -- `parser_operators::cast` meets its contract.
+use Rattle.std.proofs.Common.{refl}
 use Rattle.parser_state.proofs.Steps.{read, seq, done, enough}
 use Rattle.rules.specs.Rules.{cast}
 use Rattle.parser_operators.proofs.cast.Goals as goal
 
 pub returns : goal.returns
 unfolding cast
-returns c = λ rules. enough (read _ (c.advance.ensures _ _ _) c.current-src.ensures (seq _ (c.parse_type-rhs.ensures rules _) (seq _ (c.push_cast.ensures _ _ _) done))) tt
+returns c = λ rules. enough (read _ c.advance.ensures refl (seq _ (c.parse_type-rhs.ensures rules) (seq _ (c.push_cast.ensures _) done))) tt

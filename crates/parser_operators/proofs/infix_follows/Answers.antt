@@ -1,5 +1,5 @@
 -- `parser_operators::infix_follows` meets its contract.
-use Rattle.std.proofs.Common.{refl, sym, ◌∙◌, eq-eqb, ne_eqb}
+use Rattle.std.proofs.Common.{refl, sym, ap, not, ◌∙◌, eq-eqb, ne_eqb}
 use Rattle.lex.specs.Kind.{k_as}
 use Rattle.parser_operators.specs.Tests.{infix_by, sign_follows}
 use Rattle.parser_operators.proofs.Tables.{power-none, power-some, infix_when, least_test}
@@ -11,15 +11,15 @@ returns-then-not-going c = rw (sym c.going.ensures ∙ c.if-not-going.true, infi
 
 pub returns-then-t-eq-AS : goal.returns-then-t-eq-AS
 unfolding infix_by
-returns-then-t-eq-AS c = rw (sym c.going.ensures ∙ c.if-not-going.false, ← c.current-t.ensures, eq-eqb _ k_as c.if-t-eq-AS.true, infix_by) refl
+returns-then-t-eq-AS c = rw (sym c.going.ensures ∙ c.if-not-going.false, eq-eqb _ k_as c.if-t-eq-AS.true, infix_by) refl
 
-pub returns-then-n-ge9 : goal.returns-then-n-ge9
-returns-then-n-ge9 c = infix_when (sym c.going.ensures ∙ c.if-not-going.false) (rw (← c.current-t.ensures) (ne_eqb _ k_as c.if-t-eq-AS.false)) (rw (← c.current-t.ensures) (power-none _ _ _ c.operator-n.ensures c.if-n-ge9.true))
+pub returns-in-None : goal.returns-in-None
+returns-in-None c = infix_when (sym c.going.ensures ∙ c.if-not-going.false) (ne_eqb _ k_as c.if-t-eq-AS.false) (power-none _ _ _ c.in-None.ensures)
 
-pub returns-then-breaks_off : goal.returns-then-breaks_off
+pub returns-else-not-breaks_off : goal.returns-else-not-breaks_off
 unfolding sign_follows
-returns-then-breaks_off c = infix_when (sym c.going.ensures ∙ c.if-not-going.false) (rw (← c.current-t.ensures) (ne_eqb _ k_as c.if-t-eq-AS.false)) (rw (← c.current-t.ensures, power-some _ _ c.operator-n.ensures c.if-n-ge9.false, sym (rw c.current-t.ensures at c.breaks_off.ensures) ∙ c.if-breaks_off.true, sign_follows) refl)
+returns-else-not-breaks_off c = ap not c.if-not-breaks_off.false ∙ infix_when (sym c.going.ensures ∙ c.if-not-going.false) (ne_eqb _ k_as c.if-t-eq-AS.false) (rw ((power-some _ c.in-Some.ensures).1, sym c.breaks_off.ensures ∙ c.if-not-breaks_off.false, sign_follows) refl)
 
-pub returns : goal.returns
+pub returns-then-not-breaks_off : goal.returns-then-not-breaks_off
 unfolding sign_follows
-returns c = infix_when (sym c.going.ensures ∙ c.if-not-going.false) (rw (← c.current-t.ensures) (ne_eqb _ k_as c.if-t-eq-AS.false)) (rw (← c.current-t.ensures, power-some _ _ c.operator-n.ensures c.if-n-ge9.false, sym (rw c.current-t.ensures at c.breaks_off.ensures) ∙ c.if-breaks_off.false, sign_follows) (least_test _ c.left_power.ensures))
+returns-then-not-breaks_off c = infix_when (sym c.going.ensures ∙ c.if-not-going.false) (ne_eqb _ k_as c.if-t-eq-AS.false) (rw ((power-some _ c.in-Some.ensures).1, sym c.breaks_off.ensures ∙ c.if-not-breaks_off.true, sign_follows) (least_test _ c.left_power.ensures))

@@ -1,18 +1,14 @@
 -- `parser_operators::match_node` meets its contract.
-use Rattle.std.proofs.Common.{ap, arith}
-use Rattle.ast.specs.declared.Node.TheVariants as N
-use Rattle.tokens.specs.Table.{token_of}
-use Rattle.parser_state.specs.declared.Used.{Used}
 use Rattle.parser_state.specs.Refines.{fail_at}
 use Rattle.parser_state.proofs.Steps.{enough}
 use Rattle.parser_operators.specs.Matches.{match_node}
-use Rattle.parser_operators.proofs.Matches.{default_none, default-some, fail_any}
+use Rattle.parser_operators.proofs.Matches.{fail_any}
 use Rattle.parser_operators.proofs.match_node.Goals as goal
 
-pub returns-then-d-eq0 : goal.returns-then-d-eq0
+pub returns-in-None : goal.returns-in-None
 unfolding match_node fail_at
-returns-then-d-eq0 c = λ types lists. rw (default_none c.args.d c.if-d-eq0.true, match_node) (enough (fail_any _ _ (c.fail_at.ensures _ types lists)) tt)
+returns-in-None c = rw (c.in-None.is, match_node) (enough (fail_any _ _ c.fail_at.ensures) tt)
 
-pub returns : goal.returns
+pub returns-in-Some : goal.returns-in-Some
 unfolding match_node
-returns c = λ types lists. rw (default-some c.args.d c.if-d-eq0.false, match_node) (c.push_node.ensures _ types lists _ 1 (omega arith) (ap (λ (u : Used). N.Match u.values c.args.cases (token_of c.args.d.token) c.args.d.run) c.get_used-id.ensures))
+returns-in-Some c = rw (c.in-Some.is, match_node) (c.push_match.ensures _)

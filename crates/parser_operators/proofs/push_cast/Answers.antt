@@ -5,4 +5,4 @@ use Rattle.parser_operators.proofs.push_cast.Goals as goal
 
 pub returns : goal.returns
 unfolding node_cells token_cells
-returns c = λ tokens types lists. c.push_token_node.ensures tokens types lists _ refl
+returns c = λ tokens. c.push_token_node.ensures tokens _ refl

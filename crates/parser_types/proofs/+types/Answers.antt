@@ -1,66 +1,63 @@
 -- The cycle of calls of types: each function does what its rule does.
-use Rattle.std.proofs.Common.{◌<◌, ◌⊎◌, inl, inr, [], sym, refl, ap, ◌∙◌, arith}
+use Rattle.std.proofs.Common.{◌<◌, ◌⊎◌, inl, inr, [], sym, refl, ◌∙◌, arith}
 use Rattle.lex.specs.Kind.{k_str, k_void, k_option, k_array, k_foreign, k_record}
 use Rattle.ast.specs.Layout.{type_cells, token_cells, run_cells}
+use Rattle.ast.specs.declared.TypeExpr.TheVariants as T
 use Rattle.rules.specs.Combinators.{choose}
 use Rattle.rules.specs.Rules.{array_type, option_type, record_type, typed_name, type_by_kind}
 use Rattle.parser_state.specs.Refines.{rules_of}
-use Rattle.parser_state.specs.declared.Used.{Used}
 use Rattle.parser_state.proofs.Steps.{read, seq, then, enough}
 use Rattle.parser_state.proofs.Loops.{midway_start, midway_turn, midway_end, falls}
+use Rattle.parser_types.specs.Inner.{inner_type}
 use Rattle.parser_types.proofs.TypeKinds.{too_deep, type_at, type-atom, type-none}
 use Rattle.parser_types.proofs.+types.Goals as goal
 use Rattle.parser_types.proofs.+types.Goals.{parse_type-in_default-via-then-this-lt35, parse_type-in_default-via-else-this-lt35+else-this-lt40}
 
-pub array_type-returns : goal.array_type-returns
-unfolding array_type type_cells token_cells run_cells
-array_type-returns t c = λ rules nodes. enough (then (c.open_angle.ensures nodes _ _) (seq _ (c.parse_type-id.ensures rules nodes) (then (c.expect.ensures nodes _ _) (c.push_type.ensures _ nodes _ _ refl)))) tt
-
-pub option_type-returns : goal.option_type-returns
-unfolding option_type type_cells token_cells run_cells
-option_type-returns t c = λ rules nodes. enough (then (c.open_angle.ensures nodes _ _) (seq _ (c.parse_type-id.ensures rules nodes) (then (c.expect.ensures nodes _ _) (c.push_type.ensures _ nodes _ _ refl)))) tt
+pub inner_type-returns : goal.inner_type-returns
+unfolding inner_type
+inner_type-returns t c = λ rules make w. enough (then c.open_angle.ensures (seq _ (c.parse_type-id.ensures rules) (then c.expect.ensures (c.push_type.ensures _ _ (sym (w _)))))) tt
 
 pub record_type-returns : goal.record_type-returns
 unfolding record_type type_cells token_cells run_cells
-record_type-returns t c = λ rules nodes. enough (read _ (c.advance.ensures nodes _ _) c.current-src.ensures (then (c.expect.ensures nodes _ _) (seq _ (c.typed_names-run.ensures.0 rules nodes) (c.push_type.ensures _ nodes _ _ refl)))) tt
+record_type-returns t c = λ rules. enough (read _ c.advance.ensures refl (then c.expect.ensures (seq _ (c.typed_names-run.ensures.0 rules) (c.push_type.ensures _ _ refl)))) tt
 
 pub typed_name-returns : goal.typed_name-returns
 unfolding typed_name
-typed_name-returns t c = λ rules nodes. enough (read _ (c.expect_ident.ensures nodes _ _) c.current-name.ensures (then (c.expect.ensures nodes _ _) (seq _ (c.parse_type-id.ensures rules nodes) (c.push_named.ensures _ nodes _)))) tt
+typed_name-returns t c = λ rules. enough (read _ c.expect_ident.ensures refl (then c.expect.ensures (seq _ (c.parse_type-id.ensures rules) (c.push_named.ensures _)))) tt
 
-pub typed_names-loop-types-init : goal.typed_names-loop-types-init
-typed_names-loop-types-init t c = λ rules nodes. midway_start
+pub typed_names-loop-p-init : goal.typed_names-loop-p-init
+typed_names-loop-p-init t c = λ rules. midway_start
 
-pub typed_names-loop-types-smaller : goal.typed_names-loop-types-smaller
-typed_names-loop-types-smaller t c = falls _ (sym c.member_follows.ensures ∙ c.loop-types-test.true) (c.typed_name.ensures (rules_of []) [])
+pub typed_names-loop-p-smaller : goal.typed_names-loop-p-smaller
+typed_names-loop-p-smaller t c = falls _ (sym c.member_follows.ensures ∙ c.loop-p-test.true) (c.typed_name.ensures (rules_of []))
 
-pub typed_names-loop-types-preserved : goal.typed_names-loop-types-preserved
-typed_names-loop-types-preserved t c = λ rules nodes. midway_turn (c.loop-types.invariant rules nodes) (sym c.member_follows.ensures ∙ c.loop-types-test.true) (c.typed_name.ensures rules nodes) c.wrapping_add_u32-members.ensures.value
+pub typed_names-loop-p-preserved : goal.typed_names-loop-p-preserved
+typed_names-loop-p-preserved t c = λ rules. midway_turn (c.loop-p.invariant rules) (sym c.member_follows.ensures ∙ c.loop-p-test.true) (c.typed_name.ensures rules) refl
 
 pub typed_names-returns : goal.typed_names-returns
-typed_names-returns t c = ((λ rules nodes. midway_end (c.loop-types.invariant rules nodes) (sym c.member_follows.ensures ∙ c.loop-types-test.false) (ap (λ (u : Used). u.scratch) c.get_used-mark.ensures) (c.close.ensures.0 nodes _)), c.close.ensures.1)
+typed_names-returns t c = ((λ rules. midway_end (c.loop-p.invariant rules) (sym c.member_follows.ensures ∙ c.loop-p-test.false) refl c.close.ensures.0), c.close.ensures.1)
 
 pub parse_type-returns-then-levels-eq0 : goal.parse_type-returns-then-levels-eq0
-parse_type-returns-then-levels-eq0 t c = λ rules nodes. too_deep rules _ c.if-levels-eq0.true (c.fail_expecting.ensures _ nodes _ _)
+parse_type-returns-then-levels-eq0 t c = λ rules. too_deep rules _ c.if-levels-eq0.true (c.fail_expecting.ensures _)
 
 pub parse_type-returns-in-42 : goal.parse_type-returns-in-42
 unfolding type_by_kind choose
-parse_type-returns-in-42 t c = λ rules nodes. type_at rules _ k_foreign c.if-levels-eq0.false (c.foreign_type.ensures nodes _) (sym c.kind.ensures ∙ c.in-42.is)
+parse_type-returns-in-42 t c = λ rules. type_at rules _ k_foreign c.if-levels-eq0.false c.foreign_type.ensures (sym c.kind.ensures ∙ c.in-42.is)
 
 pub parse_type-returns-in-40 : goal.parse_type-returns-in-40
-unfolding type_by_kind choose
-parse_type-returns-in-40 t c = λ rules nodes. type_at rules _ k_option c.if-levels-eq0.false (c.option_type.ensures rules nodes) (sym c.kind.ensures ∙ c.in-40.is)
+unfolding type_by_kind choose option_type inner_type type_cells
+parse_type-returns-in-40 t c = λ rules. type_at rules _ k_option c.if-levels-eq0.false (c.inner_type.ensures rules T.Option (λ id. refl)) (sym c.kind.ensures ∙ c.in-40.is)
 
 pub parse_type-returns-in-41 : goal.parse_type-returns-in-41
-unfolding type_by_kind choose
-parse_type-returns-in-41 t c = λ rules nodes. type_at rules _ k_array c.if-levels-eq0.false (c.array_type.ensures rules nodes) (sym c.kind.ensures ∙ c.in-41.is)
+unfolding type_by_kind choose array_type inner_type type_cells
+parse_type-returns-in-41 t c = λ rules. type_at rules _ k_array c.if-levels-eq0.false (c.inner_type-in-41.ensures rules T.Array (λ id. refl)) (sym c.kind.ensures ∙ c.in-41.is)
 
 pub parse_type-returns-in-43 : goal.parse_type-returns-in-43
 unfolding type_by_kind choose
-parse_type-returns-in-43 t c = λ rules nodes. type_at rules _ k_record c.if-levels-eq0.false (c.record_type.ensures rules nodes) (sym c.kind.ensures ∙ c.in-43.is)
+parse_type-returns-in-43 t c = λ rules. type_at rules _ k_record c.if-levels-eq0.false (c.record_type.ensures rules) (sym c.kind.ensures ∙ c.in-43.is)
 
 pub parse_type-returns-in-35 : goal.parse_type-returns-in-35
-parse_type-returns-in-35 t c = λ rules nodes. type-atom rules _ c.if-levels-eq0.false (c.atom_type.ensures nodes _) c.kind.ensures (omega arith) (omega arith)
+parse_type-returns-in-35 t c = λ rules. type-atom rules _ c.if-levels-eq0.false c.atom_type.ensures c.kind.ensures (omega arith) (omega arith)
 
 pub parse_type-returns-in_default : goal.parse_type-returns-in_default
 parse_type-returns-in_default t c =
@@ -68,4 +65,4 @@ parse_type-returns-in_default t c =
       | parse_type-in_default-via-then-this-lt35 w ↦ inl (omega arith)
       | parse_type-in_default-via-else-this-lt35+else-this-lt40 w ↦ inr (omega arith)
     ] in
-    λ rules nodes. type-none rules _ c.if-levels-eq0.false (c.fail_expecting-in_default.ensures _ nodes _ _) c.kind.ensures outside (λ e. omega arith) (λ e. omega arith) (λ e. omega arith) (λ e. omega arith)
+    λ rules. type-none rules _ c.if-levels-eq0.false (c.fail_expecting-in_default.ensures _) c.kind.ensures outside (λ e. omega arith) (λ e. omega arith) (λ e. omega arith) (λ e. omega arith)

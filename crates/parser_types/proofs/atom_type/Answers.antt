@@ -7,4 +7,4 @@ use Rattle.parser_types.proofs.atom_type.Goals as goal
 
 pub returns : goal.returns
 unfolding atom_type type_cells token_cells run_cells
-returns c = λ nodes lists. enough (read _ (c.advance.ensures nodes _ lists) c.current-t.ensures (c.push_type.ensures _ nodes lists _ refl)) tt
+returns c = enough (read _ c.advance.ensures refl (c.push_type.ensures _ _ refl)) tt

@@ -7,4 +7,4 @@ use Rattle.parser_types.proofs.foreign_type.Goals as goal
 
 pub returns : goal.returns
 unfolding foreign_type type_cells token_cells run_cells
-returns c = λ nodes lists. enough (then (c.open_angle.ensures nodes _ lists) (read _ (c.expect_ident.ensures nodes _ lists) c.current-name.ensures (then (c.expect.ensures nodes _ lists) (c.push_type.ensures _ nodes lists _ refl)))) tt
+returns c = enough (then c.open_angle.ensures (read _ c.expect_ident.ensures refl (then c.expect.ensures (c.push_type.ensures _ _ refl)))) tt

@@ -1,13 +1,13 @@
 -- `parser_types::import_path` meets its contract.
-use Rattle.std.proofs.Common.{sym, ◌∙◌}
+use Rattle.std.proofs.Common.{sym, ◌∙◌, refl}
 use Rattle.parser_state.proofs.Steps.{if_kind-yes, if_kind-no, read, refused, enough}
 use Rattle.rules.specs.Rules.{import_path}
 use Rattle.parser_types.proofs.import_path.Goals as goal
 
 pub returns-then-kind-eq-S : goal.returns-then-kind-eq-S
 unfolding import_path
-returns-then-kind-eq-S c = λ nodes types. if_kind-yes _ _ (enough (read _ (c.advance.ensures nodes types _) c.current-t.ensures (c.push_token.ensures _ nodes types)) tt) (sym c.kind.ensures ∙ c.if-kind-eq-S.true)
+returns-then-kind-eq-S c = if_kind-yes _ _ (enough (read _ c.advance.ensures refl (c.push_token.ensures _)) tt) (sym c.kind.ensures ∙ c.if-kind-eq-S.true)
 
 pub returns-else-kind-eq-S : goal.returns-else-kind-eq-S
 unfolding import_path
-returns-else-kind-eq-S c = λ nodes types. if_kind-no _ _ (refused (c.fail_expecting.ensures _ nodes types _)) (λ e. c.if-kind-eq-S.false (c.kind.ensures ∙ e))
+returns-else-kind-eq-S c = if_kind-no _ _ (refused (c.fail_expecting.ensures _)) (λ e. c.if-kind-eq-S.false (c.kind.ensures ∙ e))

@@ -5,7 +5,7 @@ use Rattle.parser_types.proofs.Imports.{strike_as}
 use Rattle.parser_types.proofs.import_paths.Goals as goal
 
 pub returns-then-kind-eq-S : goal.returns-then-kind-eq-S
-returns-then-kind-eq-S c = λ nodes types. if_kind-yes _ _ (c.one_path.ensures nodes types) (sym c.kind.ensures ∙ c.if-kind-eq-S.true)
+returns-then-kind-eq-S c = if_kind-yes _ _ c.one_path.ensures (sym c.kind.ensures ∙ c.if-kind-eq-S.true)
 
 pub returns-else-kind-eq-S : goal.returns-else-kind-eq-S
-returns-else-kind-eq-S c = λ nodes types. if_kind-no _ _ (strike_as (c.bracketed_paths.ensures nodes types)) (λ e. c.if-kind-eq-S.false (c.kind.ensures ∙ e))
+returns-else-kind-eq-S c = if_kind-no _ _ (strike_as c.bracketed_paths.ensures) (λ e. c.if-kind-eq-S.false (c.kind.ensures ∙ e))

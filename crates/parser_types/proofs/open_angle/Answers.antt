@@ -5,4 +5,4 @@ use Rattle.parser_types.proofs.open_angle.Goals as goal
 
 pub returns : goal.returns
 unfolding open_angle
-returns c = λ nodes types lists. then (c.advance.ensures nodes types lists) (then (c.expect.ensures nodes types lists) (c.reject_kind.ensures _ nodes types lists))
+returns c = then c.advance.ensures (then c.expect.ensures (c.reject_kind.ensures _))

@@ -5,4 +5,4 @@ use Rattle.parser_types.proofs.parse_args.Goals as goal
 
 pub returns : goal.returns
 unfolding parse_args
-returns c = ((λ rules nodes. enough (then (c.expect.ensures nodes _ _) (c.typed_names.ensures.0 rules nodes)) tt), c.typed_names.ensures.1)
+returns c = ((λ rules. enough (then c.expect.ensures (c.typed_names.ensures.0 rules)) tt), c.typed_names.ensures.1)

@@ -7,4 +7,4 @@ use Rattle.parser_types.proofs.supplied_void.Goals as goal
 
 pub returns : goal.returns
 unfolding supplied_void type_cells token_cells run_cells
-returns c = λ tokens nodes lists. read _ looks c.current-at.ensures (c.push_type.ensures tokens nodes lists _ refl)
+returns c = λ tokens. read _ looks refl (c.push_type.ensures tokens _ refl)

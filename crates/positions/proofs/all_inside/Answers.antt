@@ -1,17 +1,12 @@
 -- `positions::all_inside` meets its contract.
-use Rattle.std.proofs.Common.{rules, ◌∙◌, length}
-use Rattle.positions.proofs.Many.{inside_not, inside_on, inside_end}
+use Rattle.std.proofs.Common.{rules, tests, leb, length}
+use Rattle.std.proofs.lemmas.Iterator.{YieldsList-from_slice}
+use Rattle.std.proofs.lemmas.Iterator.Search.{all_from_yields_List}
+use Rattle.positions.specs.LineColumns.{all_inside}
 use Rattle.positions.proofs.all_inside.Goals as goal
 
-pub returns-then-script-p : goal.returns-then-script-p
-returns-then-script-p c =
-    inside_not c.args.positions.now c.loop-i.i c.loop-i-test.true (length c.args.script.now) c.if-script-p.true ∙ c.loop-i.invariant.1
-
-pub loop-i-preserved : goal.loop-i-preserved
-loop-i-preserved c = (
-  search rules,
-  inside_on c.args.positions.now c.loop-i.i c.loop-i-test.true (length c.args.script.now) c.if-script-p.false ∙ c.loop-i.invariant.1,
-)
-
 pub returns : goal.returns
-returns c = inside_end c.args.positions.now c.loop-i.i c.loop-i-test.false (length c.args.script.now) ∙ c.loop-i.invariant.1
+unfolding all_inside
+returns c =
+    all_from_yields_List (λ p. leb p (length c.args.script.now)) _ _ _ c.all.ensures.ran (YieldsList-from_slice c.args.positions.now cc)
+    (λ x b q k. search (rules, tests))

@@ -1,12 +1,13 @@
 -- `positions::columns_of` meets its contract.
+use Rattle.std.proofs.Common.{arith}
 use Rattle.positions.proofs.Places.{columns_below, columns_above, columns_none}
 use Rattle.positions.proofs.columns_of.Goals as goal
 
-pub returns-then-b-lt-FIRST_CONTINUATION : goal.returns-then-b-lt-FIRST_CONTINUATION
-returns-then-b-lt-FIRST_CONTINUATION c = columns_below _ c.if-b-lt-FIRST_CONTINUATION.true
+pub returns-in-128-to-191 : goal.returns-in-128-to-191
+returns-in-128-to-191 c = columns_none _ (omega arith) (omega arith)
 
-pub returns-then-b-gt-LAST_CONTINUATION : goal.returns-then-b-gt-LAST_CONTINUATION
-returns-then-b-gt-LAST_CONTINUATION c = columns_above _ c.if-b-lt-FIRST_CONTINUATION.false c.if-b-gt-LAST_CONTINUATION.true
+pub returns-in_default : goal.returns-in_default
+returns-in_default c = columns_below _ (omega arith)
 
-pub returns : goal.returns
-returns c = columns_none _ c.if-b-lt-FIRST_CONTINUATION.false c.if-b-gt-LAST_CONTINUATION.false
+pub returns-in_default-2 : goal.returns-in_default-2
+returns-in_default-2 c = columns_above _ (omega arith) (omega arith)

@@ -1,10 +1,6 @@
 -- The pairs of `i` positions stand in front.
-use Rattle.std.proofs.Common.{◌-◌, length}
 use Rattle.positions.proofs.Many.{Reached}
 use Rattle.positions.proofs.fill.Given as goal
 
 abbrev pub invariant-loop-i : goal.invariant-loop-i
 invariant-loop-i l = Reached l.script l.positions l.fn.places l.places l.at l.place l.i
-
-abbrev pub decreases-loop-i : goal.decreases-loop-i
-decreases-loop-i l = length l.positions - l.i

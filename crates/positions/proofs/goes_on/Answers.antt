@@ -1,15 +1,13 @@
 -- `positions::goes_on` meets its contract.
-use Rattle.positions.proofs.Places.{goes_back, goes_nowhere, goes_far, goes_by_line}
+use Rattle.std.proofs.lemmas.Grind.{common_steps}
+use Rattle.std.proofs.Common.{arith}
+use Rattle.positions.specs.Position.{goes_on}
 use Rattle.positions.proofs.goes_on.Goals as goal
 
-pub returns-then-to-from : goal.returns-then-to-from
-returns-then-to-from c = goes_back _ _ _ c.if-to-from.true
+pub returns-then-contains : goal.returns-then-contains
+unfolding goes_on
+returns-then-contains c = grind (arith, common_steps)
 
-pub returns-then-known-lt1 : goal.returns-then-known-lt1
-returns-then-known-lt1 c = goes_nowhere _ _ _ c.if-to-from.false c.if-known-lt1.true
-
-pub returns-then-known-gt-MAX_PLACE : goal.returns-then-known-gt-MAX_PLACE
-returns-then-known-gt-MAX_PLACE c = goes_far _ _ _ c.if-to-from.false c.if-known-lt1.false c.if-known-gt-MAX_PLACE.true
-
-pub returns : goal.returns
-returns c = goes_by_line _ _ _ c.if-to-from.false c.if-known-lt1.false c.if-known-gt-MAX_PLACE.false
+pub returns-else-contains : goal.returns-else-contains
+unfolding goes_on
+returns-else-contains c = grind (arith, common_steps)

@@ -1,7 +1,7 @@
 -- `positions::line_columns` meets its contract.
 use Rattle.std.proofs.Common.{arith, ◌∙◌, sym, ap}
+use Rattle.lex.specs.Answer.{answer}
 use Rattle.positions.specs.LineColumns.{outcome}
-use Rattle.positions.specs.declared.Filled.TheVariants as F
 use Rattle.positions.proofs.Many.{ends_long, ends_cramped, ends_falling, ends_outside, ends-filled}
 use Rattle.positions.proofs.line_columns.Goals as goal
 
@@ -16,9 +16,9 @@ pub returns-then-falls : goal.returns-then-falls
 returns-then-falls c =
     ends_falling c.args.script.now c.args.positions.now c.args.places.now c.if-script-gt-MAX_BYTES.false (omega arith) (sym c.falls.ensures ∙ c.if-falls.true)
 
-pub returns-then-all_inside : goal.returns-then-all_inside
-returns-then-all_inside c =
-    ap (outcome F.Done) c.fill.ensures
+pub returns : goal.returns
+returns c =
+    ap (outcome (answer tt)) c.fill.ensures
     ∙ ends-filled
     c.args.script.now
     c.args.positions.now
@@ -26,10 +26,10 @@ returns-then-all_inside c =
     c.if-script-gt-MAX_BYTES.false
     (omega arith)
     (sym c.falls.ensures ∙ c.if-falls.false)
-    (sym c.all_inside.ensures ∙ c.if-all_inside.true)
+    (sym c.all_inside.ensures ∙ c.if-not-all_inside.false)
 
-pub returns-else-all_inside : goal.returns-else-all_inside
-returns-else-all_inside c =
+pub returns-then-not-all_inside : goal.returns-then-not-all_inside
+returns-then-not-all_inside c =
     ends_outside
     c.args.script.now
     c.args.positions.now
@@ -37,4 +37,4 @@ returns-else-all_inside c =
     c.if-script-gt-MAX_BYTES.false
     (omega arith)
     (sym c.falls.ensures ∙ c.if-falls.false)
-    (sym c.all_inside.ensures ∙ c.if-all_inside.false)
+    (sym c.all_inside.ensures ∙ c.if-not-all_inside.true)

@@ -1,23 +1,25 @@
 -- `practice::write_expression` meets its contract.
+use Rattle.std.proofs.Common.{arith}
 use Rattle.practice.proofs.Draws.{lowest, a_leaf, a_sum, a_negated}
 use Rattle.practice.proofs.+write_expression.Goals as goal
 
 pub returns-then-level-eq0 : goal.returns-then-level-eq0
 returns-then-level-eq0 t c =
-    lowest c.args.level c.args.seed c.next-s.result c.next-s.ensures c.if-level-eq0.true c.write_leaf.ensures
+    lowest c.args.level c.args.seed.now c.if-level-eq0.true c.draw-pick.ensures.drawn c.draw-pick.ensures.seed
+    c.write_leaf.ensures
 
-pub returns-then-pick-lt2 : goal.returns-then-pick-lt2
-returns-then-pick-lt2 t c =
-    a_leaf c.args.level c.args.seed c.next-s.result c.next-s.ensures c.if-level-eq0.false c.if-pick-lt2.true
-    c.write_leaf-then-pick-lt2.ensures
+pub returns-in-0-to-1 : goal.returns-in-0-to-1
+returns-in-0-to-1 t c =
+    a_leaf c.args.level c.args.seed.now c.if-level-eq0.false c.draw.ensures.drawn c.draw.ensures.seed (omega arith)
+    c.write_leaf-in-0-to-1.ensures
 
-pub returns-then-pick-eq2 : goal.returns-then-pick-eq2
-returns-then-pick-eq2 t c =
-    a_sum c.args.level c.args.seed c.next-s.result c.next-s.ensures c.if-level-eq0.false c.if-pick-lt2.false
-    c.if-pick-eq2.true c.write_byte-open.ensures c.write_expression-a.ensures c.write_text-plus.ensures
-    c.write_expression-b.ensures c.write_byte-to.ensures
+pub returns-in-2 : goal.returns-in-2
+returns-in-2 t c =
+    a_sum c.args.level c.args.seed.now c.if-level-eq0.false c.draw.ensures.drawn c.draw.ensures.seed c.in-2.is
+    c.write_byte.ensures c.write_expression.ensures c.write_text.ensures c.write_expression-in-2.ensures
+    c.write_byte-in-2.ensures
 
-pub returns : goal.returns
-returns t c =
-    a_negated c.args.level c.args.seed c.next-s.result c.next-s.ensures c.if-level-eq0.false c.if-pick-lt2.false
-    c.if-pick-eq2.false c.write_byte-minus.ensures c.write_expression.ensures
+pub returns-in_default : goal.returns-in_default
+returns-in_default t c =
+    a_negated c.args.level c.args.seed.now c.if-level-eq0.false c.draw.ensures.drawn c.draw.ensures.seed (omega arith)
+    (λ e. omega arith) c.write_byte-in_default.ensures c.write_expression-in_default.ensures

@@ -8,7 +8,7 @@ use lib.Dec.{eqb, ltb}
 use lib.ListN.{length, length-append}
 use native.Mathlib.Omega.{arith}
 use Rattle.lex.specs.Kind.{k_eof, k_brace_left, k_brace_right, k_equal, k_less_than, k_greater_than, k_colon, k_dot, k_braket_right, k_curly_left, k_curly_right, k_s, k_ident, k_doc, k_import, k_extern, k_let, k_fn, k_match, k_as, k_void}
-use Rattle.lex.specs.Lex.{Occurrence, cut, tokens_of, faults_of}
+use Rattle.lex.specs.Lex.{Occurrence, cut, faults_of}
 use Rattle.lex.proofs.Steps.{cut_le}
 use Rattle.lex.specs.declared.diagnostic.Diagnostic.{Diagnostic}
 use Rattle.lex.specs.declared.tok.Token.{Token}
@@ -27,7 +27,7 @@ use Rattle.ast.specs.declared.Node.TheVariants as N
 use Rattle.ast.specs.declared.TypeExpr.{TypeExpr}
 use Rattle.ast.specs.declared.TypeExpr.TheVariants as X
 use Rattle.rules.proofs.Unique.Grow.{none≢some}
-use Rattle.rules.proofs.Results.{not_kind, Ends, holds, fails, weaken, ended-ok, if_kind_else, if_kind-ok, table_ok, entry_else, entry-ok, other_ok, bind_ok, then_ok, pure-ok, cur-ok, fail-ok, reject_kind-ok, require_no_docs-ok, flow_value, loop-ok}
+use Rattle.rules.proofs.Results.{not_kind, Ends, holds, fails, weaken, ended-ok, if_kind-ok, table_ok, entry_else, entry-ok, other_ok, bind_ok, then_ok, pure-ok, cur-ok, fail-ok, reject_kind-ok, require_no_docs-ok, flow_value, loop-ok}
 use Rattle.rules.proofs.Counting.Step.{WellEnded, not_empty, shorter}
 use Rattle.rules.proofs.Counting.Whole.{begin_accounted, begin-left, read-tree, ended≢read}
 

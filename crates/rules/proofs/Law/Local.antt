@@ -10,7 +10,7 @@ use native.Mathlib.Omega.{arith}
 use Rattle.rules.specs.Tree.{Arena}
 use Rattle.rules.specs.Shape as S
 use Rattle.rules.specs.Shape.{TypeShape, Shape, type_in, node_in, type_shape_at, node_shape_at, type_shape, node_shape}
-use Rattle.ast.specs.Lists.{map₁, map₂, map₃, map₄, map₅, and_then, Decoder, number, token, run, resolve, both, items, from, list_at}
+use Rattle.ast.specs.Lists.{map₁, map₂, map₃, map₄, map₅, and_then, Decoder, number, run, resolve, both, items, from, list_at}
 use Rattle.ast.specs.Tabulate.{lookup, tabulate}
 use Rattle.rules.specs.Law.{nth}
 use Rattle.ast.specs.declared.Run.{Run}

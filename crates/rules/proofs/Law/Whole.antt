@@ -17,7 +17,7 @@ use Rattle.rules.specs.Rules.{readers, max_levels, stage_one}
 use Rattle.rules.specs.Parse.{Reading, read, ended, begin, synchronize_root, Gathered, merged, recover, parse, parse_roots, parse_collect, parse_roots_collect}
 use Rattle.lex.specs.Answer.{max_bytes}
 use Rattle.rules.specs.Promise.{Arrays, too_short, holding, Outcome, outcome, promised, numbers_of}
-use Rattle.ast.specs.declared.Parsed.TheVariants as P
+use Rattle.rules.specs.Parsed as P
 use Rattle.ast.specs.Lists.{map₁, map₂, and_then}
 use Rattle.rules.specs.Law.{Child, a_node, a_type, children_of, inner_of, times, all_of, occurrences, nth, children_at, inner_at, all_arguments, resynchronisings, Rising, Below, Law, TreeLaw}
 use Rattle.ast.specs.declared.NodeId.{NodeId}

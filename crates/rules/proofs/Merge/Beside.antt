@@ -22,7 +22,7 @@ use Rattle.ast.specs.declared.TypeExprId.{TypeExprId}
 use Rattle.ast.specs.declared.Node.{Node}
 use Rattle.ast.specs.declared.TypeExpr.{TypeExpr}
 use Rattle.rules.proofs.Merge.Match.{Match, matched, doomed, failed, Never, Matches, Fails, fails, by_failure, matched_ok, weaken, pure_match, bind_doom, bind_match, then_match, if_kind_match, if_kind_neither, if_kind_other, if_kind-here, Entries, table_match, renoted, Turn, again, out, TurnDoomed, doomed_out, loop_match}
-use Rattle.rules.proofs.Merge.Arena.{AllLike, like[], like∷, like_snoc, like_length, off, Moved, reorder, release, push_node_lem, push_type_lem, push_list}
+use Rattle.rules.proofs.Merge.Arena.{AllLike, like[], like∷, like_snoc, like_length, Moved, reorder, release, push_node_lem, push_type_lem, push_list}
 
 -- ---- kinds
 

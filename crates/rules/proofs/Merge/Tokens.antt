@@ -10,8 +10,7 @@ use lib.Dec.{ltb, eqb}
 use borrow.Author.Tests.{ltb-true, ltb-false, lt-ltb, le-ltb}
 use lib.ListN.{length, length-append, get_or, take, drop, length-drop}
 use lib.Seq.{take-append-le, drop-append-le, drop-append-add}
-use Rattle.lex.specs.declared.byte_search.Found.{Found}
-use Rattle.lex.specs.declared.byte_search.Found.TheVariants.{At, Nothing}
+use Rattle.std.specs.Prelude.{Option, Some, None}
 use Rattle.lex.specs.declared.tok.Token.{Token}
 use Rattle.lex.specs.declared.tok.Piece.{Piece}
 use Rattle.lex.specs.declared.tok.Step.{Step}
@@ -83,29 +82,29 @@ module _ (r : List ℕ) where
   double_in_join : (n from : ℕ) (bs : List ℕ) → n ≤ length bs → from ≤ n → double_in n from (on bs) ≡ double_in n from bs
   unfolding double_in
   double_in_join n from bs h k =
-      ap (λ (l : List ℕ). elim (find_byte 46 l) as (λ z. Piece) [ Nothing ↦ Piece.Token k_d n n | At more ↦ elim (is_ident_start (get_or (on bs) (from + more + 1) 0)) as (λ z. Piece) [ true ↦ Piece.Token k_d (from + more) (from + more) | false ↦ Piece.Fault 34 n 0 n ] ]) same
+      ap (λ (l : List ℕ). elim (find_byte 46 l) as (λ z. Piece) [ None ↦ Piece.Token k_d n n | Some more ↦ elim (is_ident_start (get_or (on bs) (from + more + 1) 0)) as (λ z. Piece) [ true ↦ Piece.Token k_d (from + more) (from + more) | false ↦ Piece.Fault 34 n 0 n ] ]) same
       ∙ go (find_byte 46 (take (n - from) (drop from bs))) refl
     where
       same : take (n - from) (drop from (on bs)) ≡ take (n - from) (drop from bs)
       same = ap (take (n - from)) (drop-append-le from bs (10 ∷ r) (omega arith)) ∙ take-append-le (n - from) (drop from bs) (10 ∷ r) (omega (arith, length-drop from bs))
 
-      go : (f : Found) → find_byte 46 (take (n - from) (drop from bs)) ≡ f
-          → ◌≡◌ {A = Piece} (elim f as (λ z. Piece) [ Nothing ↦ Piece.Token k_d n n | At more ↦ elim (is_ident_start (get_or (on bs) (from + more + 1) 0)) as (λ z. Piece) [ true ↦ Piece.Token k_d (from + more) (from + more) | false ↦ Piece.Fault 34 n 0 n ] ])
-          (elim f as (λ z. Piece) [ Nothing ↦ Piece.Token k_d n n | At more ↦ elim (is_ident_start (get_or bs (from + more + 1) 0)) as (λ z. Piece) [ true ↦ Piece.Token k_d (from + more) (from + more) | false ↦ Piece.Fault 34 n 0 n ] ])
-      go Nothing e = refl
-      go (At i) e = let z = found_part 46 (n - from) from bs i e in same_test _ _ _ _ (peek_join is_ident_start no_name_lem bs r (from + i + 1) (omega arith))
+      go : (f : Option ℕ) → find_byte 46 (take (n - from) (drop from bs)) ≡ f
+          → ◌≡◌ {A = Piece} (elim f as (λ z. Piece) [ None ↦ Piece.Token k_d n n | Some more ↦ elim (is_ident_start (get_or (on bs) (from + more + 1) 0)) as (λ z. Piece) [ true ↦ Piece.Token k_d (from + more) (from + more) | false ↦ Piece.Fault 34 n 0 n ] ])
+          (elim f as (λ z. Piece) [ None ↦ Piece.Token k_d n n | Some more ↦ elim (is_ident_start (get_or bs (from + more + 1) 0)) as (λ z. Piece) [ true ↦ Piece.Token k_d (from + more) (from + more) | false ↦ Piece.Fault 34 n 0 n ] ])
+      go None e = refl
+      go (Some i) e = let z = found_part 46 (n - from) from bs i e in same_test _ _ _ _ (peek_join is_ident_start no_name_lem bs r (from + i + 1) (omega arith))
 
   number_in_join : (n : ℕ) (bs : List ℕ) → n ≤ length bs → number_in n (on bs) ≡ number_in n bs
   unfolding number_in
   number_in_join n bs h =
-      ap (λ (l : List ℕ). elim (find_byte 46 l) as (λ z. Piece) [ Nothing ↦ Piece.Token k_i n n | At first ↦ elim (is_ident_start (get_or (on bs) (first + 1) 0)) as (λ z. Piece) [ true ↦ Piece.Token k_i first first | false ↦ double_in n (first + 1) (on bs) ] ]) (take-append-le n bs (10 ∷ r) h)
+      ap (λ (l : List ℕ). elim (find_byte 46 l) as (λ z. Piece) [ None ↦ Piece.Token k_i n n | Some first ↦ elim (is_ident_start (get_or (on bs) (first + 1) 0)) as (λ z. Piece) [ true ↦ Piece.Token k_i first first | false ↦ double_in n (first + 1) (on bs) ] ]) (take-append-le n bs (10 ∷ r) h)
       ∙ go (find_byte 46 (take n bs)) refl
     where
-      go : (f : Found) → find_byte 46 (take n bs) ≡ f
-          → ◌≡◌ {A = Piece} (elim f as (λ z. Piece) [ Nothing ↦ Piece.Token k_i n n | At first ↦ elim (is_ident_start (get_or (on bs) (first + 1) 0)) as (λ z. Piece) [ true ↦ Piece.Token k_i first first | false ↦ double_in n (first + 1) (on bs) ] ])
-          (elim f as (λ z. Piece) [ Nothing ↦ Piece.Token k_i n n | At first ↦ elim (is_ident_start (get_or bs (first + 1) 0)) as (λ z. Piece) [ true ↦ Piece.Token k_i first first | false ↦ double_in n (first + 1) bs ] ])
-      go Nothing e = refl
-      go (At i) e =
+      go : (f : Option ℕ) → find_byte 46 (take n bs) ≡ f
+          → ◌≡◌ {A = Piece} (elim f as (λ z. Piece) [ None ↦ Piece.Token k_i n n | Some first ↦ elim (is_ident_start (get_or (on bs) (first + 1) 0)) as (λ z. Piece) [ true ↦ Piece.Token k_i first first | false ↦ double_in n (first + 1) (on bs) ] ])
+          (elim f as (λ z. Piece) [ None ↦ Piece.Token k_i n n | Some first ↦ elim (is_ident_start (get_or bs (first + 1) 0)) as (λ z. Piece) [ true ↦ Piece.Token k_i first first | false ↦ double_in n (first + 1) bs ] ])
+      go None e = refl
+      go (Some i) e =
           let z = found_part 46 n 0 bs i e in
           ap₂ (λ (t : Bool) (p : Piece). elim t as (λ z. Piece) [ true ↦ Piece.Token k_i i i | false ↦ p ]) (peek_join is_ident_start no_name_lem bs r (i + 1) (omega arith)) (double_in_join n (i + 1) bs h (omega arith))
 
@@ -117,12 +116,12 @@ module _ (r : List ℕ) where
   unfolding string before
   string_join bs = go (find_byte 34 bs) refl
     where
-      go : (f : Found) → find_byte 34 bs ≡ f → Same (elim f as (λ z. Piece) [ At n ↦ elim (utf8 (take n bs)) as (λ z. Piece) [ true ↦ Piece.Token k_s n (n + 2) | false ↦ Piece.Fault 32 (n + 1) 0 (n + 2) ] | Nothing ↦ Piece.Fault 31 (before 10 bs + 1) 0 (before 10 bs + 1) ]) (string (on bs))
-      go Nothing e = inr refl
-      go (At n) e =
+      go : (f : Option ℕ) → find_byte 34 bs ≡ f → Same (elim f as (λ z. Piece) [ Some n ↦ elim (utf8 (take n bs)) as (λ z. Piece) [ true ↦ Piece.Token k_s n (n + 2) | false ↦ Piece.Fault 32 (n + 1) 0 (n + 2) ] | None ↦ Piece.Fault 31 (before 10 bs + 1) 0 (before 10 bs + 1) ]) (string (on bs))
+      go None e = inr refl
+      go (Some n) e =
           let z = found 34 bs n e in
-          let same : find_byte 34 (on bs) ≡ At n = sym (find_hit 34 (on bs) n (z.0 ∙ sym (run_inside (differs_from 34) bs (10 ∷ r) (omega (arith, z.0)))) (omega (arith, length-append bs (10 ∷ r)))) in
-          inl (ap (λ (f : Found). elim f as (λ z. Piece) [ At n ↦ elim (utf8 (take n (on bs))) as (λ z. Piece) [ true ↦ Piece.Token k_s n (n + 2) | false ↦ Piece.Fault 32 (n + 1) 0 (n + 2) ] | Nothing ↦ Piece.Fault 31 (before 10 (on bs) + 1) 0 (before 10 (on bs) + 1) ]) same
+          let same : find_byte 34 (on bs) ≡ Some n = sym (find_hit 34 (on bs) n (z.0 ∙ sym (run_inside (differs_from 34) bs (10 ∷ r) (omega (arith, z.0)))) (omega (arith, length-append bs (10 ∷ r)))) in
+          inl (ap (λ (f : Option ℕ). elim f as (λ z. Piece) [ Some n ↦ elim (utf8 (take n (on bs))) as (λ z. Piece) [ true ↦ Piece.Token k_s n (n + 2) | false ↦ Piece.Fault 32 (n + 1) 0 (n + 2) ] | None ↦ Piece.Fault 31 (before 10 (on bs) + 1) 0 (before 10 (on bs) + 1) ]) same
           ∙ ap (λ (l : List ℕ). elim (utf8 l) as (λ z. Piece) [ true ↦ Piece.Token k_s n (n + 2) | false ↦ Piece.Fault 32 (n + 1) 0 (n + 2) ]) (take-append-le n bs (10 ∷ r) (omega arith)))
 
   doc_join : (bs : List ℕ) → doc (on bs) ≡ doc bs

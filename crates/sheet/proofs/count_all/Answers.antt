@@ -1,53 +1,36 @@
 -- `sheet::count_all` meets its contract.
-use Rattle.std.proofs.Common.{arith}
-use Rattle.sheet.proofs.Joining.{counting_none, few-here, counting_next, counting_stop, counting_all}
+use Rattle.std.proofs.Common.{arith, rules, ◌∙◌}
+use Rattle.std.proofs.lemmas.Result.{err_from_is_err_and}
+use Rattle.sheet.proofs.Taking.{all_ahead, next_of}
+use Rattle.sheet.proofs.Joining.{counting_none, counting_next, counting_stop, counting_all, sum-fits}
 use Rattle.sheet.proofs.count_all.Goals as goal
 
-pub loop-i-init : goal.loop-i-init
-loop-i-init c = counting_none c.args.script.now c.args.errors.now _
+pub loop-cells-init : goal.loop-cells-init
+loop-cells-init c =
+    (search rules, tt, search rules, counting_none (all_ahead c.args.errors.now _ (search rules)))
 
-pub returns-in-Refused : goal.returns-in-Refused
-returns-in-Refused c =
-    counting_stop
-    c.args.script.now
-    c.args.errors.now
-    _
-    c.loop-i.invariant
-    c.loop-i-test.true
-    c.error_at.ensures
-    c.count_lines.result
-    c.count_lines.ensures
-    c.in-Refused.is
+pub returns-in_err-lines : goal.returns-in_err-lines
+returns-in_err-lines c =
+    let m = c.loop-cells.invariant in
+    let n = next_of c.loop-cells.cells-iterator c.in-Some.cells c.next.new.self c.in-Some.ensures.steps m.2 in
+    let p = err_from_is_err_and c.from_residual.result c.from_residual.ensures.1 in
+    rw (p.1, p.2) (counting_stop m.3 n c.diagnostic_at.ensures c.count_lines.result c.count_lines.ensures c.in_err-lines.was)
 
 pub overflow_add-lines : goal.overflow_add-lines
 overflow_add-lines c =
-    let f =
-    few-here
-    c.args.script.now
-    c.args.errors.now
-    _
-    c.loop-i.invariant
-    c.loop-i-test.true
-    c.error_at.ensures
-    c.count_lines.result
-    c.count_lines.ensures
-    c.in-Lines.is
-    c.requires in
-    omega (arith, f, c.loop-i.invariant.few)
+    let m = c.loop-cells.invariant in
+    let n = next_of c.loop-cells.cells-iterator c.in-Some.cells c.next.new.self c.in-Some.ensures.steps m.2 in
+    let f = sum-fits m.3 n c.diagnostic_at.ensures c.count_lines.result c.count_lines.ensures c.in_ok-lines.was c.requires in
+    omega (arith, f)
 
-pub loop-i-preserved : goal.loop-i-preserved
-loop-i-preserved c =
-    counting_next
-    c.args.script.now
-    c.args.errors.now
-    _
-    c.loop-i.invariant
-    c.loop-i-test.true
-    c.error_at.ensures
-    c.count_lines.result
-    c.count_lines.ensures
-    c.in-Lines.is
-    c.requires
+pub loop-cells-preserved : goal.loop-cells-preserved
+loop-cells-preserved c =
+    let m = c.loop-cells.invariant in
+    let n = next_of c.loop-cells.cells-iterator c.in-Some.cells c.next.new.self c.in-Some.ensures.steps m.2 in
+    (search rules, tt, c.in-Some.ensures.steps.0 ∙ m.2, counting_next m.3 n c.diagnostic_at.ensures c.count_lines.result c.count_lines.ensures c.in_ok-lines.was c.requires)
 
 pub returns : goal.returns
-returns c = counting_all c.args.script.now c.args.errors.now _ c.loop-i.invariant c.loop-i-test.false
+returns c =
+    let s = c.in-None.ensures.steps in
+    let m = c.loop-cells.invariant in
+    counting_all m.3 (omega (arith, s.1.0, m.2))

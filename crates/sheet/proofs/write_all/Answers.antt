@@ -1,24 +1,16 @@
 -- `sheet::write_all` meets its contract.
-use Rattle.std.proofs.Common.{ap}
-use Rattle.text.proofs.EmitLaws.{by}
-use Rattle.lex.specs.declared.diagnostic.Diagnostic.{Diagnostic}
-use Rattle.sheet.specs.Sheet.{entry}
-use Rattle.sheet.specs.Count.{text_in}
-use Rattle.sheet.proofs.Joining.{members-none, members-next, members-all}
+use Rattle.std.proofs.Common.{rules, ◌∙◌}
+use Rattle.sheet.proofs.Taking.{all_ahead, next_of}
+use Rattle.sheet.proofs.Joining.{writing-none, writing-next}
 use Rattle.sheet.proofs.Told.{reached-none}
 use Rattle.sheet.proofs.write_all.Goals as goal
 
-pub loop-i-init : goal.loop-i-init
-loop-i-init c = (members-none, reached-none)
+pub loop-cells-init : goal.loop-cells-init
+loop-cells-init c =
+    (search rules, tt, search rules, writing-none (all_ahead c.args.errors.now _ (search rules)), reached-none)
 
-pub loop-i-preserved : goal.loop-i-preserved
-loop-i-preserved c = (
-  members-next
-      c.loop-i.invariant.0
-      (by (ap (λ (e : Diagnostic). text_in (entry c.args.script.now e)) c.error_at.ensures) c.write_entry-w.ensures.emits)
-      c.loop-i-test.true,
-  c.write_entry-w.ensures.reached,
-)
-
-pub returns : goal.returns
-returns c = members-all c.loop-i.invariant.0 c.loop-i-test.false
+pub loop-cells-preserved : goal.loop-cells-preserved
+loop-cells-preserved c =
+    let m = c.loop-cells.invariant in
+    let n = next_of c.loop-cells.cells-iterator c.in-Some.cells c.next.new.self c.in-Some.ensures.steps m.2 in
+    (search rules, tt, c.in-Some.ensures.steps.0 ∙ m.2, writing-next m.3 n c.diagnostic_at.ensures c.write_entry-known.ensures.writes, c.write_entry-known.ensures.reached)

@@ -1,13 +1,14 @@
--- The errors before `i` are written, and the place of the last one's start is known.
-use Rattle.std.proofs.Common.{◌-◌}
-use Rattle.sheet.specs.Sheet.{entry, error_at}
-use Rattle.sheet.specs.Count.{text_in, Reached}
-use Rattle.sheet.proofs.Joining.{Members}
+-- The lines of the errors before those ahead are written, and the place of the last one is known.
+use Rattle.std.proofs.Common.{◌≡◌}
+use Rattle.std.specs.Slice.Iter.{chunks_exact_rest, chunks_exact_size}
+use Rattle.sheet.proofs.Joining.{Writing}
+use Rattle.sheet.specs.Count.{Reached}
 use Rattle.sheet.proofs.write_all.Given as goal
 
-abbrev pub invariant-loop-i : goal.invariant-loop-i
-invariant-loop-i l =
-    Members (λ k. text_in (entry l.script (error_at l.errors k))) l.count l.fn.out l.out l.w.to l.i × Reached l.script l.w
-
-abbrev pub decreases-loop-i : goal.decreases-loop-i
-decreases-loop-i l = l.count - l.i
+abbrev pub invariant-loop-cells : goal.invariant-loop-cells
+invariant-loop-cells l =
+    (goal.iterator-loop-cells).can_next l.cells-iterator
+    × (goal.iterator-loop-cells).is_finite l.cells-iterator
+    × (chunks_exact_size l.cells-iterator ≡ 5)
+    × Writing l.script l.errors (chunks_exact_rest l.cells-iterator) l.initial.w l.w
+    × Reached l.script l.known

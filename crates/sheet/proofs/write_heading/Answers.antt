@@ -1,11 +1,11 @@
 -- `sheet::write_heading` meets its contract.
-use Rattle.text.proofs.EmitLaws.{then}
+use Rattle.text.proofs.EmitLaws.{and_then}
 use Rattle.sheet.specs.Sheet.{heading}
 use Rattle.sheet.proofs.write_heading.Goals as goal
 
 pub returns : goal.returns
 unfolding heading
 returns c =
-    then
-    c.write_right-a.ensures
-    (then c.write_blanks-b.ensures (then c.write_right-c.ensures (then c.write_blanks-d.ensures (then c.write_number-e.ensures c.write_blanks.ensures))))
+    and_then
+    c.write_right.ensures
+    (and_then c.write_blanks.ensures (and_then c.write_right-2.ensures (and_then c.write_blanks-2.ensures (and_then c.write_number.ensures c.write_blanks-3.ensures))))

@@ -1,8 +1,8 @@
 -- `tokens::agrees` meets its contract: what is left to compare comes to the same at every turn.
-use Rattle.std.proofs.Common.{arith, refl}
+use Rattle.std.proofs.Common.{arith, refl, ◌∙◌, ◌+◌, ◌*◌}
 use Rattle.std.proofs.lemmas.Bool.{not_from_true, not_from_false}
 use Rattle.lex.proofs.Steps.{cut_le}
-use Rattle.tokens.proofs.Same.{agreeing_start, part_room, differs_tokens, differs_errors, agreeing_part, differs_behind, agrees_end}
+use Rattle.tokens.proofs.Same.{zeros_fold, agreeing_start, part_room, differs_tokens, differs_errors, agreeing_part, differs_behind, agrees_end}
 use Rattle.tokens.proofs.agrees.Goals as goal
 
 pub loop-s-init : goal.loop-s-init
@@ -12,7 +12,7 @@ loop-s-init c =
 pub fill-s-requires : goal.fill-s-requires
 fill-s-requires c =
     let g = c.loop-s.invariant.0 in
-    (c.requires.0, c.requires.3, g.inside, omega (arith, g.tokens, cut_le c.args.script.now))
+    (c.requires.2, g.inside, omega (arith, g.tokens, cut_le c.args.script.now))
 
 pub overflow_mul-n : goal.overflow_mul-n
 overflow_mul-n c =
@@ -42,15 +42,15 @@ overflow_add-m c =
     let room = part_room g st in
     omega (arith, room)
 
-pub overflow_mul-n-then-s : goal.overflow_mul-n-then-s
-overflow_mul-n-then-s c =
+pub overflow_mul-n-in_default : goal.overflow_mul-n-in_default
+overflow_mul-n-in_default c =
     let g = c.loop-s.invariant.0 in
     let st = c.fill-s.ensures in
     let room = part_room g st in
     omega (arith, room)
 
-pub overflow_mul-m-then-s : goal.overflow_mul-m-then-s
-overflow_mul-m-then-s c =
+pub overflow_mul-m-in_default : goal.overflow_mul-m-in_default
+overflow_mul-m-in_default c =
     let g = c.loop-s.invariant.0 in
     let st = c.fill-s.ensures in
     let room = part_room g st in
@@ -77,8 +77,8 @@ is_zero_from-requires c =
     let room = part_room g st in
     omega (arith, room)
 
-pub is_zero_from-requires-then-s : goal.is_zero_from-requires-then-s
-is_zero_from-requires-then-s c =
+pub is_zero_from-requires-in_default : goal.is_zero_from-requires-in_default
+is_zero_from-requires-in_default c =
     let g = c.loop-s.invariant.0 in
     let st = c.fill-s.ensures in
     let room = part_room g st in
@@ -103,25 +103,25 @@ returns-then-not-is_zero_from c =
     let g = c.loop-s.invariant.0 in
     let st = c.fill-s.ensures in
     let room = part_room g st in
-    differs_behind g st (omega (arith, room)) (omega (arith, room)) c.same_cells.ensures (not_from_true _ c.if-not-same_cells.false) c.same_cells-in-loop-s.ensures (not_from_true _ c.if-not-same_cells-2.false) c.if-s.true c.is_zero_from.ensures (not_from_false _ c.if-not-is_zero_from.true)
+    differs_behind g st (omega (arith, room)) (omega (arith, room)) c.same_cells.ensures (not_from_true _ c.if-not-same_cells.false) c.same_cells-in-loop-s.ensures (not_from_true _ c.if-not-same_cells-2.false) c.in_default.is (c.is_zero_from.ensures ∙ zeros_fold c.args.tokens.now (4 * (c.loop-s.n + c.fill-s.result.tokens))) (not_from_false _ c.if-not-is_zero_from.true)
 
-pub returns-then-s : goal.returns-then-s
-returns-then-s c =
+pub returns-in_default : goal.returns-in_default
+returns-in_default c =
     let g = c.loop-s.invariant.0 in
     let st = c.fill-s.ensures in
     let room = part_room g st in
-    agrees_end g st (omega (arith, room)) (omega (arith, room)) c.same_cells.ensures (not_from_true _ c.if-not-same_cells.false) c.same_cells-in-loop-s.ensures (not_from_true _ c.if-not-same_cells-2.false) c.if-s.true c.is_zero_from.ensures (not_from_true _ c.if-not-is_zero_from.false) c.is_zero_from-then-s.ensures
+    agrees_end g st (omega (arith, room)) (omega (arith, room)) c.same_cells.ensures (not_from_true _ c.if-not-same_cells.false) c.same_cells-in-loop-s.ensures (not_from_true _ c.if-not-same_cells-2.false) c.in_default.is (c.is_zero_from.ensures ∙ zeros_fold c.args.tokens.now (4 * (c.loop-s.n + c.fill-s.result.tokens))) (not_from_true _ c.if-not-is_zero_from.false) (c.is_zero_from-in_default.ensures ∙ zeros_fold c.args.errors.now (6 * (c.loop-s.m + c.fill-s.result.errors)))
 
 pub loop-s-smaller : goal.loop-s-smaller
 loop-s-smaller c =
     let g = c.loop-s.invariant.0 in
     let st = c.fill-s.ensures in
     let room = part_room g st in
-    omega (arith, st.moves (omega (arith, c.fill-s.auto)) (omega (arith, c.fill-s.auto)) c.if-s.false, st.inside)
+    omega (arith, st.moves _ c.in-Some.is (omega (arith, c.fill-s.auto)) (omega (arith, c.fill-s.auto)), st.inside _ c.in-Some.is)
 
 pub loop-s-preserved : goal.loop-s-preserved
 loop-s-preserved c =
     let g = c.loop-s.invariant.0 in
     let st = c.fill-s.ensures in
     let room = part_room g st in
-    (agreeing_part g st (omega (arith, room)) (omega (arith, room)) c.same_cells.ensures (not_from_true _ c.if-not-same_cells.false) c.same_cells-in-loop-s.ensures (not_from_true _ c.if-not-same_cells-2.false) c.if-s.false, omega (arith, c.fill-s.auto), omega (arith, c.fill-s.auto))
+    (agreeing_part g st (omega (arith, room)) (omega (arith, room)) c.same_cells.ensures (not_from_true _ c.if-not-same_cells.false) c.same_cells-in-loop-s.ensures (not_from_true _ c.if-not-same_cells-2.false) _ c.in-Some.is, omega (arith, c.fill-s.auto), omega (arith, c.fill-s.auto))

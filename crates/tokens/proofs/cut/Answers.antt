@@ -1,6 +1,5 @@
 -- `tokens::cut` meets its contract.
-use Rattle.std.proofs.Common.{arith, refl}
-use Rattle.lex.specs.Bytes.{class_table, class_of, bit, is_ident_cont, is_ident_start, is_digit, is_num_cont, is_ws, or, between}
+use Rattle.std.proofs.Common.{arith}
 use Rattle.tokens.proofs.Progress.{made-left, met-left}
 use Rattle.tokens.proofs.Promised.{too_long, too_short_lem, short-tokens, short-errors, room, done}
 use Rattle.tokens.proofs.cut.Goals as goal
@@ -16,9 +15,8 @@ returns-then-errors-script c =
     too_short_lem _ _ _ c.if-script-gt-MAX_BYTES.false (short-errors _ _ _ c.if-tokens-script.false c.if-errors-script.true)
 
 pub fill-s-requires : goal.fill-s-requires
-unfolding class_table class_of bit is_ident_cont is_ident_start is_digit is_num_cont is_ws or between
 fill-s-requires c =
-    (refl, c.if-script-gt-MAX_BYTES.false, omega arith, omega (arith, room c.args.script.now, c.if-script-gt-MAX_BYTES.false))
+    (c.if-script-gt-MAX_BYTES.false, omega arith, omega (arith, room c.args.script.now, c.if-script-gt-MAX_BYTES.false))
 
 pub overflow_cast-result : goal.overflow_cast-result
 overflow_cast-result c = omega (arith, made-left c.fill-s.ensures, room c.args.script.now)

@@ -5,7 +5,7 @@ use Rattle.tokens.proofs.Progress.{filled-start, filled-token, filled_fault, sto
 use Rattle.tokens.proofs.fill.Goals as goal
 
 pub loop-token-init : goal.loop-token-init
-loop-token-init c = (filled-start c.args.script.now c.args.tokens.now c.args.errors.now c.args.from c.args.before c.requires.2, refl, refl)
+loop-token-init c = (filled-start c.args.script.now c.args.tokens.now c.args.errors.now c.args.from c.args.before c.requires.1, refl, refl)
 
 pub returns-then-tokens-n : goal.returns-then-tokens-n
 returns-then-tokens-n c = stops_tokens c.loop-token.invariant.0 c.if-tokens-n.true

@@ -1,6 +1,5 @@
 -- `tokens::is_cut` meets its contract.
-use Rattle.std.proofs.Common.{arith, refl}
-use Rattle.lex.specs.Bytes.{class_table, class_of, bit, is_ident_cont, is_ident_start, is_digit, is_num_cont, is_ws, or, between}
+use Rattle.std.proofs.Common.{arith}
 use Rattle.tokens.proofs.Promised.{short-tokens, short-errors, long_enough}
 use Rattle.tokens.proofs.Same.{not_cut_long, not_cut_short, cut_wholly}
 use Rattle.tokens.proofs.is_cut.Goals as goal
@@ -16,9 +15,8 @@ returns-then-errors-script c =
     not_cut_short _ _ _ c.if-script-gt-MAX_BYTES.false (short-errors _ _ _ c.if-tokens-script.false c.if-errors-script.true)
 
 pub agrees-requires : goal.agrees-requires
-unfolding class_table class_of bit is_ident_cont is_ident_start is_digit is_num_cont is_ws or between
 agrees-requires c =
-    (refl, omega arith, omega arith, c.if-script-gt-MAX_BYTES.false, c.if-tokens-script.false, c.if-errors-script.false)
+    (omega arith, omega arith, c.if-script-gt-MAX_BYTES.false, c.if-tokens-script.false, c.if-errors-script.false)
 
 pub returns : goal.returns
 returns c =

@@ -1,14 +1,12 @@
 -- The members of a record before the place agree. The measure is the bound of the left type.
-use Prim.Native.Nat.{◌<◌}
+use Prim.Native.Nat.{◌+◌}
+use Rattle.ast.specs.Decode.{run_at}
 use Rattle.compare.specs.Shapes.{type_env}
-use Rattle.compare.proofs.Listing.{param_lists, Walking}
+use Rattle.compare.proofs.Listing.{param_lists, Before}
 use Rattle.compare.proofs.type_expr.+agree_type.Given as goal
 
-abbrev pub invariant-loop-left : goal.invariant-loop-left
-invariant-loop-left l = Walking param_lists (type_env l.s.now l.cells.now l.types.now l.i.0) (type_env l.s2.now l.cells2.now l.types2.now l.j.0) l.initial.at l.initial.at2 l.initial.left l.at l.at2 l.left × (0 < l.left)
-
-abbrev pub decreases-loop-left : goal.decreases-loop-left
-decreases-loop-left l = l.left
+abbrev pub invariant-loop-at : goal.invariant-loop-at
+invariant-loop-at l = Before param_lists (type_env l.a.script.now l.a.cells.now l.a.types.now l.fn.i.0) (type_env l.b.script.now l.b.cells.now l.b.types.now l.fn.j.0) (run_at l.a.types.now (l.at + 4)) (run_at l.b.types.now (l.at2 + 4)) l.last l.last2 l.at-iterator
 
 abbrev pub decreases-agree_type : goal.decreases-agree_type
 decreases-agree_type l = l.n

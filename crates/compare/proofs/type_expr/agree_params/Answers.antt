@@ -1,44 +1,32 @@
 -- `compare::type_expr::agree_params` meets its contract.
+use Rattle.std.proofs.Common.{refl}
 use Rattle.rules.specs.Shape.{w}
 use Rattle.compare.proofs.Agree.{decides_not}
 use Rattle.compare.proofs.Walk.{pair_agree, pair_parts}
-use Rattle.compare.proofs.Listing.{param_lists, begin, other_length, outside_left, outside_right, step, stop, done}
-use native.Mathlib.Omega.{arith}
+use Rattle.compare.proofs.Listing.{param_lists, not-in_step, paired, next, differs, over}
 use Rattle.compare.proofs.type_expr.agree_params.Goals as goal
 
-pub returns-then-r-r2 : goal.returns-then-r-r2
-returns-then-r-r2 c = other_length param_lists c.if-r-r2.true
+pub returns-in_default : goal.returns-in_default
+returns-in_default c = not-in_step param_lists refl c.in_default.ensures
 
-pub returns-then-cells-at : goal.returns-then-cells-at
-returns-then-cells-at c = outside_left param_lists c.if-cells-at.true
-
-pub returns-then-cells2-at2 : goal.returns-then-cells2-at2
-returns-then-cells2-at2 c = outside_right param_lists c.if-r-r2.false c.if-cells2-at2.true
-
-pub loop-left-init : goal.loop-left-init
-loop-left-init c = begin param_lists c.if-cells-at.false c.if-cells2-at2.false (omega arith) (omega arith)
+pub loop-at-init : goal.loop-at-init
+loop-at-init c = paired param_lists refl c.in-Some.ensures c.into_iter-at-iterator.ensures.into_iter_gives
 
 pub returns-then-not-agree_token_at : goal.returns-then-not-agree_token_at
 unfolding w
-returns-then-not-agree_token_at c = stop param_lists c.if-r-r2.false c.loop-left.invariant c.loop-left-test.true (λ b. decides_not _ c.if-not-agree_token_at.true c.agree_token_at.ensures (pair_parts _ _ _ _ b).0)
+returns-then-not-agree_token_at c = differs param_lists _ _ c.next.new.self c.in-Some-2.ensures.steps c.loop-at.invariant (λ b. decides_not _ c.if-not-agree_token_at.true c.agree_token_at.ensures (pair_parts _ _ _ _ b).0)
 
 pub returns-then-not-agree_type : goal.returns-then-not-agree_type
 unfolding w
 returns-then-not-agree_type c =
-    let q = rw (c.cell.ensures, c.cell-in-loop-left.ensures) at c.agree_type.ensures in
-    stop param_lists c.if-r-r2.false c.loop-left.invariant c.loop-left-test.true (λ b. decides_not _ c.if-not-agree_type.true q (pair_parts _ _ _ _ b).1)
+    let q = rw (c.cell.ensures, c.cell-in-loop-at.ensures) at c.agree_type.ensures in
+    differs param_lists _ _ c.next.new.self c.in-Some-2.ensures.steps c.loop-at.invariant (λ b. decides_not _ c.if-not-agree_type.true q (pair_parts _ _ _ _ b).1)
 
-pub overflow_add-at-in-loop-left : goal.overflow_add-at-in-loop-left
-overflow_add-at-in-loop-left c = omega (arith, c.loop-left.invariant.small)
-
-pub overflow_add-at2-in-loop-left : goal.overflow_add-at2-in-loop-left
-overflow_add-at2-in-loop-left c = omega (arith, c.loop-left.invariant.small')
-
-pub loop-left-preserved : goal.loop-left-preserved
+pub loop-at-preserved : goal.loop-at-preserved
 unfolding w
-loop-left-preserved c =
-    let q = rw (c.cell.ensures, c.cell-in-loop-left.ensures) at c.agree_type.ensures in
-    step param_lists c.if-r-r2.false c.loop-left.invariant c.loop-left-test.true (pair_agree (c.agree_token_at.ensures.holds c.if-not-agree_token_at.false) (q.holds c.if-not-agree_type.false))
+loop-at-preserved c =
+    let q = rw (c.cell.ensures, c.cell-in-loop-at.ensures) at c.agree_type.ensures in
+    next param_lists _ _ c.next.new.self c.in-Some-2.ensures.steps c.loop-at.invariant (pair_agree (c.agree_token_at.ensures.holds c.if-not-agree_token_at.false) (q.holds c.if-not-agree_type.false))
 
 pub returns : goal.returns
-returns c = done param_lists c.if-r-r2.false c.loop-left.invariant (omega arith)
+returns c = over param_lists c.loop-at.invariant c.in-None.ensures.steps.0

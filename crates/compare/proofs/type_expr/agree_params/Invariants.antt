@@ -1,10 +1,7 @@
 -- The members before the place agree.
 use Rattle.compare.specs.Shapes.{type_env}
-use Rattle.compare.proofs.Listing.{param_lists, Walking}
+use Rattle.compare.proofs.Listing.{param_lists, Paired}
 use Rattle.compare.proofs.type_expr.agree_params.Given as goal
 
-abbrev pub invariant-loop-left : goal.invariant-loop-left
-invariant-loop-left l = Walking param_lists (type_env l.s.now l.cells.now l.types.now l.n) (type_env l.s2.now l.cells2.now l.types2.now l.m) l.initial.at l.initial.at2 l.initial.left l.at l.at2 l.left
-
-abbrev pub decreases-loop-left : goal.decreases-loop-left
-decreases-loop-left l = l.left
+abbrev pub invariant-loop-at : goal.invariant-loop-at
+invariant-loop-at l = Paired param_lists (type_env l.a.script.now l.a.cells.now l.a.types.now l.fn.n) (type_env l.b.script.now l.b.cells.now l.b.types.now l.fn.m) l.fn.r l.fn.r2 l.at-iterator

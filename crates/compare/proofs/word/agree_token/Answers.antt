@@ -14,21 +14,21 @@ pub returns-in_default : goal.returns-in_default
 returns-in_default c = rw c.spelling_len.ensures (agree_fixed _ _ _ _ c.if-t-t2.false (sym c.spelling.ensures ∙ c.in_default.is))
 
 pub returns-in_default-spelling : goal.returns-in_default-spelling
-returns-in_default-spelling c = decides_no (agree_lost _ _ _ _ c.if-t-t2.false _ (sym c.spelling.ensures ∙ c.in-At.is) (sym c.spelling-2.ensures ∙ c.in_default-spelling.is))
+returns-in_default-spelling c = decides_no (agree_lost _ _ _ _ c.if-t-t2.false _ (sym c.spelling.ensures ∙ c.in-Some.is) (sym c.spelling-2.ensures ∙ c.in_default-spelling.is))
 
 pub overflow_add-a_end : goal.overflow_add-a_end
-overflow_add-a_end c = omega (arith, (spelling-found _ _ _ (sym c.spelling.ensures ∙ c.in-At.is)).1)
+overflow_add-a_end c = omega (arith, (spelling-found _ _ _ (sym c.spelling.ensures ∙ c.in-Some.is)).1)
 
 pub overflow_add-b_end : goal.overflow_add-b_end
-overflow_add-b_end c = omega (arith, (spelling-found _ _ _ (sym c.spelling-2.ensures ∙ c.in-At-spelling.is)).1)
+overflow_add-b_end c = omega (arith, (spelling-found _ _ _ (sym c.spelling-2.ensures ∙ c.in-Some-spelling.is)).1)
 
 pub slice_bounds-same_bytes-end : goal.slice_bounds-same_bytes-end
-slice_bounds-same_bytes-end c = (spelling-found _ _ _ (sym c.spelling.ensures ∙ c.in-At.is)).1
+slice_bounds-same_bytes-end c = (spelling-found _ _ _ (sym c.spelling.ensures ∙ c.in-Some.is)).1
 
 pub slice_bounds-same_bytes-end-2 : goal.slice_bounds-same_bytes-end-2
-slice_bounds-same_bytes-end-2 c = (spelling-found _ _ _ (sym c.spelling-2.ensures ∙ c.in-At-spelling.is)).1
+slice_bounds-same_bytes-end-2 c = (spelling-found _ _ _ (sym c.spelling-2.ensures ∙ c.in-Some-spelling.is)).1
 
 pub returns : goal.returns
 returns c =
-    agree_spelled _ _ _ _ c.if-t-t2.false _ _ (sym c.spelling.ensures ∙ c.in-At.is) (sym c.spelling-2.ensures ∙ c.in-At-spelling.is)
+    agree_spelled _ _ _ _ c.if-t-t2.false _ _ (sym c.spelling.ensures ∙ c.in-Some.is) (sym c.spelling-2.ensures ∙ c.in-Some-spelling.is)
     (rw (simp add-sub_cancel_left at c.same_bytes.ensures) (same_bytes_lem _ _))

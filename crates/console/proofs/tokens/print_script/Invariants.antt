@@ -3,4 +3,4 @@ use Rattle.console.proofs.tokens.print_script.Given as goal
 
 -- each step moves forward
 abbrev pub decreases-loop-token : goal.decreases-loop-token
-decreases-loop-token g l = length l.script - l.p
+decreases-loop-token g l = length l.script - l.at

@@ -1,10 +1,8 @@
 -- `line_end` meets its contract.
--- Assumes nothing.
-use mathlib.Core.Path.{refl}
-use Rattle.lex.specs.Bytes.{before, in_set}
-use Rattle.lex.proofs.Laws.{run-all}
+use Rattle.std.proofs.Common.{rules}
+use Rattle.lex.specs.Bytes.{before, differs_from}
 use Rattle.lex.proofs.byte_search.line_end.Goals as goal
 
 pub returns : goal.returns
-unfolding before in_set
-returns c = run-all _ (in_set 3 10) (λ b. refl) _ _ c.skip_set.ensures
+unfolding before differs_from
+returns c = c.count_run.ensures.run (differs_from 10) (λ b r e. search rules)

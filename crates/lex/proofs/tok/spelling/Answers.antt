@@ -5,7 +5,7 @@ use Prim.Native.Nat.{ℕ, ◌+◌}
 use mathlib.Core.Path.{sym, ap, ◌∙◌}
 use native.Mathlib.Omega.{arith}
 use borrow.Author.Rules.{part_to_end}
-use Rattle.lex.specs.declared.byte_search.Found.TheVariants.{At}
+use Rattle.std.specs.Prelude.{Some}
 use Rattle.lex.specs.Spelling.{spelling_start}
 use Rattle.lex.proofs.Spellings.{no-spelling-below, no-spelling_above, has_spelling_lem, spelling_other, spelling_outside, spelling-inside}
 use Rattle.lex.proofs.tok.spelling.Goals as goal
@@ -32,5 +32,5 @@ pub returns : goal.returns
 unfolding spelling_start
 returns c =
     let offset = rw part_to_end at c.spelling_offset-offset.ensures in
-    ap At (ap (λ (n : ℕ). c.args.t.start + n) offset)
+    ap Some (ap (λ (n : ℕ). c.args.t.start + n) offset)
     ∙ sym (spelling-inside c.args.script.now c.args.t (has_spelling_lem c.args.t.kind (omega arith) (omega arith)) (omega (arith, offset)))

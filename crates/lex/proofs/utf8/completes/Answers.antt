@@ -30,11 +30,6 @@ returns-then-more-eq1 c =
       more_in_bounds = λ e. omega (arith, nonzero_inside c.args.bytes.now c.args.at (omega arith));
     }
 
-pub overflow_add-at : goal.overflow_add-at
-overflow_add-at c =
-    let low = rw c.peek-b.ensures at c.if-b-low.false in
-    omega (arith, nonzero_inside c.args.bytes.now c.args.at (omega arith))
-
 pub returns-then-not-is_between : goal.returns-then-not-is_between
 returns-then-not-is_between c =
     let first = within _ _ _ (rw c.peek-b.ensures at c.if-b-low.false) (rw c.peek-b.ensures at c.if-high-b.false) in
@@ -52,11 +47,6 @@ returns-then-more-eq2 c =
       result_value = sym second ∙ second_last c.args.bytes.now c.args.at _ _ _ c.requires.2 first c.if-more-eq2.true;
       more_in_bounds = λ e. omega (arith, nonzero_inside c.args.bytes.now (c.args.at + 1) (omega (arith, from_low _ _ _ second)));
     }
-
-pub overflow_add-at-2 : goal.overflow_add-at-2
-overflow_add-at-2 c =
-    let second = ap (between 0x80 0xbf) (sym c.peek.ensures) ∙ sym c.is_between.ensures ∙ c.if-not-is_between.false in
-    omega (arith, nonzero_inside c.args.bytes.now (c.args.at + 1) (omega (arith, from_low _ _ _ second)))
 
 pub returns : goal.returns
 returns c =

@@ -3,28 +3,16 @@
 use mathlib.Core.Path.{◌∙◌, sym}
 use native.Mathlib.Omega.{arith}
 use borrow.Author.Rules.{rules}
-use Rattle.lex.specs.Bytes.{in_set}
-use Rattle.lex.proofs.Characters.{plain-front, lead_asks, lead_two, char_single, char_invalid, char_whole, char_cut, char_end}
+use Rattle.lex.proofs.Characters.{is_ascii, ascii-front, lead_asks, lead_two, char_single, char_invalid, char_whole, char_cut, char_end}
 use Rattle.lex.proofs.utf8.is_utf8.Goals as goal
 
 pub loop-i-init : goal.loop-i-init
-unfolding in_set
-loop-i-init c = plain-front 0x80 c.args.bytes.now _ c.skip_set-i.ensures
+loop-i-init c = ascii-front c.args.bytes.now _ (c.count_run-i.ensures.run is_ascii (λ b r e. search rules))
 
 pub returns-then-not-completes : goal.returns-then-not-completes
 returns-then-not-completes c =
     char_cut c.args.bytes.now _ _ c.loop-i.invariant.1 c.loop-i-test.true _ _ _ (lead_two _ (sym c.is_between.ensures ∙ c.if-is_between.true))
     (sym c.if-not-completes.true ∙ c.completes.ensures.result_value)
-
-pub overflow_add-i-then-is_between : goal.overflow_add-i-then-is_between
-overflow_add-i-then-is_between c =
-    let inside = c.completes.ensures.more_in_bounds c.if-not-completes.false in
-    omega arith
-
-pub loop-i-smaller-then-is_between : goal.loop-i-smaller-then-is_between
-loop-i-smaller-then-is_between c =
-    let inside = c.completes.ensures.more_in_bounds c.if-not-completes.false in
-    omega arith
 
 pub loop-i-preserved-then-is_between : goal.loop-i-preserved-then-is_between
 loop-i-preserved-then-is_between c =
@@ -44,26 +32,6 @@ pub returns-then-not-completes-2 : goal.returns-then-not-completes-2
 returns-then-not-completes-2 c =
     char_cut c.args.bytes.now _ _ c.loop-i.invariant.1 c.loop-i-test.true _ _ _ (sym c.after_lead.ensures ∙ c.in-Expecting.is)
     (sym c.if-not-completes-2.true ∙ c.completes-in-Expecting.ensures.result_value)
-
-pub overflow_cast-i : goal.overflow_cast-i
-overflow_cast-i c =
-    let few = (lead_asks _ _ _ _ (sym c.after_lead.ensures ∙ c.in-Expecting.is)).1 in
-    omega arith
-
-pub overflow_add-i-in-Expecting-2 : goal.overflow_add-i-in-Expecting-2
-overflow_add-i-in-Expecting-2 c =
-    let few = (lead_asks _ _ _ _ (sym c.after_lead.ensures ∙ c.in-Expecting.is)).1 in
-    omega arith
-
-pub overflow_add-i-in-Expecting-3 : goal.overflow_add-i-in-Expecting-3
-overflow_add-i-in-Expecting-3 c =
-    let inside = c.completes-in-Expecting.ensures.more_in_bounds c.if-not-completes-2.false in
-    omega arith
-
-pub loop-i-smaller : goal.loop-i-smaller
-loop-i-smaller c =
-    let inside = c.completes-in-Expecting.ensures.more_in_bounds c.if-not-completes-2.false in
-    omega arith
 
 pub loop-i-preserved : goal.loop-i-preserved
 loop-i-preserved c =

@@ -1,11 +1,13 @@
 -- `listing::forms::write_token` meets its contract.
 use Rattle.listing.specs.Text.{fields, token}
-use Rattle.text.proofs.EmitLaws.{then, same_size}
+use Rattle.text.proofs.EmitLaws.{and_then}
+use Rattle.listing.proofs.EmitLaws.{done, fails, unlisted-first, unlisted-then}
 use Rattle.listing.proofs.forms.write_token.Goals as goal
+
+pub returns-in_err-write_kind : goal.returns-in_err-write_kind
+unfolding token
+returns-in_err-write_kind c = fails c.from_residual.ensures.0 (unlisted-then c.write_byte.ensures (unlisted-first c.in_err-write_kind.ensures.answers _))
 
 pub returns : goal.returns
 unfolding token fields
-returns c = (then c.write_gap-a.ensures (then c.write_byte-b.ensures (then c.write_kind-c.ensures (then c.write_number-d.ensures (then c.write_number-e.ensures c.write_byte.ensures)))))
-
-pub shape_of-out : goal.shape_of-out
-shape_of-out c = same_size (returns c)
+returns c = done (and_then c.write_byte.ensures (and_then c.in_ok-write_kind.ensures.answers (and_then c.write_next_number.ensures (and_then c.write_next_number-2.ensures c.write_byte-2.ensures))))

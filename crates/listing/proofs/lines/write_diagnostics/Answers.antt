@@ -1,17 +1,14 @@
 -- `listing::lines::write_diagnostics` meets its contract.
-use native.Mathlib.Omega.{arith}
-use Rattle.text.proofs.EmitLaws.{same_size}
-use Rattle.listing.proofs.EmitLaws.{members-none, members-next, members-all}
+use Rattle.text.specs.Text.{bytes}
+use Rattle.listing.proofs.EmitLaws.{each-none, each-next, each-all}
 use Rattle.listing.proofs.lines.write_diagnostics.Goals as goal
 
 pub loop-i-init : goal.loop-i-init
-loop-i-init c = members-none
+loop-i-init c = each-none _
 
 pub loop-i-preserved : goal.loop-i-preserved
-loop-i-preserved c = members-next c.loop-i.invariant c.write_diagnostic-to.ensures (omega arith)
+unfolding bytes
+loop-i-preserved c = each-next _ c.loop-i.invariant (rw c.diagnostic_at.ensures at c.write_diagnostic.ensures)
 
 pub returns : goal.returns
-returns c = members-all c.loop-i.invariant (omega arith)
-
-pub shape_of-out : goal.shape_of-out
-shape_of-out c = same_size (returns c)
+returns c = each-all _ c.loop-i.auto.i-end c.loop-i-test.false c.loop-i.invariant

@@ -3,11 +3,11 @@ use Rattle.std.proofs.Common.{not, refl, sym, ap, ◌∙◌}
 use Rattle.parser.specs.Whole.{root_boundary, skips}
 use Rattle.parser.proofs.recovery.skips.Goals as goal
 
-pub returns-then-not-going : goal.returns-then-not-going
+pub returns-then-going : goal.returns-then-going
 unfolding skips
-returns-then-not-going c = rw (sym c.going.ensures ∙ c.if-not-going.true) refl
+returns-then-going c =
+    rw (sym c.going.ensures ∙ c.if-going.true, skips) (ap not (c.is_root_boundary.ensures ∙ ap root_boundary c.kind.ensures))
 
-pub returns : goal.returns
+pub returns-else-going : goal.returns-else-going
 unfolding skips
-returns c =
-    rw (sym c.going.ensures ∙ c.if-not-going.false) (ap not (c.is_root_boundary.ensures ∙ ap root_boundary c.kind.ensures))
+returns-else-going c = c.if-going.false ∙ rw (sym c.going.ensures ∙ c.if-going.false, skips) refl

@@ -1,28 +1,28 @@
 -- `parser::recovery::synchronize_root` meets its contract.
-use Rattle.std.proofs.Common.{◌≡◌, true, [], refl, sym, ◌∙◌}
+use Rattle.std.proofs.Common.{◌≡◌, true, refl, sym, ◌∙◌}
 use Rattle.parser_state.proofs.Rounds.{round_start, round_again, round_last, again_of, last_of, lighter}
 use Rattle.parser.specs.Whole.{synchronizing}
 use Rattle.parser.proofs.Synchronize.{skips-both, skips-some, continues, breaks_past, breaks_before}
 use Rattle.parser.proofs.recovery.synchronize_root.Goals as goal
 
 pub loop-p-init : goal.loop-p-init
-loop-p-init c = λ nodes types lists. round_start
+loop-p-init c = round_start
 
 pub advance-requires : goal.advance-requires
 advance-requires c = skips-some _ (sym c.skips.ensures ∙ c.loop-p-test.true)
 
 pub loop-p-smaller : goal.loop-p-smaller
-loop-p-smaller c = lighter (skips-both _ (sym c.skips.ensures ∙ c.loop-p-test.true)).0 (c.advance.ensures [] [] [])
+loop-p-smaller c = lighter (skips-both _ (sym c.skips.ensures ∙ c.loop-p-test.true)).0 c.advance.ensures
 
 pub loop-p-preserved : goal.loop-p-preserved
 loop-p-preserved c =
     let on : _ ≡ true = sym c.skips.ensures ∙ c.loop-p-test.true in
-    λ nodes types lists. round_again (c.loop-p.invariant nodes types lists) (skips-both _ on).0 (again_of _ (continues on (c.advance.ensures nodes types lists)))
+    round_again c.loop-p.invariant (skips-both _ on).0 (again_of _ (continues on c.advance.ensures))
 
 pub returns-then-kind-eq-CURLY_RIGHT : goal.returns-then-kind-eq-CURLY_RIGHT
 unfolding synchronizing
-returns-then-kind-eq-CURLY_RIGHT c = λ nodes types lists. round_last (c.loop-p.invariant nodes types lists) (λ stack. refl) (last_of _ (breaks_past (c.advance-then-kind-eq-CURLY_RIGHT.ensures nodes types lists) (sym c.kind.ensures ∙ c.if-kind-eq-CURLY_RIGHT.true)))
+returns-then-kind-eq-CURLY_RIGHT c = round_last c.loop-p.invariant (λ stack. refl) (last_of _ (breaks_past c.advance-then-kind-eq-CURLY_RIGHT.ensures (sym c.kind.ensures ∙ c.if-kind-eq-CURLY_RIGHT.true)))
 
 pub returns-else-kind-eq-CURLY_RIGHT : goal.returns-else-kind-eq-CURLY_RIGHT
 unfolding synchronizing
-returns-else-kind-eq-CURLY_RIGHT c = λ nodes types lists. round_last (c.loop-p.invariant nodes types lists) (λ stack. refl) (last_of _ (breaks_before _ (sym c.skips.ensures ∙ c.loop-p-test.false) (λ e. c.if-kind-eq-CURLY_RIGHT.false (c.kind.ensures ∙ e))))
+returns-else-kind-eq-CURLY_RIGHT c = round_last c.loop-p.invariant (λ stack. refl) (last_of _ (breaks_before _ (sym c.skips.ensures ∙ c.loop-p-test.false) (λ e. c.if-kind-eq-CURLY_RIGHT.false (c.kind.ensures ∙ e))))

@@ -1,13 +1,13 @@
 -- Each round passes over a token.
-use Rattle.std.proofs.Common.{◌≡◌, ℕ, List, []}
+use Rattle.std.proofs.Common.{◌≡◌}
 use Rattle.rules.specs.Parse.{synchronize_step}
-use Rattle.parser_state.specs.Represents.{parser_of, code}
+use Rattle.parser_state.specs.Represents.{code_of}
 use Rattle.parser_state.specs.Refines.{stack_unchanged}
 use Rattle.parser_state.proofs.Rounds.{LoopInvariant, weight}
 use Rattle.parser.proofs.recovery.synchronize_root.Given as goal
 
 abbrev pub invariant-loop-p : goal.invariant-loop-p
-invariant-loop-p l = (nodes types lists : List ℕ) → LoopInvariant l.tokens synchronize_step stack_unchanged 0 (λ n. n ≡ 0) (code nodes types lists (parser_of l.fn.p)) (code nodes types lists (parser_of l.p))
+invariant-loop-p l = LoopInvariant l.tokens synchronize_step stack_unchanged 0 (λ n. n ≡ 0) (code_of l.fn.p) (code_of l.p)
 
 abbrev pub decreases-loop-p : goal.decreases-loop-p
-decreases-loop-p l = weight l.tokens (code [] [] [] (parser_of l.p))
+decreases-loop-p l = weight l.tokens (code_of l.p)

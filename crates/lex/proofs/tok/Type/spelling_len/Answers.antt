@@ -1,16 +1,13 @@
--- `spelling_len` meets its contract: the table has the lengths of the fixed spellings, which antt
--- computes.
--- Assumes nothing.
-use mathlib.Core.Path.{sym, ap}
-use mathlib.Core.List.{[]}
-use lib.ListN.{length, get_or-map, get_or-eq_default}
+-- `Type::spelling_len` meets its contract: the table has the fixed spellings, which antt computes.
+use Rattle.std.proofs.Common.{length, ap, sym}
+use lib.ListN.{get_or-eq_default}
 use Rattle.lex.specs.Kind.{keywords, fixed_spellings, fixed_spelling}
 use Rattle.lex.proofs.tok.Type.spelling_len.Goals as goal
 
-pub returns-then-kind-lt44 : goal.returns-then-kind-lt44
+pub returns-in-Some : goal.returns-in-Some
 unfolding fixed_spelling fixed_spellings keywords
-returns-then-kind-lt44 c = get_or-map length fixed_spellings c.args.kind []
+returns-in-Some c = ap length c.in-Some.ensures.1
 
-pub returns-else-kind-lt44 : goal.returns-else-kind-lt44
+pub returns-in-None : goal.returns-in-None
 unfolding fixed_spelling fixed_spellings keywords
-returns-else-kind-lt44 c = sym (ap length (get_or-eq_default fixed_spellings [] c.if-kind-lt44.false))
+returns-in-None c = sym (ap length (get_or-eq_default fixed_spellings _ c.in-None.ensures))

@@ -1,0 +1,6 @@
+-- `parser_state::Parser::fail_at` meets its contract.
+use Rattle.parser_state.proofs.Leaves.{failing_before}
+use Rattle.parser_state.proofs.Parser.fail_at.Goals as goal
+
+pub returns : goal.returns
+returns c = failing_before _ c.args.at _ c.token_at-t.ensures c.fail_with.ensures

@@ -1,0 +1,6 @@
+-- `parser_state::Parser::fail_expecting` meets its contract.
+use Rattle.parser_state.proofs.Leaves.{failing}
+use Rattle.parser_state.proofs.Parser.fail_expecting.Goals as goal
+
+pub returns : goal.returns
+returns c = λ tokens. failing c.fail_with.ensures

@@ -1,0 +1,8 @@
+-- `parser_state::Parser::push_field` meets its contract.
+use Rattle.std.proofs.Common.{refl, arith}
+use Rattle.ast.specs.Layout.{token_cells, run_cells, node_cells}
+use Rattle.parser_state.proofs.Parser.push_field.Goals as goal
+
+pub returns : goal.returns
+unfolding node_cells token_cells run_cells
+returns c = λ tokens. c.push_node.ensures tokens _ 1 (omega arith) refl

@@ -1,7 +1,0 @@
--- `parser_state::push_named` meets its contract.
-use Rattle.ast.specs.Layout.{token_cells}
-use Rattle.parser_state.proofs.push_named.Goals as goal
-
-pub returns : goal.returns
-unfolding token_cells
-returns c = λ tokens nodes types. c.push_cells.ensures tokens nodes types
