@@ -1,15 +1,18 @@
 // The tables and tests of items and expressions, and the nodes with none below them.
 #![tactic(auto)]
 
-ghost use Rattle.std.specs.Prelude.{◌≡◌, List, [], ◌∷◌, ◌++◌, ℕ, ◌<◌, get_or};
+ghost use Rattle.std.specs.Prelude.{◌≡◌, List, ◌∷◌, ◌++◌, ℕ, ◌<◌, get_or};
 ghost use Rattle.tokens.specs.Table.{token_of, token_at};
 ghost use Rattle.rules.specs.Combinators.{push_node};
 ghost use Rattle.ast.specs.Layout.{token_cells, run_cells};
 ghost use Rattle.ast.specs.declared.Node.TheVariants as N;
 ghost use Rattle.rules.specs.Rules.{atom, ident, field_access, cast, breaks_off};
 ghost use Rattle.parser_state.specs.Represents.{reading, code_of};
-ghost use Rattle.parser_state.specs.Refines.{Refines, stack_unchanged, ReadsNode, ReadsStep, Pushes, Rules, deeper};
-ghost use Rattle.parser_operators.specs.Tests.{operand_class, class_number, operator_of, left_powers, begins_expr, call_at, postfix_follows, infix_follows};
+ghost use Rattle.parser_state.specs.Refines.{Refines, stack_unchanged, ReadsNode, ReadsStep};
+ghost use Rattle.parser_state.specs.Refines.{Pushes, Rules, deeper};
+ghost use Rattle.parser_operators.specs.Tests.{operand_class, class_number, operator_of};
+ghost use Rattle.parser_operators.specs.Tests.{left_powers, begins_expr, call_at, postfix_follows};
+ghost use Rattle.parser_operators.specs.Tests.{infix_follows};
 ghost use Rattle.parser_operators.specs.Matches.{default_of, match_node};
 
 use ast::{Node, NodeId, NodeKind, Run, TypeExprId};
@@ -38,8 +41,8 @@ pub enum Operand {
     Sign,
 }
 
-// What begins an operand; none where the kind begins none. A `match`, which is compiled to one jump:
-// a constant array would be written out at each use.
+// What begins an operand; none where the kind begins none. A `match`, which is compiled to one
+// jump: a constant array would be written out at each use.
 #[tactic(auto, unfolding(crate::specs::Tests::operand_class, rules::specs::Combinators::choose))]
 pub fn operand_class(kind: u32) -> Option<Operand>
     ensures { class_number result ≡ operand_class kind }
@@ -143,7 +146,7 @@ pub fn infix_follows(p: &Parser, script: &[u8], least: u32) -> bool
 
 // ---- nodes with none below them
 
-// An expr = atom
+// An expr = atom. Beside `ident`: three lines each, each named by its rule.
 pub fn atom(p: &mut Parser, tokens: &[u32]) -> NodeId
     requires { 1 < p.old.cur.kind }
     ensures { ReadsNode tokens.now atom (code_of p.old) (code_of p.new) result }
@@ -222,8 +225,8 @@ pub fn push_case(p: &mut Parser, t: Entry, n: NodeId, body: Run)
     p.push_cells(&[body.len, body.start, n.0, t.len, t.start, t.kind]);
 }
 
-// The node of a match, record `at` being that of the token after `match`; the reading fails where it
-// has no default.
+// The node of a match, record `at` being that of the token after `match`; the reading fails where
+// it has no default.
 pub fn match_node(
     p: &mut Parser,
     tokens: &[u32],
