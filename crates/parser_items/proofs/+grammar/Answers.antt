@@ -77,7 +77,7 @@ items-loop-p-init t c = midway_start
 
 pub items-loop-p-preserved : goal.items-loop-p-preserved
 unfolding node_member
-items-loop-p-preserved t c = midway_turn c.loop-p.invariant (sym c.member_follows.ensures ∙ c.loop-p-test.true) (enough (seq _ c.member-n.ensures (c.push_cell.ensures _)) tt) c.wrapping_add_u32-members.ensures.value
+items-loop-p-preserved t c = midway_turn c.loop-p.invariant (sym c.member_follows.ensures ∙ c.loop-p-test.true) (enough (seq _ c.member-n.ensures (c.push_cell.ensures _)) tt) refl
 
 pub items-returns : goal.items-returns
 items-returns t c = midway_end c.loop-p.invariant (sym c.member_follows.ensures ∙ c.loop-p-test.false) refl c.close.ensures.0
@@ -105,7 +105,7 @@ pub next_case-returns-then-kind-eq-CURLY_LEFT : goal.next_case-returns-then-kind
 next_case-returns-then-kind-eq-CURLY_LEFT t c = default_again _ c.args.d c.requires refl (sym c.kind.ensures ∙ c.if-kind-eq-CURLY_LEFT.true) c.parse_body-run.ensures
 
 pub next_case-returns : goal.next_case-returns
-next_case-returns t c = condition_again _ c.args.d c.requires (λ e. c.if-kind-eq-CURLY_LEFT.false (c.kind.ensures ∙ e)) c.condition.ensures c.wrapping_add_u32.ensures.value
+next_case-returns t c = condition_again _ c.args.d c.requires (λ e. c.if-kind-eq-CURLY_LEFT.false (c.kind.ensures ∙ e)) c.condition.ensures refl
 
 pub condition-returns : goal.condition-returns
 unfolding case_cells
@@ -174,7 +174,7 @@ pub inits-loop-p-init : goal.inits-loop-p-init
 inits-loop-p-init t c = midway_start
 
 pub inits-loop-p-preserved : goal.inits-loop-p-preserved
-inits-loop-p-preserved t c = midway_turn c.loop-p.invariant (sym c.member_follows.ensures ∙ c.loop-p-test.true) c.field.ensures c.wrapping_add_u32-members.ensures.value
+inits-loop-p-preserved t c = midway_turn c.loop-p.invariant (sym c.member_follows.ensures ∙ c.loop-p-test.true) c.field.ensures refl
 
 pub inits-returns : goal.inits-returns
 inits-returns t c = midway_end c.loop-p.invariant (sym c.member_follows.ensures ∙ c.loop-p-test.false) refl c.close.ensures.0
@@ -192,7 +192,7 @@ elems-loop-p-init t c = midway_start
 
 pub elems-loop-p-preserved : goal.elems-loop-p-preserved
 unfolding node_member
-elems-loop-p-preserved t c = midway_turn c.loop-p.invariant (sym c.member_follows.ensures ∙ c.loop-p-test.true) (enough (seq _ c.parse_expr-n.ensures (c.push_cell.ensures _)) tt) c.wrapping_add_u32-members.ensures.value
+elems-loop-p-preserved t c = midway_turn c.loop-p.invariant (sym c.member_follows.ensures ∙ c.loop-p-test.true) (enough (seq _ c.parse_expr-n.ensures (c.push_cell.ensures _)) tt) refl
 
 pub elems-returns : goal.elems-returns
 elems-returns t c = midway_end c.loop-p.invariant (sym c.member_follows.ensures ∙ c.loop-p-test.false) refl c.close.ensures.0
