@@ -1,5 +1,8 @@
 -- What a reading promises, from how the roots end.
-use Rattle.std.specs.Prelude.{Some, None, Result as Answered, Ok, Err}
+use Rattle.std.specs.Prelude.{Some, None, Result as Answered, Ok, Err, MatchResult, IsErrAnd}
+use Rattle.std.specs.Result.{is_ok}
+use Rattle.ast.specs.declared.ReadError.{ReadError}
+use Rattle.ast.specs.declared.ReadError.TheVariants.{Refused}
 use mathlib.Core.Path.{◌≡◌, refl, sym, ap, ◌∙◌}
 use mathlib.Core.Bool.{Bool, true, false}
 use mathlib.Core.List.{List, [], ◌++◌, map, flatten}
@@ -17,7 +20,7 @@ use Rattle.lex.specs.declared.diagnostic.Refusal.{Refusal}
 use Rattle.lex.specs.declared.diagnostic.Refusal.TheVariants.{TooLong, TooShort, Outside, Malformed, LineTooShort, NoWords, NotCut, SheetTooShort, TooManyLines, PracticeTooShort, PositionsFall, PlacesTooShort}
 use Rattle.lex.specs.declared.diagnostic.Diagnostic.{Diagnostic}
 use Rattle.tokens.specs.Tables as T
-use Rattle.tokens.specs.Tables.{token_width, error_width, token_table, error_table, is_cut}
+use Rattle.tokens.specs.Tables.{token_table, error_table, is_cut}
 use Rattle.tokens.proofs.Promised as TP
 use Rattle.rules.specs.Tree.{State, Result, ok, err}
 use Rattle.rules.specs.Rules.{stage_one}
@@ -160,9 +163,15 @@ some_number PositionsFall e = omega arith
 some_number PlacesTooShort e = omega arith
 
 -- what is not refused has the number 0
-pub unrefused : {n : ℕ} (r : Answered (Unit {0}) Refusal) → ((x : Refusal) → r ≡ Err x → ⊥) → refusal_number r ≡ n → 0 ≡ n
-unrefused (Ok u) f e = e
-unrefused (Err x) f e = absurd (f x refl)
+pub unrefused : {n : ℕ} (r : Answered (Unit {0}) Refusal) → true ≡ is_ok r → refusal_number r ≡ n → 0 ≡ n
+unrefused (Ok u) e f = f
+unrefused (Err x) e f = absurd (true≢false (sym e) refl)
+
+-- a refusal that is handed on as the error of a reading
+pub handed_on : (r : Answered (Unit {0}) Refusal) (x : ReadError) → MatchResult r (λ u. ◌≡◌ {A = Answered (Unit {0}) ReadError} (Err x) (Ok u)) (λ d. IsErrAnd {T = Unit {0}} (Err x) (λ y. y ≡ Refused d))
+    → (d : Refusal) × (r ≡ Err d) × (x ≡ Refused d)
+handed_on (Ok u) x h = absurd (cc)
+handed_on (Err d) x h = (d, refl, h)
 
 abbrev refusal_of : List ℕ → List ℕ → List ℕ → Arrays → ℕ
 refusal_of script tokens errors l = refusal (length script) (length l.nodes) (length l.types) (length l.lists) (length l.roots) (length l.diagnostics) (length tokens) (length errors)

@@ -3,7 +3,7 @@
 
 mod recovery;
 
-ghost use Rattle.std.specs.Prelude.{◌≡◌, true, List, [], ◌++◌, ℕ, ◌*◌, ◌-◌, ◌≤◌, length, take};
+ghost use Rattle.std.specs.Prelude.{◌≡◌, true, List, [], ℕ, ◌*◌, ◌≤◌, length};
 ghost use Rattle.lex.specs.Cells.{zeros, padded};
 ghost use Rattle.lex.specs.Kind.{k_eof};
 ghost use Rattle.lex.specs.Lex.{cut, tokens_of};
@@ -14,13 +14,16 @@ ghost use Rattle.rules.specs.Tree.{State};
 ghost use Rattle.ast.specs.Layout.{node_width, type_width, diagnostic_width};
 ghost use Rattle.ast.specs.Answer.{refusal_number};
 ghost use Rattle.rules.specs.Rules.{stage_one};
-ghost use Rattle.rules.specs.Parse.{Gathered, begin, parse_roots, parse, recover as recover_rule, parse_roots_collect, parse_collect};
+ghost use Rattle.rules.specs.Parse.{Gathered, begin, parse_roots, parse, recover as recover_rule};
+ghost use Rattle.rules.specs.Parse.{parse_roots_collect, parse_collect};
 ghost use Rattle.rules.specs.Parsed.{parsed_of};
 ghost use Rattle.rules.specs.Promise.{arrays_of, outcome};
 ghost use Rattle.parser_state.specs.Represents.{reading, code_of, Represents, FailedAt};
 ghost use Rattle.parser_state.specs.Refines.{Refines, stack_unchanged, member_follows};
-ghost use Rattle.parser.specs.Whole.{refusal, not_read, behind, Begun, FirstToken, RootPushed, RootsEnd, drop_docs};
-ghost use Rattle.parser.specs.Collect.{collected, GatheredAre, Room, TurnEnds, collect_step, CollectEnds};
+ghost use Rattle.parser.specs.Whole.{refusal, not_read, behind, Begun, FirstToken, RootPushed};
+ghost use Rattle.parser.specs.Whole.{RootsEnd, drop_docs};
+ghost use Rattle.parser.specs.Collect.{collected, GatheredAre, Room, TurnEnds, collect_step};
+ghost use Rattle.parser.specs.Collect.{CollectEnds};
 ghost use Rattle.parser.specs.Steps.{read_promised, parse_promised};
 
 use crate::recovery::{resume, synchronize_root};
@@ -206,9 +209,9 @@ fn recover(
     resume(p);
     synchronize_root(p, tokens);
     Gathering {
-        members: c.members,
         diagnostics: n,
         listed: faults.errors,
+        ..c
     }
 }
 
@@ -237,11 +240,7 @@ fn collect_root(
     let n = member(p, source, Parser::MAX_LEVELS);
     if p.going() {
         let members = push_root(roots, p, c.members, n);
-        return Gathering {
-            members,
-            diagnostics: c.diagnostics,
-            listed: c.listed,
-        };
+        return Gathering { members, ..c };
     }
     recover(p, source.tokens, errors, diagnostics, c)
 }
@@ -280,13 +279,23 @@ fn parse_roots_collect(
     let faults = push_faults(errors, diagnostics, c.diagnostics, c.listed, p.at);
     drop_docs(p);
     Gathering {
-        members: c.members,
         diagnostics: faults.diagnostics,
         listed: faults.errors,
+        ..c
     }
 }
 
 // ---- the two readings
+
+// What is used before anything is read.
+const NOTHING: Used = Used {
+    nodes: 0,
+    values: 0,
+    types: 0,
+    docs: 0,
+    cells: 0,
+    scratch: 0,
+};
 
 // program = prefix*, up to the first error, from the tables of the script.
 fn read_cut(
@@ -312,14 +321,7 @@ fn read_cut(
         lists,
         cur: token_at(tokens, 0),
         at: 0,
-        used: Used {
-            nodes: 0,
-            values: 0,
-            types: 0,
-            docs: 0,
-            cells: 0,
-            scratch: 0,
-        },
+        used: NOTHING,
         error: None,
     };
     let members = parse_roots(&mut p, &Source { script, tokens }, roots);
@@ -340,8 +342,8 @@ fn read_cut(
     })
 }
 
-// The same, each error gathered with the faults of the lexer in the order in which they are met; 10
-// ends it.
+// The same, each error gathered with the faults of the lexer in the order in which they are met;
+// 10 ends it.
 fn read_cut_collect(
     script: &[u8],
     tokens: &[u32],
@@ -368,14 +370,7 @@ fn read_cut_collect(
         lists,
         cur: token_at(tokens, 0),
         at: 0,
-        used: Used {
-            nodes: 0,
-            values: 0,
-            types: 0,
-            docs: 0,
-            cells: 0,
-            scratch: 0,
-        },
+        used: NOTHING,
         error: None,
     };
     let source = Source { script, tokens };
@@ -398,6 +393,9 @@ fn read_cut_collect(
 }
 
 // ---- the calls
+
+// Each call lends its eight arrays and makes its own promise: one generic call would repeat both.
+// The arrays stay eight parameters: C and list_script lend each of them by itself.
 
 // Refused by 1, 2 and 43, in this order, unless the tables are the script's and all is long enough.
 fn not_read(
@@ -450,7 +448,7 @@ pub fn read(
         errors.now before
         ≡ record { answer = parsed_of result; arrays = after } }
 {
-    if let Err(refused) = not_read(
+    not_read(
         script,
         tokens,
         errors,
@@ -459,9 +457,8 @@ pub fn read(
         lists,
         roots,
         diagnostics,
-    ) {
-        return Err(ReadError::Refused(refused));
-    }
+    )
+    .map_err(ReadError::Refused)?;
     read_cut(script, tokens, nodes, types, lists, roots, diagnostics)
 }
 
@@ -484,7 +481,7 @@ pub fn read_collect(
         errors.now before
         ≡ record { answer = parsed_of result; arrays = after } }
 {
-    if let Err(refused) = not_read(
+    not_read(
         script,
         tokens,
         errors,
@@ -493,9 +490,8 @@ pub fn read_collect(
         lists,
         roots,
         diagnostics,
-    ) {
-        return Err(ReadError::Refused(refused));
-    }
+    )
+    .map_err(ReadError::Refused)?;
     read_cut_collect(
         script,
         tokens,
@@ -532,7 +528,7 @@ pub fn parse(
           errors = errors.new;
         } }
 {
-    if let Err(refused) = refusal(
+    refusal(
         script,
         tokens,
         errors,
@@ -541,9 +537,8 @@ pub fn parse(
         lists,
         roots,
         diagnostics,
-    ) {
-        return Err(ReadError::Refused(refused));
-    }
+    )
+    .map_err(ReadError::Refused)?;
     let _ = cut(script, tokens, errors);
     read_cut(script, tokens, nodes, types, lists, roots, diagnostics)
 }
@@ -572,7 +567,7 @@ pub fn parse_collect(
           errors = errors.new;
         } }
 {
-    if let Err(refused) = refusal(
+    refusal(
         script,
         tokens,
         errors,
@@ -581,9 +576,8 @@ pub fn parse_collect(
         lists,
         roots,
         diagnostics,
-    ) {
-        return Err(ReadError::Refused(refused));
-    }
+    )
+    .map_err(ReadError::Refused)?;
     let _ = cut(script, tokens, errors);
     read_cut_collect(
         script,

@@ -5,9 +5,13 @@ ghost use Rattle.std.specs.Prelude.{◌≡◌, ◌<◌, true};
 ghost use Rattle.lex.specs.Kind.{k_curly_right, k_braket_right};
 ghost use Rattle.tokens.specs.Table.{token_at};
 ghost use Rattle.rules.specs.Combinators.{list_until, by_kind};
-ghost use Rattle.rules.specs.Rules.{node_member, item_by_kind, parse_let, parse_fn, parse_body, parse_match, next_case, field, record_literal, array_literal, group, unary, operand, call, postfix_step, postfix, binary, infix_step, infixes, prefix_power, stage_one};
+ghost use Rattle.rules.specs.Rules.{node_member, item_by_kind, parse_let, parse_fn, parse_body};
+ghost use Rattle.rules.specs.Rules.{parse_match, next_case, field, record_literal, array_literal};
+ghost use Rattle.rules.specs.Rules.{group, unary, operand, call, postfix_step, postfix, binary};
+ghost use Rattle.rules.specs.Rules.{infix_step, infixes, prefix_power, stage_one};
 ghost use Rattle.parser_state.specs.Represents.{reading, code_of};
-ghost use Rattle.parser_state.specs.Refines.{ReadsNode, ReadsStep, LoopsNode, ReadsList, ReadsMember, rules_of, deeper, member_follows};
+ghost use Rattle.parser_state.specs.Refines.{ReadsNode, ReadsStep, LoopsNode, ReadsList};
+ghost use Rattle.parser_state.specs.Refines.{ReadsMember, rules_of, deeper, member_follows};
 ghost use Rattle.parser_state.proofs.Rounds.{Again};
 ghost use Rattle.parser_operators.specs.Tests.{postfix_follows, infix_follows};
 ghost use Rattle.parser_operators.specs.Matches.{cases_grown, CasesAre, case_cells, match_rest};
@@ -126,7 +130,8 @@ fn parse_body(p: &mut Parser, source: &Source, levels: usize) -> Run
     items(p, source, Type::CURLY_RIGHT, levels)
 }
 
-// prefix*, up to a closing token: a body, or the arguments of a call.
+// prefix*, up to a closing token: a body, or the arguments of a call. Beside `inits` and `elems`:
+// the readers differ, and a call through a closure within this cycle gets no proof.
 #[cycle(grammar)]
 fn items(p: &mut Parser, source: &Source, stop: u32, levels: usize) -> Run
     requires { 1 < stop }
@@ -139,7 +144,7 @@ fn items(p: &mut Parser, source: &Source, stop: u32, levels: usize) -> Run
     while p.member_follows(stop) {
         let n = member(p, source, levels);
         p.push_cell(n.0);
-        members = std::num::wrapping_add_u32(members, 1);
+        members = members.wrapping_add(1);
     }
     p.close(source.tokens, stop, mark, members)
 }
@@ -205,7 +210,7 @@ fn next_case(
     condition(p, source, levels);
     CasesRead {
         default: d,
-        members: std::num::wrapping_add_u32(members, 1),
+        members: members.wrapping_add(1),
     }
 }
 
@@ -292,7 +297,7 @@ fn inits(p: &mut Parser, source: &Source, levels: usize) -> Run
     let mut members: u32 = 0;
     while p.member_follows(Type::CURLY_RIGHT) {
         field(p, source, levels);
-        members = std::num::wrapping_add_u32(members, 1);
+        members = members.wrapping_add(1);
     }
     p.close(source.tokens, Type::CURLY_RIGHT, mark, members)
 }
@@ -336,7 +341,7 @@ fn elems(p: &mut Parser, source: &Source, levels: usize) -> Run
     while p.member_follows(Type::BRAKET_RIGHT) {
         let n = parse_expr(p, source, 0, levels);
         p.push_cell(n.0);
-        members = std::num::wrapping_add_u32(members, 1);
+        members = members.wrapping_add(1);
     }
     p.close(source.tokens, Type::BRAKET_RIGHT, mark, members)
 }

@@ -1,15 +1,19 @@
 // The tables and tests of items and expressions, and the nodes with none below them.
 #![tactic(auto)]
 
-ghost use Rattle.std.specs.Prelude.{◌≡◌, List, [], ◌∷◌, ◌++◌, ℕ, ◌<◌, get_or};
+ghost use Rattle.std.specs.Prelude.{◌≡◌, List, ◌∷◌, ◌++◌, ℕ, ◌<◌, get_or};
 ghost use Rattle.tokens.specs.Table.{token_of, token_at};
 ghost use Rattle.rules.specs.Combinators.{push_node};
 ghost use Rattle.ast.specs.Layout.{token_cells, run_cells};
 ghost use Rattle.ast.specs.declared.Node.TheVariants as N;
 ghost use Rattle.rules.specs.Rules.{atom, ident, field_access, cast, breaks_off};
 ghost use Rattle.parser_state.specs.Represents.{reading, code_of};
-ghost use Rattle.parser_state.specs.Refines.{Refines, stack_unchanged, ReadsNode, ReadsStep, Pushes, Rules, deeper};
-ghost use Rattle.parser_operators.specs.Tests.{operand_class, class_number, operator_of, left_powers, begins_expr, call_at, postfix_follows, infix_follows};
+ghost use Rattle.parser_state.specs.Keeps.{KeepsNodesTypes, KeepsTypesLists};
+ghost use Rattle.parser_state.specs.Refines.{Refines, stack_unchanged, ReadsNode, ReadsStep};
+ghost use Rattle.parser_state.specs.Refines.{Pushes, Rules, deeper};
+ghost use Rattle.parser_operators.specs.Tests.{operand_class, class_number, operator_of};
+ghost use Rattle.parser_operators.specs.Tests.{left_powers, begins_expr, call_at, postfix_follows};
+ghost use Rattle.parser_operators.specs.Tests.{infix_follows};
 ghost use Rattle.parser_operators.specs.Matches.{default_of, match_node};
 
 use ast::{Node, NodeId, NodeKind, Run, TypeExprId};
@@ -38,8 +42,8 @@ pub enum Operand {
     Sign,
 }
 
-// What begins an operand; none where the kind begins none. A `match`, which is compiled to one jump:
-// a constant array would be written out at each use.
+// What begins an operand; none where the kind begins none. A `match`, which is compiled to one
+// jump: a constant array would be written out at each use.
 #[tactic(auto, unfolding(crate::specs::Tests::operand_class, rules::specs::Combinators::choose))]
 pub fn operand_class(kind: u32) -> Option<Operand>
     ensures { class_number result ≡ operand_class kind }
@@ -143,10 +147,11 @@ pub fn infix_follows(p: &Parser, script: &[u8], least: u32) -> bool
 
 // ---- nodes with none below them
 
-// An expr = atom
+// An expr = atom. Beside `ident`: three lines each, each named by its rule.
 pub fn atom(p: &mut Parser, tokens: &[u32]) -> NodeId
     requires { 1 < p.old.cur.kind }
-    ensures { ReadsNode tokens.now atom (code_of p.old) (code_of p.new) result }
+    ensures reads { ReadsNode tokens.now atom (code_of p.old) (code_of p.new) result }
+    ensures keeps { KeepsTypesLists p.old p.new }
 {
     let raw = p.cur;
     p.advance(tokens);
@@ -156,7 +161,8 @@ pub fn atom(p: &mut Parser, tokens: &[u32]) -> NodeId
 // An expr = ident
 pub fn ident(p: &mut Parser, tokens: &[u32]) -> NodeId
     requires { 1 < p.old.cur.kind }
-    ensures { ReadsNode tokens.now ident (code_of p.old) (code_of p.new) result }
+    ensures reads { ReadsNode tokens.now ident (code_of p.old) (code_of p.new) result }
+    ensures keeps { KeepsTypesLists p.old p.new }
 {
     let name = p.cur;
     p.advance(tokens);
@@ -166,7 +172,8 @@ pub fn ident(p: &mut Parser, tokens: &[u32]) -> NodeId
 // An expr = expr "." ident
 pub fn field_access(p: &mut Parser, tokens: &[u32], lhs: NodeId) -> NodeId
     requires { 1 < p.old.cur.kind }
-    ensures { ReadsStep tokens.now (field_access lhs) (code_of p.old) (code_of p.new) result }
+    ensures reads { ReadsStep tokens.now (field_access lhs) (code_of p.old) (code_of p.new) result }
+    ensures keeps { KeepsTypesLists p.old p.new }
 {
     p.advance(tokens);
     let name = p.cur;
@@ -176,9 +183,10 @@ pub fn field_access(p: &mut Parser, tokens: &[u32], lhs: NodeId) -> NodeId
 
 // A Cast is pushed from a node and a type, one of each.
 fn push_cast(p: &mut Parser, src: Entry, lhs: NodeId, rhs: TypeExprId) -> NodeId
-    ensures { (tokens : List ℕ) →
+    ensures reads { (tokens : List ℕ) →
         Refines tokens 1 0 (push_node (λ id. N.Cast id (token_of src) lhs rhs)) (λ i. i ≡ result)
         stack_unchanged 0 0 0 (code_of p.old) (code_of p.new) }
+    ensures keeps { KeepsTypesLists p.old p.new }
 {
     p.push_token_node(NodeKind::CAST, src, lhs.0, rhs.0)
 }
@@ -215,15 +223,16 @@ pub struct CasesRead {
 // The cells of a case.
 #[tactic(auto, unfolding(ast::specs::Layout::token_cells, ast::specs::Layout::run_cells))]
 pub fn push_case(p: &mut Parser, t: Entry, n: NodeId, body: Run)
-    ensures { (tokens : List ℕ) →
+    ensures reads { (tokens : List ℕ) →
         Pushes tokens 12 (token_cells (token_of t) ++ (n.0 ∷ run_cells body)) (code_of p.old)
         (code_of p.new) }
+    ensures keeps { KeepsNodesTypes p.old p.new }
 {
     p.push_cells(&[body.len, body.start, n.0, t.len, t.start, t.kind]);
 }
 
-// The node of a match, record `at` being that of the token after `match`; the reading fails where it
-// has no default.
+// The node of a match, record `at` being that of the token after `match`; the reading fails where
+// it has no default.
 pub fn match_node(
     p: &mut Parser,
     tokens: &[u32],
@@ -231,9 +240,10 @@ pub fn match_node(
     cases: Run,
     default: Option<DefaultBlock>,
 ) -> NodeId
-    ensures { Refines tokens.now 1 0
+    ensures reads { Refines tokens.now 1 0
         (match_node (token_at tokens.now at) (default_of default) cases) (λ n. n ≡ result)
         stack_unchanged 0 0 0 (code_of p.old) (code_of p.new) }
+    ensures keeps { KeepsTypesLists p.old p.new }
 {
     match default {
         Some(block) => p.push_match(cases, block.token, block.run),

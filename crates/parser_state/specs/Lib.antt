@@ -1,3 +1,4 @@
 -- What the contracts of the reader are written in.
 pub mod Represents
 pub mod Refines
+pub mod Keeps

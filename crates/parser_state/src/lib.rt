@@ -12,6 +12,8 @@ ghost use Rattle.ast.specs.declared.Node.{Node};
 ghost use Rattle.ast.specs.declared.Node.TheVariants as N;
 ghost use Rattle.ast.specs.declared.TypeExpr.{TypeExpr};
 ghost use Rattle.parser_state.specs.Represents.{code_of, reading, is_going, with_lists, IsPlace};
+ghost use Rattle.parser_state.specs.Keeps.{KeepsAll, KeepsNodesTypes};
+ghost use Rattle.parser_state.specs.Keeps.{KeepsNodesLists, KeepsTypesLists};
 ghost use Rattle.parser_state.specs.Refines.{Refines, stack_unchanged, Takes, Refuses, FailsWith, Pushes, Lists, fail_at, no_docs_wait, at_entry, doc_at, member_follows, doc_follows, closed};
 
 use ast::lent::CELLS_PER_BYTE;
@@ -106,7 +108,8 @@ impl Parser<'_> {
     // The next token is read.
     pub fn advance(&mut self, tokens: &[u32])
         requires { self.old.cur.kind ≢ 1 }
-        ensures { Takes tokens.now advance (code_of self.old) (code_of self.new) }
+        ensures reads { Takes tokens.now advance (code_of self.old) (code_of self.new) }
+        ensures keeps { KeepsAll self.old self.new }
     {
         if !self.going() {
             return;
@@ -127,8 +130,9 @@ impl Parser<'_> {
 
     // The reading fails at a token.
     fn fail_with(&mut self, number: u32, wanted: u32, t: Entry)
-        ensures { FailsWith (at_entry number wanted (token_of t)) (code_of self.old)
+        ensures reads { FailsWith (at_entry number wanted (token_of t)) (code_of self.old)
             (code_of self.new) }
+        ensures keeps { KeepsAll self.old self.new }
     {
         if self.going() {
             self.error = Some(Diagnostic {
@@ -143,16 +147,18 @@ impl Parser<'_> {
 
     // The reading fails at the token being read.
     pub fn fail_expecting(&mut self, number: u32, wanted: u32)
-        ensures { (tokens : List ℕ) →
+        ensures reads { (tokens : List ℕ) →
             Refuses tokens number wanted (code_of self.old) (code_of self.new) }
+        ensures keeps { KeepsAll self.old self.new }
     {
         self.fail_with(number, wanted, self.cur);
     }
 
     // The reading fails at the token of record `at`.
     pub fn fail_at(&mut self, tokens: &[u32], number: u32, at: u32)
-        ensures { Refines tokens.now 0 0 (fail_at {A = ℕ} number (token_at tokens.now at))
+        ensures reads { Refines tokens.now 0 0 (fail_at {A = ℕ} number (token_at tokens.now at))
             (λ n. n ≡ 0) stack_unchanged 0 0 0 (code_of self.old) (code_of self.new) }
+        ensures keeps { KeepsAll self.old self.new }
     {
         let t = token_at(tokens, at as usize);
         self.fail_with(number, 0, t);
@@ -161,7 +167,8 @@ impl Parser<'_> {
     // A token of the wanted kind is taken.
     pub fn expect(&mut self, tokens: &[u32], wanted: u32)
         requires { 1 < wanted }
-        ensures { Takes tokens.now (expect wanted) (code_of self.old) (code_of self.new) }
+        ensures reads { Takes tokens.now (expect wanted) (code_of self.old) (code_of self.new) }
+        ensures keeps { KeepsAll self.old self.new }
     {
         if self.kind() == wanted {
             self.advance(tokens);
@@ -172,7 +179,8 @@ impl Parser<'_> {
 
     // A name is taken.
     pub fn expect_ident(&mut self, tokens: &[u32])
-        ensures { Takes tokens.now expect_ident (code_of self.old) (code_of self.new) }
+        ensures reads { Takes tokens.now expect_ident (code_of self.old) (code_of self.new) }
+        ensures keeps { KeepsAll self.old self.new }
     {
         if self.kind() == Type::IDENT {
             self.advance(tokens);
@@ -183,9 +191,10 @@ impl Parser<'_> {
 
     // The reading fails at a token of this kind, with this number.
     pub fn reject_kind(&mut self, rejected: u32, number: u32)
-        ensures { (tokens : List ℕ) →
+        ensures reads { (tokens : List ℕ) →
             Refines tokens 0 0 (reject_kind rejected number) (λ n. n ≡ 0) stack_unchanged 0 0 0
             (code_of self.old) (code_of self.new) }
+        ensures keeps { KeepsAll self.old self.new }
     {
         if self.kind() == rejected {
             self.fail_expecting(number, 0);
@@ -234,10 +243,11 @@ impl Parser<'_> {
 
     // The next type, where there is room.
     pub fn push_type(&mut self, cells: [u32; TypeExpr::WIDTH]) -> TypeExprId
-        ensures { (tokens : List ℕ) (t : TypeExpr) →
+        ensures reads { (tokens : List ℕ) (t : TypeExpr) →
             cells ≡ type_cells t
             → Refines tokens 1 0 (push_type t) (λ i. i ≡ result) stack_unchanged 0 0 0
             (code_of self.old) (code_of self.new) }
+        ensures keeps { KeepsNodesLists self.old self.new }
     {
         let n = self.used.types;
         let Some(at) = self.place(n, TypeExpr::WIDTH, self.types.len()) else {
@@ -251,11 +261,12 @@ impl Parser<'_> {
     // The next node, where there is room. `more` value numbers go with it that no node has.
     fn push_node(&mut self, cells: [u32; Node::WIDTH], more: u32) -> NodeId
         requires { more ≤ max_bytes }
-        ensures { (tokens : List ℕ) (f : ℕ → Node) (rooms : ℕ) →
+        ensures reads { (tokens : List ℕ) (f : ℕ → Node) (rooms : ℕ) →
             1 + more ≤ 40000 * rooms
             → cells ≡ node_cells (f self.old.used.values)
             → Refines tokens rooms 0 (push_node_and more f) (λ i. i ≡ result) stack_unchanged 0 0 0
             (code_of self.old) (code_of self.new) }
+        ensures keeps { KeepsTypesLists self.old self.new }
     {
         let n = self.used.nodes;
         let Some(at) = self.place(n, Node::WIDTH, self.nodes.len()) else {
@@ -273,12 +284,13 @@ impl Parser<'_> {
 
     // A node of a token and two cells.
     pub fn push_token_node(&mut self, kind: u32, t: Entry, a: u32, b: u32) -> NodeId
-        ensures { (tokens : List ℕ) (f : ℕ → Node) →
+        ensures reads { (tokens : List ℕ) (f : ℕ → Node) →
             node_cells (f self.old.used.values)
             ≡ padded node_width
             (kind ∷ self.old.used.values ∷ token_cells (token_of t) ++ (a ∷ b ∷ []))
             → Refines tokens 1 0 (push_node_and 0 f) (λ i. i ≡ result) stack_unchanged 0 0 0
             (code_of self.old) (code_of self.new) }
+        ensures keeps { KeepsTypesLists self.old self.new }
     {
         let id = self.used.values;
         self.push_node(
@@ -291,9 +303,10 @@ impl Parser<'_> {
 
     // A call.
     pub fn push_call(&mut self, target: NodeId, args: Run) -> NodeId
-        ensures { (tokens : List ℕ) →
+        ensures reads { (tokens : List ℕ) →
             Refines tokens 1 0 (push_node (λ id. N.Call id target args)) (λ i. i ≡ result)
             stack_unchanged 0 0 0 (code_of self.old) (code_of self.new) }
+        ensures keeps { KeepsTypesLists self.old self.new }
     {
         let id = self.used.values;
         self.push_node(
@@ -321,9 +334,10 @@ impl Parser<'_> {
 
     // A field of a node.
     pub fn push_field(&mut self, target: NodeId, name: Entry) -> NodeId
-        ensures { (tokens : List ℕ) →
+        ensures reads { (tokens : List ℕ) →
             Refines tokens 1 0 (push_node (λ id. N.Field id target (token_of name)))
             (λ i. i ≡ result) stack_unchanged 0 0 0 (code_of self.old) (code_of self.new) }
+        ensures keeps { KeepsTypesLists self.old self.new }
     {
         let id = self.used.values;
         self.push_node(
@@ -351,9 +365,10 @@ impl Parser<'_> {
 
     // A let.
     pub fn push_let(&mut self, docs: Run, name: Entry, rhs: NodeId) -> NodeId
-        ensures { (tokens : List ℕ) →
+        ensures reads { (tokens : List ℕ) →
             Refines tokens 1 0 (push_node (λ id. N.Let id docs (token_of name) rhs))
             (λ i. i ≡ result) stack_unchanged 0 0 0 (code_of self.old) (code_of self.new) }
+        ensures keeps { KeepsTypesLists self.old self.new }
     {
         let id = self.used.values;
         self.push_node(
@@ -389,10 +404,11 @@ impl Parser<'_> {
         body: Run,
     ) -> NodeId
         requires { args.len ≤ max_bytes }
-        ensures { (tokens : List ℕ) →
+        ensures reads { (tokens : List ℕ) →
             Refines tokens 2 0
             (push_node_and args.len (λ id. N.Fn id docs (token_of name) args return_type body))
             (λ i. i ≡ result) stack_unchanged 0 0 0 (code_of self.old) (code_of self.new) }
+        ensures keeps { KeepsTypesLists self.old self.new }
     {
         let id = self.used.values;
         self.push_node(
@@ -420,9 +436,10 @@ impl Parser<'_> {
 
     // A match.
     pub fn push_match(&mut self, cases: Run, default: Entry, body: Run) -> NodeId
-        ensures { (tokens : List ℕ) →
+        ensures reads { (tokens : List ℕ) →
             Refines tokens 1 0 (push_node (λ id. N.Match id cases (token_of default) body))
             (λ i. i ≡ result) stack_unchanged 0 0 0 (code_of self.old) (code_of self.new) }
+        ensures keeps { KeepsTypesLists self.old self.new }
     {
         let id = self.used.values;
         self.push_node(
@@ -450,10 +467,11 @@ impl Parser<'_> {
 
     // An extern.
     pub fn push_extern(&mut self, src: Entry, docs: Run, name: Entry, fns: Run) -> NodeId
-        ensures { (tokens : List ℕ) →
+        ensures reads { (tokens : List ℕ) →
             Refines tokens 1 0
             (push_node (λ id. N.Extern id (token_of src) docs (token_of name) fns))
             (λ i. i ≡ result) stack_unchanged 0 0 0 (code_of self.old) (code_of self.new) }
+        ensures keeps { KeepsTypesLists self.old self.new }
     {
         let id = self.used.values;
         self.push_node(
@@ -484,9 +502,10 @@ impl Parser<'_> {
     // Cells of a list under construction, at the far end of the list table, where they lie in
     // reverse: they are given the last first.
     pub fn push_cells(&mut self, cells: &[u32])
-        ensures { (tokens : List ℕ) →
+        ensures reads { (tokens : List ℕ) →
             Pushes tokens (2 * length cells.now) (reverse cells.now) (code_of self.old)
             (code_of self.new) }
+        ensures keeps { KeepsNodesTypes self.old self.new }
     {
         if !self.going() {
             return;
@@ -505,35 +524,39 @@ impl Parser<'_> {
 
     // One cell.
     pub fn push_cell(&mut self, v: u32)
-        ensures { (tokens : List ℕ) →
+        ensures reads { (tokens : List ℕ) →
             Pushes tokens 2 (v ∷ []) (code_of self.old) (code_of self.new) }
+        ensures keeps { KeepsNodesTypes self.old self.new }
     {
         self.push_cells(&[v]);
     }
 
     // A token.
     pub fn push_token(&mut self, t: Entry)
-        ensures { (tokens : List ℕ) →
+        ensures reads { (tokens : List ℕ) →
             Pushes tokens 6 (token_cells (token_of t)) (code_of self.old) (code_of self.new) }
+        ensures keeps { KeepsNodesTypes self.old self.new }
     {
         self.push_cells(&[t.len, t.start, t.kind]);
     }
 
     // A name, and the number of the type or node that goes with it.
     pub fn push_named(&mut self, name: Entry, id: u32)
-        ensures { (tokens : List ℕ) →
+        ensures reads { (tokens : List ℕ) →
             Pushes tokens 8 (token_cells (token_of name) ++ (id ∷ [])) (code_of self.old)
             (code_of self.new) }
+        ensures keeps { KeepsNodesTypes self.old self.new }
     {
         self.push_cells(&[id, name.len, name.start, name.kind]);
     }
 
     // The cells above the mark become a list.
     pub fn alloc_slice(&mut self, mark: u32, members: u32) -> Run
-        ensures { ((tokens : List ℕ) →
+        ensures reads { ((tokens : List ℕ) →
             Lists tokens alloc_slice result 0 0 0 mark members (code_of self.old)
             (code_of self.new))
             × (result.len ≤ max_bytes) }
+        ensures keeps { KeepsNodesTypes self.old self.new }
     {
         let none = Run { start: 0, len: 0 };
         if !self.going() {
@@ -570,9 +593,10 @@ impl Parser<'_> {
     // The end of a list: the closing token, then `alloc_slice`.
     pub fn close(&mut self, tokens: &[u32], stop: u32, mark: u32, members: u32) -> Run
         requires { 1 < stop }
-        ensures { (Lists tokens.now (closed stop) result 1 1 8 mark members (code_of self.old)
+        ensures reads { (Lists tokens.now (closed stop) result 1 1 8 mark members (code_of self.old)
             (code_of self.new))
             × (result.len ≤ max_bytes) }
+        ensures keeps { KeepsNodesTypes self.old self.new }
     {
         self.expect(tokens, stop);
         self.alloc_slice(mark, members)
@@ -582,9 +606,10 @@ impl Parser<'_> {
 
     // The token of record `at` is a pending doc, at the far end of the type array.
     fn push_doc(&mut self, tokens: &[u32], at: u32)
-        ensures { (n : ℕ) →
+        ensures reads { (n : ℕ) →
             Refines tokens.now 1 3 (keep_doc n (token_at tokens.now at))
             (λ t. t ≡ continue n) stack_unchanged 0 0 0 (code_of self.old) (code_of self.new) }
+        ensures keeps { KeepsNodesLists self.old self.new }
     {
         let n = self.used.docs;
         let Some(before) = self.place(n, 3, self.types.len()) else {
@@ -598,8 +623,9 @@ impl Parser<'_> {
 
     // The docs that stand next are pending.
     pub fn collect_docs(&mut self, tokens: &[u32])
-        ensures { Refines tokens.now 0 0 collect_docs (λ n. n ≡ 0) stack_unchanged 0 0 0
+        ensures reads { Refines tokens.now 0 0 collect_docs (λ n. n ≡ 0) stack_unchanged 0 0 0
             (code_of self.old) (code_of self.new) }
+        ensures keeps { KeepsNodesLists self.old self.new }
     {
         while self.doc_follows() {
             let i = self.at;
@@ -623,10 +649,11 @@ impl Parser<'_> {
 
     // The pending docs become a list.
     pub fn take_docs(&mut self) -> Run
-        ensures { ((tokens : List ℕ) →
+        ensures reads { ((tokens : List ℕ) →
             Refines tokens 0 0 take_docs (λ t. t ≡ result) stack_unchanged 0 0 0
             (code_of self.old) (code_of self.new))
             × (self.new.cur ≡ self.old.cur) }
+        ensures keeps { KeepsNodesTypes self.old self.new }
     {
         let none = Run { start: 0, len: 0 };
         if !self.going() {
@@ -672,9 +699,10 @@ impl Parser<'_> {
     // The reading fails where there are pending docs: at the last of them where the script ends,
     // else at the first.
     pub fn require_no_docs(&mut self)
-        ensures { (tokens : List ℕ) →
+        ensures reads { (tokens : List ℕ) →
             Refines tokens 0 0 no_docs_wait (λ n. n ≡ 0) stack_unchanged 0 0 0 (code_of self.old)
             (code_of self.new) }
+        ensures keeps { KeepsAll self.old self.new }
     {
         if !self.going() {
             return;

@@ -12,6 +12,8 @@ ghost use Rattle.ast.specs.declared.TypeExpr.{TypeExpr};
 ghost use Rattle.ast.specs.declared.TypeExprId.{TypeExprId};
 ghost use Rattle.rules.specs.Rules.{open_angle, atom_type, foreign_type, record_type, typed_name, supplied_void, fn_return, extern_return, parse_args, import_path, bracketed_paths, one_path, import_paths, parse_import, extern_fn, parse_extern, extern_name};
 ghost use Rattle.parser_state.specs.Represents.{code_of};
+ghost use Rattle.parser_state.specs.Keeps.{KeepsAll, KeepsNodes, KeepsTypes};
+ghost use Rattle.parser_state.specs.Keeps.{KeepsNodesLists, KeepsNodesTypes};
 ghost use Rattle.parser_state.specs.Refines.{Refines, stack_unchanged, Takes, ReadsType, ReadsNode, ReadsList, ReadsMember, Pushes, Rules, deeper};
 ghost use Rattle.parser_types.specs.Inner.{inner_type};
 ghost use Rattle.parser_types.specs.Paths.{ReadsPaths};
@@ -26,8 +28,9 @@ use tokens::Entry;
 // The word and the `<` of a type, `number` being the error where `>` follows.
 fn open_angle(p: &mut Parser, tokens: &[u32], number: u32)
     requires { 1 < p.old.cur.kind }
-    ensures { Refines tokens.now 0 0 (open_angle number) (λ n. n ≡ 0) stack_unchanged 2 2 16
+    ensures reads { Refines tokens.now 0 0 (open_angle number) (λ n. n ≡ 0) stack_unchanged 2 2 16
         (code_of p.old) (code_of p.new) }
+    ensures keeps { KeepsAll p.old p.new }
 {
     p.advance(tokens);
     p.expect(tokens, Type::LESS_THAN);
@@ -37,7 +40,8 @@ fn open_angle(p: &mut Parser, tokens: &[u32], number: u32)
 // A type = atom-type
 fn atom_type(p: &mut Parser, tokens: &[u32]) -> TypeExprId
     requires { 1 < p.old.cur.kind }
-    ensures { ReadsType tokens.now atom_type (code_of p.old) (code_of p.new) result }
+    ensures reads { ReadsType tokens.now atom_type (code_of p.old) (code_of p.new) result }
+    ensures keeps { KeepsNodesLists p.old p.new }
 {
     let t = p.cur;
     p.advance(tokens);
@@ -47,7 +51,8 @@ fn atom_type(p: &mut Parser, tokens: &[u32]) -> TypeExprId
 // A type = "Foreign" "<" ident ">"
 fn foreign_type(p: &mut Parser, tokens: &[u32]) -> TypeExprId
     requires { 1 < p.old.cur.kind }
-    ensures { ReadsType tokens.now foreign_type (code_of p.old) (code_of p.new) result }
+    ensures reads { ReadsType tokens.now foreign_type (code_of p.old) (code_of p.new) result }
+    ensures keeps { KeepsNodesLists p.old p.new }
 {
     open_angle(p, tokens, Diagnostic::EMPTY_FOREIGN);
     let name = p.cur;
@@ -69,10 +74,11 @@ fn foreign_type(p: &mut Parser, tokens: &[u32]) -> TypeExprId
 #[cycle(types)]
 fn inner_type(p: &mut Parser, tokens: &[u32], kind: u32, number: u32, levels: usize) -> TypeExprId
     requires { 1 < p.old.cur.kind }
-    ensures { (rules : Rules) (make : TypeExprId → TypeExpr) →
+    ensures reads { (rules : Rules) (make : TypeExprId → TypeExpr) →
         ((id : TypeExprId) → type_cells (make id) ≡ padded type_width (kind ∷ id.0 ∷ []))
         → ReadsType tokens.now (inner_type number make (deeper rules levels))
         (code_of p.old) (code_of p.new) result }
+    ensures keeps { KeepsNodes p.old p.new }
 {
     open_angle(p, tokens, number);
     let id = parse_type(p, tokens, levels);
@@ -83,9 +89,10 @@ fn inner_type(p: &mut Parser, tokens: &[u32], kind: u32, number: u32, levels: us
 // A name and its type = ident ":" type
 #[cycle(types)]
 fn typed_name(p: &mut Parser, tokens: &[u32], levels: usize)
-    ensures { (rules : Rules) →
+    ensures reads { (rules : Rules) →
         ReadsMember tokens.now (typed_name (deeper rules levels))
         (code_of p.old) (code_of p.new) }
+    ensures keeps { KeepsNodes p.old p.new }
 {
     let name = p.cur;
     p.expect_ident(tokens);
@@ -98,9 +105,10 @@ fn typed_name(p: &mut Parser, tokens: &[u32], levels: usize)
 #[cycle(types)]
 fn typed_names(p: &mut Parser, tokens: &[u32], stop: u32, levels: usize) -> Run
     requires { 1 < stop }
-    ensures { ((rules : Rules) →
+    ensures reads { ((rules : Rules) →
         ReadsList tokens.now (list_until stop (typed_name (deeper rules levels)))
         (code_of p.old) (code_of p.new) result) × (result.len ≤ max_bytes) }
+    ensures keeps { KeepsNodes p.old p.new }
 {
     let mark = p.used.scratch;
     let mut members: u32 = 0;
@@ -115,9 +123,10 @@ fn typed_names(p: &mut Parser, tokens: &[u32], stop: u32, levels: usize) -> Run
 #[cycle(types)]
 fn record_type(p: &mut Parser, tokens: &[u32], levels: usize) -> TypeExprId
     requires { 1 < p.old.cur.kind }
-    ensures { (rules : Rules) →
+    ensures reads { (rules : Rules) →
         ReadsType tokens.now (record_type (deeper rules levels))
         (code_of p.old) (code_of p.new) result }
+    ensures keeps { KeepsNodes p.old p.new }
 {
     let src = p.cur;
     p.advance(tokens);
@@ -139,8 +148,9 @@ fn record_type(p: &mut Parser, tokens: &[u32], levels: usize) -> TypeExprId
 // "Record" "<" (ident ":" type)* ">"
 #[cycle(types)]
 pub fn parse_type(p: &mut Parser, tokens: &[u32], levels: usize) -> TypeExprId
-    ensures { (rules : Rules) →
+    ensures reads { (rules : Rules) →
         ReadsType tokens.now (deeper rules levels).type (code_of p.old) (code_of p.new) result }
+    ensures keeps { KeepsNodes p.old p.new }
 {
     if levels == 0 {
         p.fail_expecting(Diagnostic::TOO_DEEP, 0);
@@ -170,9 +180,10 @@ pub fn parse_type(p: &mut Parser, tokens: &[u32], levels: usize) -> TypeExprId
 
 // A Void that the script leaves out, at the next token.
 fn supplied_void(p: &mut Parser) -> TypeExprId
-    ensures { (tokens : List ℕ) →
+    ensures reads { (tokens : List ℕ) →
         Refines tokens 1 0 supplied_void (λ t. t ≡ result) stack_unchanged 0 0 0
         (code_of p.old) (code_of p.new) }
+    ensures keeps { KeepsNodesLists p.old p.new }
 {
     let at = p.cur.start;
     p.push_type([TypeExprKind::ATOM, Type::VOID, at, 4, 0, 0, 0, 0])
@@ -180,9 +191,10 @@ fn supplied_void(p: &mut Parser) -> TypeExprId
 
 // The return type of a fn, Void where a `{` follows.
 pub fn fn_return(p: &mut Parser, tokens: &[u32], levels: usize) -> TypeExprId
-    ensures { (rules : Rules) →
+    ensures reads { (rules : Rules) →
         Refines tokens.now 1 0 (fn_return (deeper rules levels)) (λ t. t ≡ result) stack_unchanged
         0 0 0 (code_of p.old) (code_of p.new) }
+    ensures keeps { KeepsNodes p.old p.new }
 {
     if p.kind() == Type::CURLY_LEFT {
         supplied_void(p)
@@ -193,9 +205,10 @@ pub fn fn_return(p: &mut Parser, tokens: &[u32], levels: usize) -> TypeExprId
 
 // The return type in an extern, Void where a `}` or a `fn` follows.
 fn extern_return(p: &mut Parser, tokens: &[u32], levels: usize) -> TypeExprId
-    ensures { (rules : Rules) →
+    ensures reads { (rules : Rules) →
         Refines tokens.now 1 0 (extern_return (deeper rules levels)) (λ t. t ≡ result)
         stack_unchanged 0 0 0 (code_of p.old) (code_of p.new) }
+    ensures keeps { KeepsNodes p.old p.new }
 {
     if p.kind() == Type::CURLY_RIGHT {
         return supplied_void(p);
@@ -208,9 +221,10 @@ fn extern_return(p: &mut Parser, tokens: &[u32], levels: usize) -> TypeExprId
 
 // args = "(" (ident ":" type)* ")"
 pub fn parse_args(p: &mut Parser, tokens: &[u32], levels: usize) -> Run
-    ensures { ((rules : Rules) →
+    ensures reads { ((rules : Rules) →
         ReadsList tokens.now (parse_args (deeper rules levels)) (code_of p.old) (code_of p.new)
         result) × (result.len ≤ max_bytes) }
+    ensures keeps { KeepsNodes p.old p.new }
 {
     p.expect(tokens, Type::BRACE_LEFT);
     typed_names(p, tokens, Type::BRACE_RIGHT, levels)
@@ -220,7 +234,8 @@ pub fn parse_args(p: &mut Parser, tokens: &[u32], levels: usize) -> Run
 
 // A path of an import.
 fn import_path(p: &mut Parser, tokens: &[u32])
-    ensures { ReadsMember tokens.now import_path (code_of p.old) (code_of p.new) }
+    ensures reads { ReadsMember tokens.now import_path (code_of p.old) (code_of p.new) }
+    ensures keeps { KeepsNodesTypes p.old p.new }
 {
     if p.kind() == Type::S {
         let t = p.cur;
@@ -233,7 +248,8 @@ fn import_path(p: &mut Parser, tokens: &[u32])
 
 // Multiple package import: import ("io" "runtime")
 fn bracketed_paths(p: &mut Parser, tokens: &[u32]) -> u32
-    ensures { ReadsPaths tokens.now bracketed_paths (code_of p.old) (code_of p.new) result }
+    ensures reads { ReadsPaths tokens.now bracketed_paths (code_of p.old) (code_of p.new) result }
+    ensures keeps { KeepsNodesTypes p.old p.new }
 {
     p.expect(tokens, Type::BRACE_LEFT);
     let mut members: u32 = 0;
@@ -248,7 +264,8 @@ fn bracketed_paths(p: &mut Parser, tokens: &[u32]) -> u32
 // Single package import: import "io"
 fn one_path(p: &mut Parser, tokens: &[u32]) -> u32
     requires { 1 < p.old.cur.kind }
-    ensures { ReadsPaths tokens.now one_path (code_of p.old) (code_of p.new) result }
+    ensures reads { ReadsPaths tokens.now one_path (code_of p.old) (code_of p.new) result }
+    ensures keeps { KeepsNodesTypes p.old p.new }
 {
     let t = p.cur;
     p.advance(tokens);
@@ -258,7 +275,8 @@ fn one_path(p: &mut Parser, tokens: &[u32]) -> u32
 
 // The paths of an import, in brackets or not.
 fn import_paths(p: &mut Parser, tokens: &[u32]) -> u32
-    ensures { ReadsPaths tokens.now import_paths (code_of p.old) (code_of p.new) result }
+    ensures reads { ReadsPaths tokens.now import_paths (code_of p.old) (code_of p.new) result }
+    ensures keeps { KeepsNodesTypes p.old p.new }
 {
     if p.kind() == Type::S {
         one_path(p, tokens)
@@ -270,7 +288,8 @@ fn import_paths(p: &mut Parser, tokens: &[u32]) -> u32
 // import = "import" string | "import" "(" string* ")"
 pub fn parse_import(p: &mut Parser, tokens: &[u32]) -> NodeId
     requires { 1 < p.old.cur.kind }
-    ensures { ReadsNode tokens.now parse_import (code_of p.old) (code_of p.new) result }
+    ensures reads { ReadsNode tokens.now parse_import (code_of p.old) (code_of p.new) result }
+    ensures keeps { KeepsTypes p.old p.new }
 {
     let src = p.cur;
     p.advance(tokens);
@@ -285,9 +304,10 @@ pub fn parse_import(p: &mut Parser, tokens: &[u32]) -> NodeId
 // The cells of a fn of an extern.
 #[tactic(auto, unfolding(ast::specs::Layout::token_cells, ast::specs::Layout::run_cells))]
 fn push_extern_fn(p: &mut Parser, docs: Run, name: Entry, args: Run, id: TypeExprId)
-    ensures { (tokens : List ℕ) →
+    ensures reads { (tokens : List ℕ) →
         Pushes tokens 16 (run_cells docs ++ token_cells (token_of name) ++ run_cells args ++
         (id.0 ∷ [])) (code_of p.old) (code_of p.new) }
+    ensures keeps { KeepsNodesTypes p.old p.new }
 {
     p.push_cells(&[
         id.0, args.len, args.start, name.len, name.start, name.kind, docs.len, docs.start,
@@ -296,8 +316,9 @@ fn push_extern_fn(p: &mut Parser, docs: Run, name: Entry, args: Run, id: TypeExp
 
 // A fn of an extern = doc* "fn" ident args type?
 fn extern_fn(p: &mut Parser, tokens: &[u32], levels: usize)
-    ensures { (rules : Rules) →
+    ensures reads { (rules : Rules) →
         ReadsMember tokens.now (extern_fn (deeper rules levels)) (code_of p.old) (code_of p.new) }
+    ensures keeps { KeepsNodes p.old p.new }
 {
     p.collect_docs(tokens);
     p.reject_kind(Type::EXTERN, Diagnostic::NESTED_EXTERN);
@@ -312,9 +333,10 @@ fn extern_fn(p: &mut Parser, tokens: &[u32], levels: usize)
 
 // (doc* "fn" ident args type?)* "}"
 fn extern_fns(p: &mut Parser, tokens: &[u32], levels: usize) -> Run
-    ensures { (rules : Rules) →
+    ensures reads { (rules : Rules) →
         ReadsList tokens.now (list_until k_curly_right (extern_fn (deeper rules levels)))
         (code_of p.old) (code_of p.new) result }
+    ensures keeps { KeepsNodes p.old p.new }
 {
     let mark = p.used.scratch;
     let mut members: u32 = 0;
@@ -327,7 +349,8 @@ fn extern_fns(p: &mut Parser, tokens: &[u32], levels: usize) -> Run
 
 // The string behind `extern`.
 fn extern_name(p: &mut Parser, tokens: &[u32])
-    ensures { Takes tokens.now extern_name (code_of p.old) (code_of p.new) }
+    ensures reads { Takes tokens.now extern_name (code_of p.old) (code_of p.new) }
+    ensures keeps { KeepsAll p.old p.new }
 {
     if p.kind() == Type::S {
         p.advance(tokens);

@@ -24,17 +24,17 @@ pub member-returns-then-begins_expr : goal.member-returns-then-begins_expr
 member-returns-then-begins_expr t c = prefix_by (rules_of c.args.source.now.script.now) _ c.if-levels-ne0.true (prefix-expr _ (sym c.begins_expr.ensures ∙ c.if-begins_expr.true) c.parse_expr.ensures)
 
 pub parse_prefix-returns-then-levels-eq0 : goal.parse_prefix-returns-then-levels-eq0
-parse_prefix-returns-then-levels-eq0 t c = prefix_deep (rules_of c.args.source.now.script.now) _ c.if-levels-eq0.true (c.fail_expecting.ensures _)
+parse_prefix-returns-then-levels-eq0 t c = prefix_deep (rules_of c.args.source.now.script.now) _ c.if-levels-eq0.true (c.fail_expecting.ensures.reads _)
 
 pub parse_prefix-returns-then-begins_expr : goal.parse_prefix-returns-then-begins_expr
 parse_prefix-returns-then-begins_expr t c = prefix_by (rules_of c.args.source.now.script.now) _ c.if-levels-eq0.false (prefix-expr _ (sym c.begins_expr.ensures ∙ c.if-begins_expr.true) c.parse_expr.ensures)
 
 pub parse_prefix-returns : goal.parse_prefix-returns
 unfolding parse_prefix
-parse_prefix-returns t c = prefix_by (rules_of c.args.source.now.script.now) _ c.if-levels-eq0.false (enough (then c.collect_docs.ensures c.item.ensures) tt)
+parse_prefix-returns t c = prefix_by (rules_of c.args.source.now.script.now) _ c.if-levels-eq0.false (enough (then c.collect_docs.ensures.reads c.item.ensures) tt)
 
 pub item-returns-in-27 : goal.item-returns-in-27
-item-returns-in-27 t c = at-kind _ c.kind.result (entry_here _ _ _ c.in-27.is c.parse_import.ensures) (sym c.kind.ensures)
+item-returns-in-27 t c = at-kind _ c.kind.result (entry_here _ _ _ c.in-27.is c.parse_import.ensures.reads) (sym c.kind.ensures)
 
 pub item-returns-in-29 : goal.item-returns-in-29
 item-returns-in-29 t c = at-kind _ c.kind.result (entry_past _ _ _ (λ e. omega arith) (entry_here _ _ _ c.in-29.is c.parse_let.ensures)) (sym c.kind.ensures)
@@ -46,47 +46,47 @@ pub item-returns-in-28 : goal.item-returns-in-28
 item-returns-in-28 t c = at-kind _ c.kind.result (entry_past _ _ _ (λ e. omega arith) (entry_past _ _ _ (λ e. omega arith) (entry_past _ _ _ (λ e. omega arith) (entry_here _ _ _ c.in-28.is (c.parse_extern.ensures (rules_of c.args.source.now.script.now)))))) (sym c.kind.ensures)
 
 pub item-returns-then-kind-eq-MATCH : goal.item-returns-then-kind-eq-MATCH
-item-returns-then-kind-eq-MATCH t c = at-kind _ c.kind.result (entry_past _ _ _ (λ e. omega arith) (entry_past _ _ _ (λ e. omega arith) (entry_past _ _ _ (λ e. omega arith) (entry_past _ _ _ (λ e. omega arith) (entry_other _ _ (require_then _ (enough (then (c.require_no_docs.ensures _) (if_kind-yes _ _ c.parse_match.ensures (sym c.kind-in_default.ensures ∙ c.if-kind-eq-MATCH.true))) tt))))))) (sym c.kind.ensures)
+item-returns-then-kind-eq-MATCH t c = at-kind _ c.kind.result (entry_past _ _ _ (λ e. omega arith) (entry_past _ _ _ (λ e. omega arith) (entry_past _ _ _ (λ e. omega arith) (entry_past _ _ _ (λ e. omega arith) (entry_other _ _ (require_then _ (enough (then (c.require_no_docs.ensures.reads _) (if_kind-yes _ _ c.parse_match.ensures (sym c.kind-in_default.ensures ∙ c.if-kind-eq-MATCH.true))) tt))))))) (sym c.kind.ensures)
 
 pub item-returns-else-kind-eq-MATCH : goal.item-returns-else-kind-eq-MATCH
-item-returns-else-kind-eq-MATCH t c = at-kind _ c.kind.result (entry_past _ _ _ (λ e. omega arith) (entry_past _ _ _ (λ e. omega arith) (entry_past _ _ _ (λ e. omega arith) (entry_past _ _ _ (λ e. omega arith) (entry_other _ _ (require_then _ (enough (then (c.require_no_docs.ensures _) (if_kind-no _ _ c.parse_expr.ensures (λ e. c.if-kind-eq-MATCH.false (c.kind-in_default.ensures ∙ e)))) tt))))))) (sym c.kind.ensures)
+item-returns-else-kind-eq-MATCH t c = at-kind _ c.kind.result (entry_past _ _ _ (λ e. omega arith) (entry_past _ _ _ (λ e. omega arith) (entry_past _ _ _ (λ e. omega arith) (entry_past _ _ _ (λ e. omega arith) (entry_other _ _ (require_then _ (enough (then (c.require_no_docs.ensures.reads _) (if_kind-no _ _ c.parse_expr.ensures (λ e. c.if-kind-eq-MATCH.false (c.kind-in_default.ensures ∙ e)))) tt))))))) (sym c.kind.ensures)
 
 pub parse_let-returns : goal.parse_let-returns
 unfolding parse_let
-parse_let-returns t c = enough (seq _ (c.take_docs-docs.ensures.0 _) (then c.expect.ensures (read _ c.expect_ident.ensures refl (then c.expect-2.ensures (seq _ c.parse_prefix-rhs.ensures (c.push_let.ensures _)))))) tt
+parse_let-returns t c = enough (seq _ (c.take_docs-docs.ensures.reads.0 _) (then c.expect.ensures.reads (read _ c.expect_ident.ensures.reads refl (then c.expect-2.ensures.reads (seq _ c.parse_prefix-rhs.ensures (c.push_let.ensures.reads _)))))) tt
 
 pub parse_fn-returns : goal.parse_fn-returns
 unfolding parse_fn
 parse_fn-returns t c =
     enough
-    (seq _ (c.take_docs-docs.ensures.0 _)
-    (then c.advance.ensures
-    (read _ c.expect_ident.ensures refl
-    (seq _ (c.parse_args-args.ensures.0 (rules_of c.args.source.now.script.now))
-    (seq _ (c.fn_return-return_type.ensures (rules_of c.args.source.now.script.now))
+    (seq _ (c.take_docs-docs.ensures.reads.0 _)
+    (then c.advance.ensures.reads
+    (read _ c.expect_ident.ensures.reads refl
+    (seq _ (c.parse_args-args.ensures.reads.0 (rules_of c.args.source.now.script.now))
+    (seq _ (c.fn_return-return_type.ensures.reads (rules_of c.args.source.now.script.now))
     (seq _ c.parse_body-body.ensures
-    (c.push_fn.ensures _)))))))
+    (c.push_fn.ensures.reads _)))))))
     tt
 
 pub parse_body-returns : goal.parse_body-returns
 unfolding parse_body
-parse_body-returns t c = enough (then c.expect.ensures c.items.ensures) tt
+parse_body-returns t c = enough (then c.expect.ensures.reads c.items.ensures) tt
 
 pub items-loop-p-init : goal.items-loop-p-init
 items-loop-p-init t c = midway_start
 
 pub items-loop-p-preserved : goal.items-loop-p-preserved
 unfolding node_member
-items-loop-p-preserved t c = midway_turn c.loop-p.invariant (sym c.member_follows.ensures ∙ c.loop-p-test.true) (enough (seq _ c.member-n.ensures (c.push_cell.ensures _)) tt) c.wrapping_add_u32-members.ensures.value
+items-loop-p-preserved t c = midway_turn c.loop-p.invariant (sym c.member_follows.ensures ∙ c.loop-p-test.true) (enough (seq _ c.member-n.ensures (c.push_cell.ensures.reads _)) tt) refl
 
 pub items-returns : goal.items-returns
-items-returns t c = midway_end c.loop-p.invariant (sym c.member_follows.ensures ∙ c.loop-p-test.false) refl c.close.ensures.0
+items-returns t c = midway_end c.loop-p.invariant (sym c.member_follows.ensures ∙ c.loop-p-test.false) refl c.close.ensures.reads.0
 
 -- ---- match
 
 pub parse_match-returns : goal.parse_match-returns
 unfolding parse_match match_node
-parse_match-returns t c = enough (then c.advance.ensures (read_at _ looks refl (then c.expect.ensures (as_rule (match_rest_lem _ _) c.cases.ensures)))) tt
+parse_match-returns t c = enough (then c.advance.ensures.reads (read_at _ looks refl (then c.expect.ensures.reads (as_rule (match_rest_lem _ _) c.cases.ensures)))) tt
 
 pub cases-loop-p-init : goal.cases-loop-p-init
 cases-loop-p-init t c = round_start_at (λ R L stack m h. (refl, (refl, omega (arith, h.related.credit.records, ap length h.related.left))))
@@ -99,22 +99,22 @@ cases-loop-p-smaller t c = again_lighter (member-going (reading c.loop-p.p) k_cu
 
 pub cases-returns : goal.cases-returns
 unfolding match_end
-cases-returns t c = match_end_lem _ _ _ c.loop-p.invariant (sym c.member_follows.ensures ∙ c.loop-p-test.false) refl (lists_seq _ c.close-run.ensures.0 c.match_node.ensures (omega arith) (omega arith))
+cases-returns t c = match_end_lem _ _ _ c.loop-p.invariant (sym c.member_follows.ensures ∙ c.loop-p-test.false) refl (lists_seq _ c.close-run.ensures.reads.0 c.match_node.ensures.reads (omega arith) (omega arith))
 
 pub next_case-returns-then-kind-eq-CURLY_LEFT : goal.next_case-returns-then-kind-eq-CURLY_LEFT
 next_case-returns-then-kind-eq-CURLY_LEFT t c = default_again _ c.args.d c.requires refl (sym c.kind.ensures ∙ c.if-kind-eq-CURLY_LEFT.true) c.parse_body-run.ensures
 
 pub next_case-returns : goal.next_case-returns
-next_case-returns t c = condition_again _ c.args.d c.requires (λ e. c.if-kind-eq-CURLY_LEFT.false (c.kind.ensures ∙ e)) c.condition.ensures c.wrapping_add_u32.ensures.value
+next_case-returns t c = condition_again _ c.args.d c.requires (λ e. c.if-kind-eq-CURLY_LEFT.false (c.kind.ensures ∙ e)) c.condition.ensures refl
 
 pub condition-returns : goal.condition-returns
 unfolding case_cells
-condition-returns t c = enough (read _ looks refl (seq _ c.parse_expr-n.ensures (seq _ c.parse_body-run.ensures (c.push_case.ensures _)))) tt
+condition-returns t c = enough (read _ looks refl (seq _ c.parse_expr-n.ensures (seq _ c.parse_body-run.ensures (c.push_case.ensures.reads _)))) tt
 
 -- ---- expressions
 
 pub parse_expr-returns-then-levels-eq0 : goal.parse_expr-returns-then-levels-eq0
-parse_expr-returns-then-levels-eq0 t c = expr_deep (rules_of c.args.source.now.script.now) _ _ c.if-levels-eq0.true (c.fail_expecting.ensures _)
+parse_expr-returns-then-levels-eq0 t c = expr_deep (rules_of c.args.source.now.script.now) _ _ c.if-levels-eq0.true (c.fail_expecting.ensures.reads _)
 
 pub parse_expr-returns : goal.parse_expr-returns
 unfolding parse_expr
@@ -139,14 +139,14 @@ operand-atom-requires t c = operand-kind _ (rw c.in-Some-Atom.field-0-is at c.in
 
 pub operand-returns-in-Some-Atom : goal.operand-returns-in-Some-Atom
 unfolding operand_of choose
-operand-returns-in-Some-Atom t c = operand_by _ {n = 3} c.atom.ensures (rw c.in-Some-Atom.field-0-is at c.in-Some-Atom.ensures ∙ ap operand_class c.kind.ensures)
+operand-returns-in-Some-Atom t c = operand_by _ {n = 3} c.atom.ensures.reads (rw c.in-Some-Atom.field-0-is at c.in-Some-Atom.ensures ∙ ap operand_class c.kind.ensures)
 
 pub operand-ident-requires : goal.operand-ident-requires
 operand-ident-requires t c = operand-kind _ (rw c.in-Some-Name.field-0-is at c.in-Some-Name.ensures ∙ ap operand_class c.kind.ensures) (λ z. omega (arith, z))
 
 pub operand-returns-in-Some-Name : goal.operand-returns-in-Some-Name
 unfolding operand_of choose
-operand-returns-in-Some-Name t c = operand_by _ {n = 4} c.ident.ensures (rw c.in-Some-Name.field-0-is at c.in-Some-Name.ensures ∙ ap operand_class c.kind.ensures)
+operand-returns-in-Some-Name t c = operand_by _ {n = 4} c.ident.ensures.reads (rw c.in-Some-Name.field-0-is at c.in-Some-Name.ensures ∙ ap operand_class c.kind.ensures)
 
 pub operand-group-requires : goal.operand-group-requires
 operand-group-requires t c = (omega arith, operand-kind _ (rw c.in-Some-Group.field-0-is at c.in-Some-Group.ensures ∙ ap operand_class c.kind.ensures) (λ z. omega (arith, z)))
@@ -164,46 +164,46 @@ operand-returns-in-Some-Sign t c = operand_by _ {n = 6} c.unary.ensures (rw c.in
 
 pub operand-returns-in-None : goal.operand-returns-in-None
 unfolding operand_of choose
-operand-returns-in-None t c = operand_by _ {n = 0} (refused (c.fail_expecting.ensures _)) (c.in-None.ensures ∙ ap operand_class c.kind.ensures)
+operand-returns-in-None t c = operand_by _ {n = 0} (refused (c.fail_expecting.ensures.reads _)) (c.in-None.ensures ∙ ap operand_class c.kind.ensures)
 
 pub record_literal-returns : goal.record_literal-returns
 unfolding record_literal node_cells token_cells run_cells
-record_literal-returns t c = enough (read _ c.advance.ensures refl (seq _ c.inits-fields.ensures (c.push_token_node.ensures _ _ refl))) tt
+record_literal-returns t c = enough (read _ c.advance.ensures.reads refl (seq _ c.inits-fields.ensures (c.push_token_node.ensures.reads _ _ refl))) tt
 
 pub inits-loop-p-init : goal.inits-loop-p-init
 inits-loop-p-init t c = midway_start
 
 pub inits-loop-p-preserved : goal.inits-loop-p-preserved
-inits-loop-p-preserved t c = midway_turn c.loop-p.invariant (sym c.member_follows.ensures ∙ c.loop-p-test.true) c.field.ensures c.wrapping_add_u32-members.ensures.value
+inits-loop-p-preserved t c = midway_turn c.loop-p.invariant (sym c.member_follows.ensures ∙ c.loop-p-test.true) c.field.ensures refl
 
 pub inits-returns : goal.inits-returns
-inits-returns t c = midway_end c.loop-p.invariant (sym c.member_follows.ensures ∙ c.loop-p-test.false) refl c.close.ensures.0
+inits-returns t c = midway_end c.loop-p.invariant (sym c.member_follows.ensures ∙ c.loop-p-test.false) refl c.close.ensures.reads.0
 
 pub field-returns : goal.field-returns
 unfolding field
-field-returns t c = enough (read _ c.expect_ident.ensures refl (then c.expect.ensures (seq _ c.parse_expr-id.ensures (c.push_named.ensures _)))) tt
+field-returns t c = enough (read _ c.expect_ident.ensures.reads refl (then c.expect.ensures.reads (seq _ c.parse_expr-id.ensures (c.push_named.ensures.reads _)))) tt
 
 pub array_literal-returns : goal.array_literal-returns
 unfolding array_literal node_cells token_cells run_cells
-array_literal-returns t c = enough (read _ c.advance.ensures refl (seq _ c.elems-members.ensures (c.push_token_node.ensures _ _ refl))) tt
+array_literal-returns t c = enough (read _ c.advance.ensures.reads refl (seq _ c.elems-members.ensures (c.push_token_node.ensures.reads _ _ refl))) tt
 
 pub elems-loop-p-init : goal.elems-loop-p-init
 elems-loop-p-init t c = midway_start
 
 pub elems-loop-p-preserved : goal.elems-loop-p-preserved
 unfolding node_member
-elems-loop-p-preserved t c = midway_turn c.loop-p.invariant (sym c.member_follows.ensures ∙ c.loop-p-test.true) (enough (seq _ c.parse_expr-n.ensures (c.push_cell.ensures _)) tt) c.wrapping_add_u32-members.ensures.value
+elems-loop-p-preserved t c = midway_turn c.loop-p.invariant (sym c.member_follows.ensures ∙ c.loop-p-test.true) (enough (seq _ c.parse_expr-n.ensures (c.push_cell.ensures.reads _)) tt) refl
 
 pub elems-returns : goal.elems-returns
-elems-returns t c = midway_end c.loop-p.invariant (sym c.member_follows.ensures ∙ c.loop-p-test.false) refl c.close.ensures.0
+elems-returns t c = midway_end c.loop-p.invariant (sym c.member_follows.ensures ∙ c.loop-p-test.false) refl c.close.ensures.reads.0
 
 pub group-returns : goal.group-returns
 unfolding group
-group-returns t c = enough (then (struck_as c.advance.ensures) (seq _ c.parse_expr-id.ensures (then (struck_as c.expect.ensures) done))) tt
+group-returns t c = enough (then (struck_as c.advance.ensures.reads) (seq _ c.parse_expr-id.ensures (then (struck_as c.expect.ensures.reads) done))) tt
 
 pub unary-returns : goal.unary-returns
 unfolding unary node_cells token_cells
-unary-returns t c = enough (read _ c.advance.ensures refl (seq _ c.parse_expr-rhs.ensures (c.push_token_node.ensures _ _ refl))) tt
+unary-returns t c = enough (read _ c.advance.ensures.reads refl (seq _ c.parse_expr-rhs.ensures (c.push_token_node.ensures.reads _ _ refl))) tt
 
 -- ---- behind an operand
 
@@ -224,14 +224,14 @@ pub postfix_step-call-requires : goal.postfix_step-call-requires
 postfix_step-call-requires t c = (omega arith, omega (arith, postfix_brace c.args.p.now.nodes.now (reading c.args.p.now) c.args.lhs c.requires (λ e. c.if-kind-eq-DOT.false (c.kind.ensures ∙ e))))
 
 pub postfix_step-returns-then-kind-eq-DOT : goal.postfix_step-returns-then-kind-eq-DOT
-postfix_step-returns-then-kind-eq-DOT t c = if_kind-yes _ _ c.field_access.ensures (sym c.kind.ensures ∙ c.if-kind-eq-DOT.true)
+postfix_step-returns-then-kind-eq-DOT t c = if_kind-yes _ _ c.field_access.ensures.reads (sym c.kind.ensures ∙ c.if-kind-eq-DOT.true)
 
 pub postfix_step-returns-else-kind-eq-DOT : goal.postfix_step-returns-else-kind-eq-DOT
 postfix_step-returns-else-kind-eq-DOT t c = post_call _ _ c.requires (λ e. c.if-kind-eq-DOT.false (c.kind.ensures ∙ e)) c.call.ensures
 
 pub call-returns : goal.call-returns
 unfolding call
-call-returns t c = enough (then c.advance.ensures (seq _ c.items-args.ensures (seq _ (c.push_call.ensures _) done))) tt
+call-returns t c = enough (then c.advance.ensures.reads (seq _ c.items-args.ensures (seq _ (c.push_call.ensures.reads _) done))) tt
 
 pub infixes-loop-p-init : goal.infixes-loop-p-init
 infixes-loop-p-init t c = round_start
@@ -260,4 +260,4 @@ infix_step-returns-in-Some t c = infix_sign _ _ _ _ _ c.requires (λ e. c.if-k-e
 
 pub binary-returns : goal.binary-returns
 unfolding binary node_cells token_cells
-binary-returns t c = enough (read _ c.advance.ensures refl (seq _ c.parse_expr-rhs.ensures (seq _ (c.push_token_node.ensures _ _ refl) done))) tt
+binary-returns t c = enough (read _ c.advance.ensures.reads refl (seq _ c.parse_expr-rhs.ensures (seq _ (c.push_token_node.ensures.reads _ _ refl) done))) tt

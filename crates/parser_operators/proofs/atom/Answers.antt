@@ -5,6 +5,6 @@ use Rattle.ast.specs.Layout.{token_cells, node_cells}
 use Rattle.rules.specs.Rules.{atom}
 use Rattle.parser_operators.proofs.atom.Goals as goal
 
-pub returns : goal.returns
+pub returns-clause-reads : goal.returns-clause-reads
 unfolding atom node_cells token_cells
-returns c = enough (read _ c.advance.ensures refl (c.push_token_node.ensures _ _ refl)) tt
+returns-clause-reads c = enough (read _ c.advance.ensures.reads refl (c.push_token_node.ensures.reads _ _ refl)) tt

@@ -6,4 +6,4 @@ use Rattle.parser_operators.proofs.cast.Goals as goal
 
 pub returns : goal.returns
 unfolding cast
-returns c = λ rules. enough (read _ c.advance.ensures refl (seq _ (c.parse_type-rhs.ensures rules) (seq _ (c.push_cast.ensures _) done))) tt
+returns c = λ rules. enough (read _ c.advance.ensures.reads refl (seq _ (c.parse_type-rhs.ensures.reads rules) (seq _ (c.push_cast.ensures.reads _) done))) tt

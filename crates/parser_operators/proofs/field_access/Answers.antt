@@ -4,6 +4,6 @@ use Rattle.parser_state.proofs.Steps.{then, read, seq, done, enough}
 use Rattle.rules.specs.Rules.{field_access}
 use Rattle.parser_operators.proofs.field_access.Goals as goal
 
-pub returns : goal.returns
+pub returns-clause-reads : goal.returns-clause-reads
 unfolding field_access
-returns c = enough (then c.advance.ensures (read _ c.expect_ident.ensures refl (seq _ (c.push_field.ensures _) done))) tt
+returns-clause-reads c = enough (then c.advance.ensures.reads (read _ c.expect_ident.ensures.reads refl (seq _ (c.push_field.ensures.reads _) done))) tt

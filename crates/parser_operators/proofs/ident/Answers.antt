@@ -5,6 +5,6 @@ use Rattle.ast.specs.Layout.{token_cells, node_cells}
 use Rattle.rules.specs.Rules.{ident}
 use Rattle.parser_operators.proofs.ident.Goals as goal
 
-pub returns : goal.returns
+pub returns-clause-reads : goal.returns-clause-reads
 unfolding ident node_cells token_cells
-returns c = enough (read _ c.advance.ensures refl (c.push_token_node.ensures _ _ refl)) tt
+returns-clause-reads c = enough (read _ c.advance.ensures.reads refl (c.push_token_node.ensures.reads _ _ refl)) tt

@@ -5,10 +5,10 @@ use Rattle.parser_operators.specs.Matches.{match_node}
 use Rattle.parser_operators.proofs.Matches.{fail_any}
 use Rattle.parser_operators.proofs.match_node.Goals as goal
 
-pub returns-in-None : goal.returns-in-None
+pub returns-in-None-clause-reads : goal.returns-in-None-clause-reads
 unfolding match_node fail_at
-returns-in-None c = rw (c.in-None.is, match_node) (enough (fail_any _ _ c.fail_at.ensures) tt)
+returns-in-None-clause-reads c = rw (c.in-None.is, match_node) (enough (fail_any _ _ c.fail_at.ensures.reads) tt)
 
-pub returns-in-Some : goal.returns-in-Some
+pub returns-in-Some-clause-reads : goal.returns-in-Some-clause-reads
 unfolding match_node
-returns-in-Some c = rw (c.in-Some.is, match_node) (c.push_match.ensures _)
+returns-in-Some-clause-reads c = rw (c.in-Some.is, match_node) (c.push_match.ensures.reads _)

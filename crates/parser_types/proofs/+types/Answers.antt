@@ -13,56 +13,56 @@ use Rattle.parser_types.proofs.TypeKinds.{too_deep, type_at, type-atom, type-non
 use Rattle.parser_types.proofs.+types.Goals as goal
 use Rattle.parser_types.proofs.+types.Goals.{parse_type-in_default-via-then-this-lt35, parse_type-in_default-via-else-this-lt35+else-this-lt40}
 
-pub inner_type-returns : goal.inner_type-returns
+pub inner_type-returns-clause-reads : goal.inner_type-returns-clause-reads
 unfolding inner_type
-inner_type-returns t c = λ rules make w. enough (then c.open_angle.ensures (seq _ (c.parse_type-id.ensures rules) (then c.expect.ensures (c.push_type.ensures _ _ (sym (w _)))))) tt
+inner_type-returns-clause-reads t c = λ rules make w. enough (then c.open_angle.ensures.reads (seq _ (c.parse_type-id.ensures.reads rules) (then c.expect.ensures.reads (c.push_type.ensures.reads _ _ (sym (w _)))))) tt
 
-pub record_type-returns : goal.record_type-returns
+pub record_type-returns-clause-reads : goal.record_type-returns-clause-reads
 unfolding record_type type_cells token_cells run_cells
-record_type-returns t c = λ rules. enough (read _ c.advance.ensures refl (then c.expect.ensures (seq _ (c.typed_names-run.ensures.0 rules) (c.push_type.ensures _ _ refl)))) tt
+record_type-returns-clause-reads t c = λ rules. enough (read _ c.advance.ensures.reads refl (then c.expect.ensures.reads (seq _ (c.typed_names-run.ensures.reads.0 rules) (c.push_type.ensures.reads _ _ refl)))) tt
 
-pub typed_name-returns : goal.typed_name-returns
+pub typed_name-returns-clause-reads : goal.typed_name-returns-clause-reads
 unfolding typed_name
-typed_name-returns t c = λ rules. enough (read _ c.expect_ident.ensures refl (then c.expect.ensures (seq _ (c.parse_type-id.ensures rules) (c.push_named.ensures _)))) tt
+typed_name-returns-clause-reads t c = λ rules. enough (read _ c.expect_ident.ensures.reads refl (then c.expect.ensures.reads (seq _ (c.parse_type-id.ensures.reads rules) (c.push_named.ensures.reads _)))) tt
 
 pub typed_names-loop-p-init : goal.typed_names-loop-p-init
-typed_names-loop-p-init t c = λ rules. midway_start
+typed_names-loop-p-init t c = ((λ rules. midway_start), refl)
 
 pub typed_names-loop-p-smaller : goal.typed_names-loop-p-smaller
-typed_names-loop-p-smaller t c = falls _ (sym c.member_follows.ensures ∙ c.loop-p-test.true) (c.typed_name.ensures (rules_of []))
+typed_names-loop-p-smaller t c = falls _ (sym c.member_follows.ensures ∙ c.loop-p-test.true) (c.typed_name.ensures.reads (rules_of []))
 
 pub typed_names-loop-p-preserved : goal.typed_names-loop-p-preserved
-typed_names-loop-p-preserved t c = λ rules. midway_turn (c.loop-p.invariant rules) (sym c.member_follows.ensures ∙ c.loop-p-test.true) (c.typed_name.ensures rules) refl
+typed_names-loop-p-preserved t c = ((λ rules. midway_turn (c.loop-p.invariant.0 rules) (sym c.member_follows.ensures ∙ c.loop-p-test.true) (c.typed_name.ensures.reads rules) refl), c.typed_name.ensures.keeps ∙ c.loop-p.invariant.1)
 
-pub typed_names-returns : goal.typed_names-returns
-typed_names-returns t c = ((λ rules. midway_end (c.loop-p.invariant rules) (sym c.member_follows.ensures ∙ c.loop-p-test.false) refl c.close.ensures.0), c.close.ensures.1)
+pub typed_names-returns-clause-reads : goal.typed_names-returns-clause-reads
+typed_names-returns-clause-reads t c = ((λ rules. midway_end (c.loop-p.invariant.0 rules) (sym c.member_follows.ensures ∙ c.loop-p-test.false) refl c.close.ensures.reads.0), c.close.ensures.reads.1)
 
-pub parse_type-returns-then-levels-eq0 : goal.parse_type-returns-then-levels-eq0
-parse_type-returns-then-levels-eq0 t c = λ rules. too_deep rules _ c.if-levels-eq0.true (c.fail_expecting.ensures _)
+pub parse_type-returns-then-levels-eq0-clause-reads : goal.parse_type-returns-then-levels-eq0-clause-reads
+parse_type-returns-then-levels-eq0-clause-reads t c = λ rules. too_deep rules _ c.if-levels-eq0.true (c.fail_expecting.ensures.reads _)
 
-pub parse_type-returns-in-42 : goal.parse_type-returns-in-42
+pub parse_type-returns-in-42-clause-reads : goal.parse_type-returns-in-42-clause-reads
 unfolding type_by_kind choose
-parse_type-returns-in-42 t c = λ rules. type_at rules _ k_foreign c.if-levels-eq0.false c.foreign_type.ensures (sym c.kind.ensures ∙ c.in-42.is)
+parse_type-returns-in-42-clause-reads t c = λ rules. type_at rules _ k_foreign c.if-levels-eq0.false c.foreign_type.ensures.reads (sym c.kind.ensures ∙ c.in-42.is)
 
-pub parse_type-returns-in-40 : goal.parse_type-returns-in-40
+pub parse_type-returns-in-40-clause-reads : goal.parse_type-returns-in-40-clause-reads
 unfolding type_by_kind choose option_type inner_type type_cells
-parse_type-returns-in-40 t c = λ rules. type_at rules _ k_option c.if-levels-eq0.false (c.inner_type.ensures rules T.Option (λ id. refl)) (sym c.kind.ensures ∙ c.in-40.is)
+parse_type-returns-in-40-clause-reads t c = λ rules. type_at rules _ k_option c.if-levels-eq0.false (c.inner_type.ensures.reads rules T.Option (λ id. refl)) (sym c.kind.ensures ∙ c.in-40.is)
 
-pub parse_type-returns-in-41 : goal.parse_type-returns-in-41
+pub parse_type-returns-in-41-clause-reads : goal.parse_type-returns-in-41-clause-reads
 unfolding type_by_kind choose array_type inner_type type_cells
-parse_type-returns-in-41 t c = λ rules. type_at rules _ k_array c.if-levels-eq0.false (c.inner_type-in-41.ensures rules T.Array (λ id. refl)) (sym c.kind.ensures ∙ c.in-41.is)
+parse_type-returns-in-41-clause-reads t c = λ rules. type_at rules _ k_array c.if-levels-eq0.false (c.inner_type-in-41.ensures.reads rules T.Array (λ id. refl)) (sym c.kind.ensures ∙ c.in-41.is)
 
-pub parse_type-returns-in-43 : goal.parse_type-returns-in-43
+pub parse_type-returns-in-43-clause-reads : goal.parse_type-returns-in-43-clause-reads
 unfolding type_by_kind choose
-parse_type-returns-in-43 t c = λ rules. type_at rules _ k_record c.if-levels-eq0.false (c.record_type.ensures rules) (sym c.kind.ensures ∙ c.in-43.is)
+parse_type-returns-in-43-clause-reads t c = λ rules. type_at rules _ k_record c.if-levels-eq0.false (c.record_type.ensures.reads rules) (sym c.kind.ensures ∙ c.in-43.is)
 
-pub parse_type-returns-in-35 : goal.parse_type-returns-in-35
-parse_type-returns-in-35 t c = λ rules. type-atom rules _ c.if-levels-eq0.false c.atom_type.ensures c.kind.ensures (omega arith) (omega arith)
+pub parse_type-returns-in-35-clause-reads : goal.parse_type-returns-in-35-clause-reads
+parse_type-returns-in-35-clause-reads t c = λ rules. type-atom rules _ c.if-levels-eq0.false c.atom_type.ensures.reads c.kind.ensures (omega arith) (omega arith)
 
-pub parse_type-returns-in_default : goal.parse_type-returns-in_default
-parse_type-returns-in_default t c =
+pub parse_type-returns-in_default-clause-reads : goal.parse_type-returns-in_default-clause-reads
+parse_type-returns-in_default-clause-reads t c =
     let outside : (c.kind.result < k_str) ⊎ (k_void < c.kind.result) = elim c.in_default.branch [
       | parse_type-in_default-via-then-this-lt35 w ↦ inl (omega arith)
       | parse_type-in_default-via-else-this-lt35+else-this-lt40 w ↦ inr (omega arith)
     ] in
-    λ rules. type-none rules _ c.if-levels-eq0.false (c.fail_expecting-in_default.ensures _) c.kind.ensures outside (λ e. omega arith) (λ e. omega arith) (λ e. omega arith) (λ e. omega arith)
+    λ rules. type-none rules _ c.if-levels-eq0.false (c.fail_expecting-in_default.ensures.reads _) c.kind.ensures outside (λ e. omega arith) (λ e. omega arith) (λ e. omega arith) (λ e. omega arith)

@@ -3,6 +3,7 @@
 use Rattle.std.proofs.Common.{◌+◌, ◌*◌}
 use Rattle.rules.specs.Rules.{typed_name}
 use Rattle.parser_state.specs.Represents.{code_of}
+use Rattle.parser_state.specs.Keeps.{KeepsNodes}
 use Rattle.parser_state.specs.Refines.{Rules, deeper}
 use Rattle.parser_state.proofs.Loops.{MembersInvariant}
 use Rattle.parser_state.proofs.Rounds.{weight}
@@ -24,7 +25,7 @@ abbrev pub decreases-typed_names : goal.decreases-typed_names
 decreases-typed_names l = 4 * l.levels + 2
 
 abbrev pub invariant-typed_names-loop-p : goal.invariant-typed_names-loop-p
-invariant-typed_names-loop-p l = (rules : Rules) → MembersInvariant l.tokens l.stop (typed_name (deeper rules l.levels)) (code_of l.initial.p) (code_of l.p) l.members
+invariant-typed_names-loop-p l = ((rules : Rules) → MembersInvariant l.tokens l.stop (typed_name (deeper rules l.levels)) (code_of l.initial.p) (code_of l.p) l.members) × KeepsNodes l.fn.p l.p
 
 abbrev pub decreases-typed_names-loop-p : goal.decreases-typed_names-loop-p
 decreases-typed_names-loop-p l = weight l.tokens (code_of l.p)

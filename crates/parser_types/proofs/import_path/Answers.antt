@@ -4,10 +4,10 @@ use Rattle.parser_state.proofs.Steps.{if_kind-yes, if_kind-no, read, refused, en
 use Rattle.rules.specs.Rules.{import_path}
 use Rattle.parser_types.proofs.import_path.Goals as goal
 
-pub returns-then-kind-eq-S : goal.returns-then-kind-eq-S
+pub returns-then-kind-eq-S-clause-reads : goal.returns-then-kind-eq-S-clause-reads
 unfolding import_path
-returns-then-kind-eq-S c = if_kind-yes _ _ (enough (read _ c.advance.ensures refl (c.push_token.ensures _)) tt) (sym c.kind.ensures ∙ c.if-kind-eq-S.true)
+returns-then-kind-eq-S-clause-reads c = if_kind-yes _ _ (enough (read _ c.advance.ensures.reads refl (c.push_token.ensures.reads _)) tt) (sym c.kind.ensures ∙ c.if-kind-eq-S.true)
 
-pub returns-else-kind-eq-S : goal.returns-else-kind-eq-S
+pub returns-else-kind-eq-S-clause-reads : goal.returns-else-kind-eq-S-clause-reads
 unfolding import_path
-returns-else-kind-eq-S c = if_kind-no _ _ (refused (c.fail_expecting.ensures _)) (λ e. c.if-kind-eq-S.false (c.kind.ensures ∙ e))
+returns-else-kind-eq-S-clause-reads c = if_kind-no _ _ (refused (c.fail_expecting.ensures.reads _)) (λ e. c.if-kind-eq-S.false (c.kind.ensures ∙ e))

@@ -4,8 +4,8 @@ use Rattle.parser_state.proofs.Steps.{if_kind-yes, if_kind-no}
 use Rattle.parser_types.proofs.Imports.{strike_as}
 use Rattle.parser_types.proofs.import_paths.Goals as goal
 
-pub returns-then-kind-eq-S : goal.returns-then-kind-eq-S
-returns-then-kind-eq-S c = if_kind-yes _ _ c.one_path.ensures (sym c.kind.ensures ∙ c.if-kind-eq-S.true)
+pub returns-then-kind-eq-S-clause-reads : goal.returns-then-kind-eq-S-clause-reads
+returns-then-kind-eq-S-clause-reads c = if_kind-yes _ _ c.one_path.ensures.reads (sym c.kind.ensures ∙ c.if-kind-eq-S.true)
 
-pub returns-else-kind-eq-S : goal.returns-else-kind-eq-S
-returns-else-kind-eq-S c = if_kind-no _ _ (strike_as c.bracketed_paths.ensures) (λ e. c.if-kind-eq-S.false (c.kind.ensures ∙ e))
+pub returns-else-kind-eq-S-clause-reads : goal.returns-else-kind-eq-S-clause-reads
+returns-else-kind-eq-S-clause-reads c = if_kind-no _ _ (strike_as c.bracketed_paths.ensures.reads) (λ e. c.if-kind-eq-S.false (c.kind.ensures ∙ e))

@@ -3,5 +3,5 @@ use Rattle.std.proofs.Common.{refl}
 use Rattle.parser_state.proofs.Steps.{read, collected_one, enough}
 use Rattle.parser_types.proofs.one_path.Goals as goal
 
-pub returns : goal.returns
-returns c = enough (read _ c.advance.ensures refl (collected_one _ (c.push_token.ensures _))) tt
+pub returns-clause-reads : goal.returns-clause-reads
+returns-clause-reads c = enough (read _ c.advance.ensures.reads refl (collected_one _ (c.push_token.ensures.reads _))) tt

@@ -6,4 +6,4 @@ use Rattle.parser_types.proofs.parse_extern.Goals as goal
 
 pub returns : goal.returns
 unfolding parse_extern
-returns c = λ rules. enough (seq _ (c.take_docs-docs.ensures.0 _) (read _ c.expect.ensures refl (read _ c.extern_name.ensures refl (then c.expect-2.ensures (seq _ (c.extern_fns-fns.ensures rules) (c.push_extern.ensures _)))))) tt
+returns c = λ rules. enough (seq _ (c.take_docs-docs.ensures.reads.0 _) (read _ c.expect.ensures.reads refl (read _ c.extern_name.ensures.reads refl (then c.expect-2.ensures.reads (seq _ (c.extern_fns-fns.ensures.reads rules) (c.push_extern.ensures.reads _)))))) tt

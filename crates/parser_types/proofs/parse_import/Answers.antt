@@ -6,6 +6,6 @@ use Rattle.rules.specs.Combinators.{alloc_slice}
 use Rattle.ast.specs.Layout.{token_cells, run_cells, node_cells}
 use Rattle.parser_types.proofs.parse_import.Goals as goal
 
-pub returns : goal.returns
+pub returns-clause-reads : goal.returns-clause-reads
 unfolding parse_import node_cells token_cells run_cells
-returns c = enough (read _ c.advance.ensures refl (reassoc _ alloc_slice _ (seq _ (lists-after alloc_slice c.import_paths-members.ensures (c.alloc_slice-pkgs.ensures.0 _) refl) (c.push_token_node.ensures _ _ refl)))) tt
+returns-clause-reads c = enough (read _ c.advance.ensures.reads refl (reassoc _ alloc_slice _ (seq _ (lists-after alloc_slice c.import_paths-members.ensures.reads (c.alloc_slice-pkgs.ensures.reads.0 _) refl) (c.push_token_node.ensures.reads _ _ refl)))) tt

@@ -12,16 +12,16 @@ pub advance-requires : goal.advance-requires
 advance-requires c = skips-some _ (sym c.skips.ensures ∙ c.loop-p-test.true)
 
 pub loop-p-smaller : goal.loop-p-smaller
-loop-p-smaller c = lighter (skips-both _ (sym c.skips.ensures ∙ c.loop-p-test.true)).0 c.advance.ensures
+loop-p-smaller c = lighter (skips-both _ (sym c.skips.ensures ∙ c.loop-p-test.true)).0 c.advance.ensures.reads
 
 pub loop-p-preserved : goal.loop-p-preserved
 loop-p-preserved c =
     let on : _ ≡ true = sym c.skips.ensures ∙ c.loop-p-test.true in
-    round_again c.loop-p.invariant (skips-both _ on).0 (again_of _ (continues on c.advance.ensures))
+    round_again c.loop-p.invariant (skips-both _ on).0 (again_of _ (continues on c.advance.ensures.reads))
 
 pub returns-then-kind-eq-CURLY_RIGHT : goal.returns-then-kind-eq-CURLY_RIGHT
 unfolding synchronizing
-returns-then-kind-eq-CURLY_RIGHT c = round_last c.loop-p.invariant (λ stack. refl) (last_of _ (breaks_past c.advance-then-kind-eq-CURLY_RIGHT.ensures (sym c.kind.ensures ∙ c.if-kind-eq-CURLY_RIGHT.true)))
+returns-then-kind-eq-CURLY_RIGHT c = round_last c.loop-p.invariant (λ stack. refl) (last_of _ (breaks_past c.advance-then-kind-eq-CURLY_RIGHT.ensures.reads (sym c.kind.ensures ∙ c.if-kind-eq-CURLY_RIGHT.true)))
 
 pub returns-else-kind-eq-CURLY_RIGHT : goal.returns-else-kind-eq-CURLY_RIGHT
 unfolding synchronizing

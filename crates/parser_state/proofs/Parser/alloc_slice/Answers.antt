@@ -6,17 +6,17 @@ use Rattle.parser_state.proofs.Steps.{left-some}
 use Rattle.parser_state.proofs.Cells.{allocating, moved, tail_mid, tail_put}
 use Rattle.parser_state.proofs.Parser.alloc_slice.Goals as goal
 
-pub returns-then-members-gt-MAX_BYTES : goal.returns-then-members-gt-MAX_BYTES
-returns-then-members-gt-MAX_BYTES c = ((λ tokens. lists_full (λ R L stack xs m a b few h. omega (arith, h.lent.small, left-some h))), omega arith)
+pub returns-then-members-gt-MAX_BYTES-clause-reads : goal.returns-then-members-gt-MAX_BYTES-clause-reads
+returns-then-members-gt-MAX_BYTES-clause-reads c = ((λ tokens. lists_full (λ R L stack xs m a b few h. omega (arith, h.lent.small, left-some h))), omega arith)
 
-pub returns-then-self-at : goal.returns-then-self-at
-returns-then-self-at c = ((λ tokens. lists_full (λ R L stack xs m a b few h. omega (arith, h.credit.room, h.lent.lists, left-some h))), omega arith)
+pub returns-then-self-at-clause-reads : goal.returns-then-self-at-clause-reads
+returns-then-self-at-clause-reads c = ((λ tokens. lists_full (λ R L stack xs m a b few h. omega (arith, h.credit.room, h.lent.lists, left-some h))), omega arith)
 
-pub returns-then-cells-gt-MAX_LISTS : goal.returns-then-cells-gt-MAX_LISTS
-returns-then-cells-gt-MAX_LISTS c = ((λ tokens. lists_full (λ R L stack xs m a b few h. omega (arith, h.credit.room, h.lent.small, left-some h))), omega arith)
+pub returns-then-cells-gt-MAX_LISTS-clause-reads : goal.returns-then-cells-gt-MAX_LISTS-clause-reads
+returns-then-cells-gt-MAX_LISTS-clause-reads c = ((λ tokens. lists_full (λ R L stack xs m a b few h. omega (arith, h.credit.room, h.lent.small, left-some h))), omega arith)
 
-pub returns : goal.returns
-returns c =
+pub returns-clause-reads : goal.returns-clause-reads
+returns-clause-reads c =
     let s = code_of c.args.self.now in
     let used = s.parser.used in
     ((λ tokens. allocating tokens s _ _ (sym c.going.ensures ∙ c.if-not-going.false) (tail_put used.cells s.lists _ _ (c.move_list.ensures ∙ ap (λ (l : List ℕ). moved l (used.scratch - c.args.mark) used.scratch) (tail_mid used.cells s.lists)))), c.if-members-gt-MAX_BYTES.false)

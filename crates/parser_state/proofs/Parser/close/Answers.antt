@@ -3,6 +3,6 @@ use Rattle.parser_state.specs.Refines.{closed}
 use Rattle.parser_state.proofs.Steps.{lists_then}
 use Rattle.parser_state.proofs.Parser.close.Goals as goal
 
-pub returns : goal.returns
+pub returns-clause-reads : goal.returns-clause-reads
 unfolding closed
-returns c = (lists_then _ c.expect.ensures (c.alloc_slice.ensures.0 _), c.alloc_slice.ensures.1)
+returns-clause-reads c = (lists_then _ c.expect.ensures.reads (c.alloc_slice.ensures.reads.0 _), c.alloc_slice.ensures.reads.1)

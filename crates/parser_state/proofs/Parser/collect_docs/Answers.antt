@@ -7,23 +7,26 @@ use Rattle.parser_state.proofs.Steps.{current_represents, represents_going, if_k
 use Rattle.parser_state.proofs.Parser.collect_docs.Goals as goal
 
 pub loop-i-init : goal.loop-i-init
-loop-i-init c = round_start
+loop-i-init c = (round_start, (refl, refl))
 
 pub advance-requires : goal.advance-requires
 advance-requires c = omega (arith, doc-kind _ (sym c.doc_follows.ensures ∙ c.loop-i-test.true))
 
 pub loop-i-smaller : goal.loop-i-smaller
 loop-i-smaller c =
-    lighter (doc-going _ (sym c.doc_follows.ensures ∙ c.loop-i-test.true)) (read_at (keep_doc 0) c.advance.ensures refl (c.push_doc.ensures 0))
+    lighter (doc-going _ (sym c.doc_follows.ensures ∙ c.loop-i-test.true)) (read_at (keep_doc 0) c.advance.ensures.reads refl (c.push_doc.ensures.reads 0))
 
 pub loop-i-preserved : goal.loop-i-preserved
 loop-i-preserved c =
     let yes : _ ≡ true = sym c.doc_follows.ensures ∙ c.loop-i-test.true in
-    round_again c.loop-i.invariant (doc-going _ yes)
-    (again_of _ (if_kind-yes _ _ (read_at (keep_doc 0) c.advance.ensures refl (c.push_doc.ensures 0)) (doc-kind _ yes)))
+    let keeps = c.loop-i.invariant.1 in (
+      round_again c.loop-i.invariant.0 (doc-going _ yes)
+          (again_of _ (if_kind-yes _ _ (read_at (keep_doc 0) c.advance.ensures.reads refl (c.push_doc.ensures.reads 0)) (doc-kind _ yes))),
+      (c.push_doc.ensures.keeps.0 ∙ c.advance.ensures.keeps.0 ∙ keeps.0, c.push_doc.ensures.keeps.1 ∙ c.advance.ensures.keeps.2 ∙ keeps.1),
+    )
 
-pub returns : goal.returns
+pub returns-clause-reads : goal.returns-clause-reads
 unfolding collect_docs pure
-returns c =
-    round_out c.loop-i.invariant (λ stack. refl) (λ R L stack n m e h.
+returns-clause-reads c =
+    round_out c.loop-i.invariant.0 (λ stack. refl) (λ R L stack n m e h.
     if_kind_is_no _ _ _ m (rw (ap (λ (t : Token). t.kind) (current_represents h.related)) (no-doc _ (represents_going h) (sym c.doc_follows.ensures ∙ c.loop-i-test.false))))

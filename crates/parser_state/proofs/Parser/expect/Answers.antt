@@ -4,10 +4,10 @@ use Rattle.rules.specs.Combinators.{expect}
 use Rattle.parser_state.proofs.Steps.{if_kind-yes, if_kind-no, refused}
 use Rattle.parser_state.proofs.Parser.expect.Goals as goal
 
-pub returns-then-kind-wanted : goal.returns-then-kind-wanted
+pub returns-then-kind-wanted-clause-reads : goal.returns-then-kind-wanted-clause-reads
 unfolding expect
-returns-then-kind-wanted c = if_kind-yes _ _ c.advance.ensures (sym c.kind.ensures ∙ c.if-kind-wanted.true)
+returns-then-kind-wanted-clause-reads c = if_kind-yes _ _ c.advance.ensures.reads (sym c.kind.ensures ∙ c.if-kind-wanted.true)
 
-pub returns-else-kind-wanted : goal.returns-else-kind-wanted
+pub returns-else-kind-wanted-clause-reads : goal.returns-else-kind-wanted-clause-reads
 unfolding expect
-returns-else-kind-wanted c = if_kind-no _ _ (refused (c.fail_expecting.ensures _)) (λ e. c.if-kind-wanted.false (c.kind.ensures ∙ e))
+returns-else-kind-wanted-clause-reads c = if_kind-no _ _ (refused (c.fail_expecting.ensures.reads _)) (λ e. c.if-kind-wanted.false (c.kind.ensures ∙ e))

@@ -2,5 +2,5 @@
 use Rattle.parser_state.proofs.Leaves.{failing_before}
 use Rattle.parser_state.proofs.Parser.fail_at.Goals as goal
 
-pub returns : goal.returns
-returns c = failing_before _ c.args.at _ c.token_at-t.ensures c.fail_with.ensures
+pub returns-clause-reads : goal.returns-clause-reads
+returns-clause-reads c = failing_before _ c.args.at _ c.token_at-t.ensures c.fail_with.ensures.reads

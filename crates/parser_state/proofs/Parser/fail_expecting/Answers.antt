@@ -2,5 +2,5 @@
 use Rattle.parser_state.proofs.Leaves.{failing}
 use Rattle.parser_state.proofs.Parser.fail_expecting.Goals as goal
 
-pub returns : goal.returns
-returns c = λ tokens. failing c.fail_with.ensures
+pub returns-clause-reads : goal.returns-clause-reads
+returns-clause-reads c = λ tokens. failing c.fail_with.ensures.reads

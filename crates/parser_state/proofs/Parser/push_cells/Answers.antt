@@ -6,11 +6,11 @@ use Rattle.parser_state.proofs.Steps.{left-some}
 use Rattle.parser_state.proofs.Cells.{pushing}
 use Rattle.parser_state.proofs.Parser.push_cells.Goals as goal
 
-pub returns-then-n-gt-MAX_LISTS : goal.returns-then-n-gt-MAX_LISTS
-returns-then-n-gt-MAX_LISTS c = λ tokens. full (λ R L stack m h. omega (arith, h.credit.room, h.lent.small, left-some h))
+pub returns-then-n-gt-MAX_LISTS-clause-reads : goal.returns-then-n-gt-MAX_LISTS-clause-reads
+returns-then-n-gt-MAX_LISTS-clause-reads c = λ tokens. full (λ R L stack m h. omega (arith, h.credit.room, h.lent.small, left-some h))
 
-pub returns-then-self-n : goal.returns-then-self-n
-returns-then-self-n c = λ tokens. full (λ R L stack m h. omega (arith, h.credit.room, h.lent.lists, left-some h))
+pub returns-then-self-n-clause-reads : goal.returns-then-self-n-clause-reads
+returns-then-self-n-clause-reads c = λ tokens. full (λ R L stack m h. omega (arith, h.credit.room, h.lent.lists, left-some h))
 
-pub returns : goal.returns
-returns c = λ tokens. pushing tokens c.args.cells.now (code_of c.args.self.now) (sym c.going.ensures ∙ c.if-not-going.false) c.put.ensures
+pub returns-clause-reads : goal.returns-clause-reads
+returns-clause-reads c = λ tokens. pushing tokens c.args.cells.now (code_of c.args.self.now) (sym c.going.ensures ∙ c.if-not-going.false) c.put.ensures

@@ -7,12 +7,12 @@ use Rattle.parser_state.proofs.Steps.{left-some}
 use Rattle.parser_state.proofs.Docs.{keeping}
 use Rattle.parser_state.proofs.Parser.push_doc.Goals as goal
 
-pub returns-in_default : goal.returns-in_default
-returns-in_default c =
+pub returns-in_default-clause-reads : goal.returns-in_default-clause-reads
+returns-in_default-clause-reads c =
     λ n. no_place (rw c.in_default.is at c.place.ensures) (λ R L stack m h. (omega (arith, h.credit.records, h.lent.small, left-some h), omega (arith, h.credit.records, h.lent.types, left-some h)))
 
-pub returns : goal.returns
-returns c =
+pub returns-clause-reads : goal.returns-clause-reads
+returns-clause-reads c =
     let types = c.args.self.now.types.now in
     let d = c.token_at-d.result in
     let place = rw c.in-Some.is at c.place.ensures in

@@ -3,6 +3,6 @@ use Rattle.std.proofs.Common.{refl, arith}
 use Rattle.ast.specs.Layout.{token_cells, run_cells, node_cells}
 use Rattle.parser_state.proofs.Parser.push_field.Goals as goal
 
-pub returns : goal.returns
+pub returns-clause-reads : goal.returns-clause-reads
 unfolding node_cells token_cells run_cells
-returns c = λ tokens. c.push_node.ensures tokens _ 1 (omega arith) refl
+returns-clause-reads c = λ tokens. c.push_node.ensures.reads tokens _ 1 (omega arith) refl

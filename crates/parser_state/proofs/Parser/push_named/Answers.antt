@@ -2,6 +2,6 @@
 use Rattle.ast.specs.Layout.{token_cells}
 use Rattle.parser_state.proofs.Parser.push_named.Goals as goal
 
-pub returns : goal.returns
+pub returns-clause-reads : goal.returns-clause-reads
 unfolding token_cells
-returns c = λ tokens. c.push_cells.ensures tokens
+returns-clause-reads c = λ tokens. c.push_cells.ensures.reads tokens

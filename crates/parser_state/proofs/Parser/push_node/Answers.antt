@@ -7,15 +7,15 @@ use Rattle.parser_state.proofs.Steps.{left-some}
 use Rattle.parser_state.proofs.Cells.{node_making}
 use Rattle.parser_state.proofs.Parser.push_node.Goals as goal
 
-pub returns-in_default : goal.returns-in_default
-returns-in_default c =
+pub returns-in_default-clause-reads : goal.returns-in_default-clause-reads
+returns-in_default-clause-reads c =
     λ tokens f rooms few e. no_place (rw c.in_default.is at c.place.ensures) (λ R L stack m h. (omega (arith, h.credit.records, h.lent.small, left-some h), omega (arith, h.credit.records, h.lent.nodes, left-some h)))
 
-pub returns-then-values-ge-MAX_VALUES : goal.returns-then-values-ge-MAX_VALUES
-returns-then-values-ge-MAX_VALUES c = λ tokens f rooms few e. full (λ R L stack m h. omega (arith, h.credit.numbers, h.lent.small, left-some h))
+pub returns-then-values-ge-MAX_VALUES-clause-reads : goal.returns-then-values-ge-MAX_VALUES-clause-reads
+returns-then-values-ge-MAX_VALUES-clause-reads c = λ tokens f rooms few e. full (λ R L stack m h. omega (arith, h.credit.numbers, h.lent.small, left-some h))
 
-pub returns : goal.returns
-returns c =
+pub returns-clause-reads : goal.returns-clause-reads
+returns-clause-reads c =
     let cells = c.args.cells in
     let place = rw c.in-Some.is at c.place.ensures in
     λ tokens f rooms few e. node_making tokens cells (code_of c.args.self.now) f _ rooms few place.0 e (c.put.ensures ∙ ap (λ (at : ℕ). paste c.args.self.now.nodes.now at cells (length cells)) place.2)

@@ -8,19 +8,19 @@ use Rattle.parser_state.proofs.Leaves.{full}
 use Rattle.parser_state.proofs.Docs.{attaching}
 use Rattle.parser_state.proofs.Parser.take_docs.Goals as goal
 
-pub returns-then-docs-gt-MAX_BYTES : goal.returns-then-docs-gt-MAX_BYTES
-returns-then-docs-gt-MAX_BYTES c = ((λ tokens. full (λ R L stack m h. omega (arith, h.credit.records, h.lent.small, left-some h))), refl)
+pub returns-then-docs-gt-MAX_BYTES-clause-reads : goal.returns-then-docs-gt-MAX_BYTES-clause-reads
+returns-then-docs-gt-MAX_BYTES-clause-reads c = ((λ tokens. full (λ R L stack m h. omega (arith, h.credit.records, h.lent.small, left-some h))), refl)
 
-pub returns-then-cells-gt-MAX_LISTS : goal.returns-then-cells-gt-MAX_LISTS
-returns-then-cells-gt-MAX_LISTS c = ((λ tokens. full (λ R L stack m h. omega (arith, h.credit.room, h.lent.small, left-some h))), refl)
+pub returns-then-cells-gt-MAX_LISTS-clause-reads : goal.returns-then-cells-gt-MAX_LISTS-clause-reads
+returns-then-cells-gt-MAX_LISTS-clause-reads c = ((λ tokens. full (λ R L stack m h. omega (arith, h.credit.room, h.lent.small, left-some h))), refl)
 
-pub returns-then-self-n : goal.returns-then-self-n
-returns-then-self-n c = ((λ tokens. full (λ R L stack m h. omega (arith, h.credit.records, h.lent.types, left-some h))), refl)
+pub returns-then-self-n-clause-reads : goal.returns-then-self-n-clause-reads
+returns-then-self-n-clause-reads c = ((λ tokens. full (λ R L stack m h. omega (arith, h.credit.records, h.lent.types, left-some h))), refl)
 
-pub returns-then-self-at : goal.returns-then-self-at
-returns-then-self-at c = ((λ tokens. full (λ R L stack m h. omega (arith, h.credit.room, h.lent.lists, left-some h))), refl)
+pub returns-then-self-at-clause-reads : goal.returns-then-self-at-clause-reads
+returns-then-self-at-clause-reads c = ((λ tokens. full (λ R L stack m h. omega (arith, h.credit.room, h.lent.lists, left-some h))), refl)
 
-pub returns : goal.returns
-returns c =
+pub returns-clause-reads : goal.returns-clause-reads
+returns-clause-reads c =
     let s = code_of c.args.self.now in
     ((λ tokens. subst (Refines tokens 0 0 take_docs (λ t. t ≡ record { start = s.parser.used.cells; len = s.parser.used.docs }) stack_unchanged 0 0 0 s) (sym c.move_docs.ensures) (attaching tokens s (sym c.going.ensures ∙ c.if-not-going.false) refl)), ap (λ (t : Code). t.parser.cur) c.move_docs.ensures)
