@@ -4,8 +4,8 @@ use Rattle.std.specs.Prelude.{Bool, List, [], ◌∷◌, ℕ, ◌+◌, ◌*◌, 
 use Rattle.std.proofs.Math.Option.{Option, none, some}
 use Rattle.std.specs.Prelude as R
 use Rattle.lex.specs.Bytes.{if}
+pub use Rattle.lex.specs.Cells.{diagnostic_at}
 use Rattle.ast.specs.Layout.{node_width, type_width}
-use Rattle.lex.specs.declared.diagnostic.Diagnostic.{Diagnostic}
 use Rattle.lex.specs.declared.tok.Token.{Token}
 use Rattle.ast.specs.declared.Counts.{Counts}
 use Rattle.ast.specs.declared.Run.{Run}
@@ -21,15 +21,6 @@ token_at cs j = record { kind = get_or cs j 0; start = get_or cs (j + 1) 0; len 
 
 abbrev pub run_at : List ℕ → ℕ → Run
 run_at cs j = record { start = get_or cs j 0; len = get_or cs (j + 1) 0 }
-
-abbrev pub diagnostic_at : List ℕ → ℕ → Diagnostic
-diagnostic_at cs j = record {
-  number = get_or cs j 0;
-  start = get_or cs (j + 1) 0;
-  len = get_or cs (j + 2) 0;
-  wanted = get_or cs (j + 3) 0;
-  seen = get_or cs (j + 4) 0;
-}
 
 abbrev pub counts_at : List ℕ → Counts
 counts_at cs =

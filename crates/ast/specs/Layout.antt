@@ -1,8 +1,9 @@
 -- Where a tree's records lie in the lent arrays.
 use Rattle.std.specs.Prelude.{List, [], ◌∷◌, ◌++◌, ℕ}
 pub use Rattle.lex.specs.Cells.{zeros, padded}
-use Rattle.lex.specs.declared.diagnostic.Diagnostic.{Diagnostic}
+unfoldable pub use Rattle.lex.specs.Cells.{diagnostic_cells}
 use Rattle.lex.specs.declared.tok.Token.{Token}
+use Rattle.ast.specs.declared.Counts.{Counts}
 use Rattle.ast.specs.declared.Run.{Run}
 use Rattle.ast.specs.declared.Node.{Node}
 use Rattle.ast.specs.declared.Node.TheVariants as N
@@ -52,5 +53,6 @@ type_cells (T.Option t) = padded type_width (3 ∷ t.0 ∷ [])
 type_cells (T.Array t) = padded type_width (4 ∷ t.0 ∷ [])
 type_cells (T.Record src fields) = padded type_width (5 ∷ token_cells src ++ run_cells fields)
 
-unfoldable pub diagnostic_cells : Diagnostic → List ℕ
-diagnostic_cells e = e.number ∷ e.start ∷ e.len ∷ e.wanted ∷ e.seen ∷ []
+-- the counts; `counts_at` reads them again
+abbrev pub count_cells : Counts → List ℕ
+count_cells c = c.nodes ∷ c.types ∷ c.cells ∷ c.roots ∷ c.values ∷ c.diagnostics ∷ []

@@ -1,5 +1,5 @@
--- The schema: what the cells of each record, and of each member of a list, hold. Encoding, decoding,
--- children, renumbering, comparison and the listing go by it.
+-- The schema: what the cells of each record, and of each member of a list, hold. Encoding,
+-- decoding, children, renumbering, comparison and the listing go by it.
 use Rattle.std.specs.Prelude.{List, [], ◌∷◌, ℕ, ◌+◌, eqb, get_or}
 use Rattle.lex.specs.Bytes.{if}
 use Rattle.lex.specs.declared.tok.Token.{Token}

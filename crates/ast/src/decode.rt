@@ -1,12 +1,13 @@
 // The records of the tree, read from the lent arrays.
 ghost use Rattle.std.specs.Prelude.{◌≡◌, ◌+◌, ◌<◌, get_or, option_copied};
-ghost use Rattle.ast.specs.Decode.{token_at, run_at, diagnostic_at, record_at};
+ghost use Rattle.ast.specs.Decode.{token_at, run_at, record_at};
 ghost use Rattle.ast.specs.Decode.{node_of, type_of, node_at, type_at, option_of};
 
 use crate::{Node, NodeId, NodeKind, Run, TypeExpr, TypeExprId, TypeExprKind};
-use lex::{Diagnostic, Token};
+use lex::Token;
 
 // Cell `at + k`; 0 behind the end. By two tests: by `get`, names are compared more slowly by half.
+// 0 behind the end and no Option: a record is told by its kind, and 0 is none of a node or type.
 pub fn cell(a: &[u32], at: usize, k: usize) -> u32
     ensures { result ≡ get_or a.now (at + k) 0 }
 {
@@ -17,7 +18,8 @@ pub fn cell(a: &[u32], at: usize, k: usize) -> u32
     }
 }
 
-// The token whose cells begin at `at`.
+// The token whose cells begin at `at`. An array and a place, and no part of the array: the place
+// may lie behind its end, where no part begins.
 pub fn token_at(a: &[u32], at: usize) -> Token
     ensures { result ≡ token_at a.now at }
 {
@@ -31,31 +33,13 @@ pub fn token_at(a: &[u32], at: usize) -> Token
     }
 }
 
-// The run whose cells begin at `at`.
+// The run whose cells begin at `at`, which may lie behind the end as well.
 pub fn run_at(a: &[u32], at: usize) -> Run
     ensures { result ≡ run_at a.now at }
 {
     let start = cell(a, at, 0);
     let len = cell(a, at, 1);
     Run { start, len }
-}
-
-// The error whose cells begin at `at`.
-pub fn diagnostic_at(a: &[u32], at: usize) -> Diagnostic
-    ensures { result ≡ diagnostic_at a.now at }
-{
-    let number = cell(a, at, 0);
-    let start = cell(a, at, 1);
-    let len = cell(a, at, 2);
-    let wanted = cell(a, at, 3);
-    let seen = cell(a, at, 4);
-    Diagnostic {
-        number,
-        start,
-        len,
-        wanted,
-        seen,
-    }
 }
 
 // The node that a record's cells hold; none where the kind is unknown.

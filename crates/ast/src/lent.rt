@@ -8,7 +8,9 @@ use lex::{MAX_BYTES, Refusal};
 // The list cells that are lent at least for each byte of the script.
 pub const CELLS_PER_BYTE: usize = 8;
 
-// A script, the arrays that hold its tree, and what counts them.
+// A script, the arrays that hold its tree, and the counts. The counts stay beside the arrays, since
+// C lends each array by itself, longer than what is used of it, and the six counts in one of their
+// own.
 #[derive(Clone, Copy)]
 pub struct Tree<'a> {
     pub script: &'a [u8],
@@ -44,10 +46,6 @@ impl Tree<'_> {
         ensures { result.now ≡ cells_of (lent_of self.now) }
     {
         let n = self.counts.cells as usize;
-        if n <= self.lists.len() {
-            &self.lists[..n]
-        } else {
-            self.lists
-        }
+        self.lists.get(..n).unwrap_or(self.lists)
     }
 }

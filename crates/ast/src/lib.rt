@@ -7,12 +7,13 @@ pub mod schema;
 
 ghost use Rattle.std.specs.Prelude.{◌≡◌};
 ghost use Rattle.ast.specs.Decode.{counts_at};
+ghost use Rattle.ast.specs.Layout.{count_cells};
 
 pub use lent::Tree;
 use lex::{Diagnostic, Refusal, Token};
 
 // A list: its first cell and how many members it has.
-#[derive(Clone, Copy)]
+#[derive(Clone, Copy, Default)]
 pub struct Run {
     pub start: u32,
     pub len: u32,
@@ -111,7 +112,7 @@ impl Node {
 }
 
 // The kinds of node are numbers, in the order of `Node`. A record's first cell is its kind.
-// No enum: a kind is a cell of a lent array, which may hold any number, and is answered for each.
+// No enum: it would be turned into its number at every store and back at every read.
 #[derive(Clone, Copy)]
 pub struct NodeKind(pub u32);
 
@@ -160,7 +161,7 @@ impl TypeExpr {
 }
 
 // The kinds of type are numbers, in the order of `TypeExpr`. A record's first cell is its kind.
-// No enum: a kind is a cell of a lent array, which may hold any number, and is answered for each.
+// No enum: it would be turned into its number at every store and back at every read.
 #[derive(Clone, Copy)]
 pub struct TypeExprKind(pub u32);
 
@@ -179,8 +180,8 @@ impl TypeExprKind {
 // The cells of a diagnostic's record.
 pub const DIAGNOSTIC_WIDTH: usize = 5;
 
-// How many records, list cells, roots and values a reading made.
-#[derive(Clone, Copy)]
+// How many records, list cells, roots, values and diagnostics a reading made.
+#[derive(Clone, Copy, Default, PartialEq, Eq)]
 pub struct Counts {
     pub nodes: u32,
     pub types: u32,
@@ -209,8 +210,26 @@ impl From<&[u32; 6]> for Counts {
     }
 }
 
+// And back.
+impl From<Counts> for [u32; 6] {
+    ghost from_gives = { λ counts cells. cells ≡ count_cells counts };
+
+    fn from(counts: Counts) -> [u32; 6]
+        ensures { result ≡ count_cells counts }
+    {
+        [
+            counts.nodes,
+            counts.types,
+            counts.cells,
+            counts.roots,
+            counts.values,
+            counts.diagnostics,
+        ]
+    }
+}
+
 // Why a reading has no tree: what was lent, or the script.
-#[derive(Clone, Copy)]
+#[derive(Clone, Copy, PartialEq, Eq)]
 pub enum ReadError {
     Refused(Refusal),
     Script(Diagnostic),

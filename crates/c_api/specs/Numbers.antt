@@ -2,8 +2,8 @@
 use Rattle.std.specs.Prelude.{◌≡◌, Bool, true, false, List, [], ◌∷◌, ◌++◌, ℕ}
 use Rattle.std.proofs.Math.Option.{Option, none, some}
 use Rattle.ast.specs.Layout.{diagnostic_cells}
+pub use Rattle.ast.specs.Layout.{count_cells}
 use Rattle.rules.specs.Promise.{Arrays, Outcome, Numbers, numbers_of}
-use Rattle.ast.specs.declared.Counts.{Counts}
 use Rattle.parser.specs.Steps.{WholeOutcome}
 use Rattle.rules.specs.Parsed.{Parsed}
 use Rattle.rules.specs.Parsed as P
@@ -13,9 +13,6 @@ use Rattle.positions.specs.declared.Span.{Span}
 use Rattle.positions.specs.declared.Place.{Place}
 
 -- ---- a reading
-
-abbrev pub count_cells : Counts → List ℕ
-count_cells c = c.nodes ∷ c.types ∷ c.cells ∷ c.roots ∷ c.values ∷ c.diagnostics ∷ []
 
 -- the number, the five numbers of an error, the six counts
 unfoldable pub number_cells : Numbers → List ℕ

@@ -1,4 +1,4 @@
-// Answers as numbers.
+// Answers as numbers. Functions and no `From`: the types and the arrays are both of other crates.
 ghost use Rattle.std.specs.Prelude.{◌≡◌};
 ghost use Rattle.lex.specs.Answer.{answered};
 ghost use Rattle.ast.specs.Decode.{option_of};

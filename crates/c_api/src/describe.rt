@@ -3,7 +3,6 @@ ghost use Rattle.words.specs.Words.{error_of, described};
 ghost use Rattle.c_api.specs.Texts.{Writes};
 
 use crate::texts::put_length;
-use ast::decode::diagnostic_at;
 use words::describe;
 
 // The words of an error of five numbers, with what the buffer held behind them. `length` gets their
@@ -17,6 +16,6 @@ pub extern "C" fn purple_garden_describe(
     ensures { let due = described (error_of error.now) line.old in
         Writes due result length.old length.new line.new }
 {
-    let answer = describe(diagnostic_at(error, 0), line);
+    let answer = describe(error.into(), line);
     put_length(length, answer)
 }

@@ -15,7 +15,7 @@ pub extern "C" fn lex_is_utf8(bytes: &[u8]) -> bool
     lex::is_utf8(bytes)
 }
 
-// A step as numbers.
+// A step as numbers. No `From`: the step is of another crate, and the array is of the language.
 fn cells_of(step: Step) -> [u64; 6]
     ensures { result ≡ cells_of step }
 {

@@ -1,5 +1,6 @@
 // The reader for programs in other languages: readings, lookups and comparison on numbers and
-// slices.
+// slices. C calls each function by its own name and lends each array by itself: so they stand side
+// by side, and no struct holds what they are lent.
 #![tactic(auto)]
 
 mod cells;
@@ -35,39 +36,27 @@ use parser::{parse, parse_collect, read, read_collect};
 use positions::{Span, line_column};
 
 // ---- readings
-// C calls each by its own name and lends each array by itself: so the four stand side by side, and
-// no struct holds what they are lent.
 
 // The numbers of a reading: its number, the five numbers of an error and the six counts. What is
 // lent for them stays as it is where the call was refused.
-#[tactic(auto, unfolding(crate::specs::Numbers::reading_cells, crate::specs::Numbers::number_cells, rules::specs::Promise::numbers_of, ast::specs::Layout::diagnostic_cells))]
+#[tactic(auto, unfolding(crate::specs::Numbers::reading_cells, crate::specs::Numbers::number_cells, rules::specs::Promise::numbers_of, lex::specs::Cells::diagnostic_cells))]
 fn put_numbers(numbers: &mut [u32; 12], answer: Parsed) -> u32
     ensures { let due = parsed_of answer in
         (result ≡ (numbers_of due).number) × (numbers.new ≡ reading_cells due numbers.old) }
 {
     match answer {
-        Ok(c) => {
-            *numbers = [
-                0,
-                0,
-                0,
-                0,
-                0,
-                0,
-                c.nodes,
-                c.types,
-                c.cells,
-                c.roots,
-                c.values,
-                c.diagnostics,
-            ];
+        Ok(counts) => {
+            let cells: [u32; 6] = counts.into();
+            *numbers = [0; 12];
+            numbers[6..].copy_from_slice(&cells);
             0
         }
-        Err(ReadError::Script(e)) => {
-            *numbers = [
-                e.number, e.number, e.start, e.len, e.wanted, e.seen, 0, 0, 0, 0, 0, 0,
-            ];
-            e.number
+        Err(ReadError::Script(error)) => {
+            let cells: [u32; 5] = error.into();
+            *numbers = [0; 12];
+            numbers[0] = error.number;
+            numbers[1..6].copy_from_slice(&cells);
+            error.number
         }
         Err(ReadError::Refused(refusal)) => refusal.into(),
     }

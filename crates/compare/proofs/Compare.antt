@@ -44,13 +44,23 @@ differ σ τ n = go (same_shapes σ τ) (same_decides σ τ)
     go false d = refl
 
 module _ (a b : Lent) where
-  pub too_long : max_bytes < length b.script → 1 ≡ refusals a b
-  unfolding refusals refusal
-  too_long h = rw (lt-ltb _ _ h) (either (eqb (refusal a) 1))
+  -- 1 of the first tree is answered
+  pub refused-left : {x y : ℕ} → x ≡ refusal a → y ≡ refusal b → x ≡ 1 → refusals a b ≡ 1
+  unfolding refusals
+  refused-left p q e = rw (← p, e)
+
+  -- and 1 of the second
+  pub refused-right : {x y : ℕ} → x ≡ refusal a → y ≡ refusal b → y ≡ 1 → refusals a b ≡ 1
+  unfolding refusals
+  refused-right {x} p q e = rw (← q, ← p, e) (either (eqb x 1))
     where
-      either : (c : Bool) → ◌≡◌ {A = ℕ} 1 (if c 1 1)
+      either : (c : Bool) → ◌≡◌ {A = ℕ} (if c 1 1) 1
       either true = refl
       either false = refl
+
+  pub too_long : max_bytes < length b.script → 1 ≡ refusals a b
+  unfolding refusal
+  too_long h = sym (refused-right refl refl (rw (lt-ltb _ _ h)))
 
   module _ (h : length b.script ≤ max_bytes) where
     not-too_long : refusal b ≡ 1 → ⊥
@@ -65,9 +75,9 @@ module _ (a b : Lent) where
         go false false false false q = omega arith
 
     -- the left tree is refused, or only the right one
-    pub refused-left : (r : Refusal) → number r ≡ refusal a → number r ≡ refusals a b
+    pub first-refused : (r : Refusal) → number r ≡ refusal a → number r ≡ refusals a b
     unfolding refusals
-    refused-left r e = rw (← e, ne_eqb (refusal b) 1 not-too_long) (each r)
+    first-refused r e = rw (← e, ne_eqb (refusal b) 1 not-too_long) (each r)
       where
         each : (r : Refusal) → number r ≡ if (eqb (number r) 1) 1 (if (eqb (number r) 0) (refusal b) (number r))
         each R.TooLong = refl
@@ -83,9 +93,9 @@ module _ (a b : Lent) where
         each R.PositionsFall = refl
         each R.PlacesTooShort = refl
 
-    pub refused-right : {x : ℕ} → 0 ≡ refusal a → x ≡ refusal b → x ≡ refusals a b
+    pub second-refused : {x : ℕ} → 0 ≡ refusal a → x ≡ refusal b → x ≡ refusals a b
     unfolding refusals
-    refused-right e f = rw (← e, ne_eqb (refusal b) 1 not-too_long) f
+    second-refused e f = rw (← e, ne_eqb (refusal b) 1 not-too_long) f
 
   pub none-refused : refusal a ≡ 0 → refusal b ≡ 0 → 0 ≡ refusals a b
   unfolding refusals

@@ -2,19 +2,22 @@
 use mathlib.Core.Path.{◌≡◌, refl, sym, ◌∙◌}
 use mathlib.Core.Bool.{Bool, true, false, false≢true}
 use mathlib.Core.List.{List}
-use Prim.Native.Nat.{ℕ, ◌+◌, ◌*◌, ◌-◌}
+use Prim.Native.Nat.{ℕ, ◌+◌, ◌-◌}
 use lib.ListN.{get_or}
 use Rattle.rules.specs.Shape as S
 use Rattle.rules.specs.Shape.{Word, Shape, Shapes, FieldShapes, Env}
 use Rattle.ast.specs.declared.Run.{Run}
 use Rattle.ast.specs.Decode.{token_at, run_at}
 use Rattle.compare.specs.Agree.{Agree, Decides}
-use Rattle.compare.specs.Parts.{sort_at, cell_at, PartsAgree}
+use Rattle.compare.specs.Parts.{PartsAgree}
 use Rattle.compare.proofs.Walk.{pair_agree, pair_parts}
 use Rattle.compare.proofs.Listing.{Listing, field_lists, node_lists}
 use Rattle.compare.proofs.Nodes.{last-fields, last-nodes}
-use Rattle.compare.specs.Orders.{member_cells}
-use Rattle.lex.specs.Bytes.{if}
+use Rattle.compare.specs.Orders.{member_cells, number, IsLast}
+use Rattle.compare.specs.declared.node.Order.{Order}
+use Rattle.compare.specs.declared.node.Last.{Last}
+use Rattle.compare.specs.declared.node.Last.TheVariants as L
+use Rattle.std.specs.Prelude.{Some}
 
 -- ---- the two sorts as one, fields where the test holds
 
@@ -58,9 +61,13 @@ module _ (b : Bool) (e e' : Env) (at at' : ℕ) {width : ℕ} (w : width ≡ mem
       go false q v a = (λ s. absurd (false≢true (sym q ∙ s)), rw v a)
 
 -- what decides the list decides the part
-module _ (e e' : Env) (xs xs' : List ℕ) (p p' g o : ℕ) where
-  pub last-list : {b : Bool} {r r' : Run} (named : Bool) → sort_at (6 * g + 5) ≡ if named 7 6 → cell_at (6 * g + 5) ≡ o
+module _ (e e' : Env) (xs xs' : List ℕ) (p p' : ℕ) (order : Order) (o : ℕ) where
+  pub last-list : {b : Bool} {r r' : Run} {l : Last} (named : Bool) → l ≡ L.Nodes o named → IsLast order (Some l)
       → r ≡ run_at xs (p + o) → r' ≡ run_at xs' (p' + o)
-      → Decides b (Agree ((lists named).list e r) ((lists named).list e' r')) → Decides b (PartsAgree e e' g xs p xs' p' 5)
-  last-list true z k q q' d = last-fields e e' xs xs' p p' g z (rw k q) (rw k q') d
-  last-list false z k q q' d = last-nodes e e' xs xs' p p' g z (rw k q) (rw k q') d
+      → Decides b (Agree ((lists named).list e r) ((lists named).list e' r')) → Decides b (PartsAgree e e' (number order) xs p xs' p' 5)
+  last-list true m f q q' d =
+      let k = rw m at f in
+      last-fields e e' xs xs' p p' (number order) k.0 (rw k.1 q) (rw k.1 q') d
+  last-list false m f q q' d =
+      let k = rw m at f in
+      last-nodes e e' xs xs' p p' (number order) k.0 (rw k.1 q) (rw k.1 q') d

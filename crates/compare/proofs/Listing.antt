@@ -2,19 +2,25 @@
 use mathlib.Core.Path.{◌≡◌, refl, sym, ◌∙◌, ap}
 use mathlib.Core.Bool.{Bool, true, false}
 use mathlib.Core.Option.{Option}
-use mathlib.Core.List.{List}
+use mathlib.Core.List.{List, [], ◌∷◌}
 use Prim.Native.Nat.{ℕ, ◌+◌, ◌*◌, ◌-◌, ◌<◌, ◌≤◌}
 use native.Mathlib.Omega.{arith}
 use native.Mathlib.Nat.{add-mul}
 use lib.Dec.{leb, eqb}
 use lib.ListN.{length}
 use borrow.Author.Tests.{leb-true, leb-false, eqb-true, eqb-false}
-use Rattle.std.specs.Prelude.{Some}
+use Rattle.std.specs.Prelude as R
+use Rattle.std.specs.Prelude.{None, Some}
+use Rattle.std.specs.Fn.{Called}
+use Rattle.std.specs.Iterator.{Yields, ChecksAll}
+use Rattle.std.specs.List.{FoldsTo}
+use Rattle.std.specs.Option.{MatchOption}
+use denote.Param.Members.{Mut}
 use Rattle.rules.specs.Shape as S
 use Rattle.rules.specs.Shape.{Word, TypeShape, Params, FnShape, Shape, Shapes, FieldShapes, CaseShapes, Env}
 use Rattle.ast.specs.declared.Run.{Run}
 use Rattle.compare.specs.Agree.{Agree, Decides}
-use Rattle.compare.proofs.Agree.{decides_yes, decides_no, decides_by}
+use Rattle.compare.proofs.Agree.{decides_yes, decides_no, decides_not, decides_by}
 use Rattle.compare.specs.Pairs.{InStep, ArePairs, GivesPlaces, TakesLast}
 use Rattle.compare.specs.declared.pairs.Pairs.{Pairs}
 use Rattle.compare.proofs.Walk as W
@@ -174,3 +180,19 @@ module _ {A L : Type 0} (k : Listing A L) {e e' : Env} {r r' : Run} where
         let h : at ≡ p.at = w.there ∙ rw z (omega arith) in
         let h' : at' ≡ p.at2 = w.there' ∙ rw z (omega arith) in
         last k w.lengths w.walk (omega arith) (rw (h, h') at d)
+
+  -- a test of each pair, which stops at the first that does not agree
+  module _ {F : Type 0} (g : Mut F ((ℕ × ℕ) × Unit {0}) Bool) (f : F)
+      (test : (x : ℕ × ℕ) (b : Bool) (q : F) → Called g f (x, tt) b q → (q ≡ f) × Decides b (Agree (k.place e x.0) (k.place e' x.1))) where
+    tested : (b : Bool) (u : Pairs) (xs : List (ℕ × ℕ)) (o : R.Option (ℕ × ℕ)) (s t : Pairs) (h j : F) → h ≡ f → Paired k e e' r r' s → Yields GivesPlaces s xs t → GivesPlaces t o u
+        → FoldsTo (λ p x q. Called g p (x, tt) true q) h xs j → MatchOption o (b ≡ true) (λ x. (b ≡ false) × ((q : F) × Called g j (x, tt) false q)) → Decides b (Agree (k.list e r) (k.list e' r'))
+    tested b u [] None s t h j z w y l c m = rw m (over (rw y at w) l.0)
+    tested b u [] (Some x) s t h j z w y l c m =
+        let a = test x false m.1.0 (rw (← c, z) at m.1.1) in
+        rw m.0 (differs x.0 x.1 u l (rw y at w) (decides_not false refl a.1))
+    tested b u (x ∷ xs) o s t h j z w y l c m =
+        let a = test x true c.0 (rw z at c.1) in
+        tested b u xs o y.0 t c.0 j a.0 (next x.0 x.1 y.0 y.1 w (a.1.holds refl)) y.2 l c.2 m
+
+    pub all-tested : {b : Bool} {s u : Pairs} → Paired k e e' r r' s → ChecksAll GivesPlaces g s f b u → Decides b (Agree (k.list e r) (k.list e' r'))
+    all-tested w c = tested _ _ c.0 c.1 _ c.3.0 f c.2 refl w c.3.1 c.3.2 c.4 c.5

@@ -1,26 +1,12 @@
--- The kinds of records, and which kinds agree.
+-- What cells of a record are in the array.
 use mathlib.Core.Path.{◌≡◌, ◌∙◌}
 use mathlib.Core.List.{List}
 use Prim.Native.Nat.{ℕ, ◌+◌, ◌<◌, ◌≤◌}
-use native.Mathlib.Nat.{add-zero}
-use lib.Dec.{leb}
 use native.Mathlib.Nat.{add_assoc}
 use native.Mathlib.Omega.{arith}
 use lib.ListN.{get_or, take, drop}
 use lib.Seq.{get_or-take, get_or-drop}
-use borrow.Author.Tests.{le-leb, lt-leb}
-use Rattle.lex.specs.Bytes.{if}
 use Rattle.ast.specs.Decode.{token_at, run_at}
-
--- a kind that is read, and is known or not
-module _ (known : ℕ) (xs : List ℕ) (p : ℕ) {x : ℕ} (e : x ≡ get_or xs (p + 0) 0) where
-  pub kind-known : x ≤ known → x ≡ if (leb (get_or xs p 0) known) (get_or xs p 0) 0
-  kind-known h = let r : x ≡ get_or xs p 0 = rw add-zero at e in rw (← r, le-leb x known h)
-
-  pub kind_unknown : known < x → 0 ≡ if (leb (get_or xs p 0) known) (get_or xs p 0) 0
-  kind_unknown h = let r : x ≡ get_or xs p 0 = rw add-zero at e in rw (← r, lt-leb x known h)
-
--- ---- what cells of a record are in the array
 
 module _ (width : ℕ) (xs : List ℕ) (p : ℕ) where
   abbrev pub record_cells : List ℕ

@@ -18,7 +18,7 @@ use Rattle.ast.specs.declared.Run.{Run}
 use Rattle.lex.specs.Bytes.{if}
 use Rattle.ast.specs.Decode.{token_at, run_at}
 use Rattle.compare.specs.Agree.{Agree, Decides}
-use Rattle.compare.proofs.Agree.{agree₂, parts₂, Sized, sized-number, sized-token, sized-run, sized-resolve, sized-both}
+use Rattle.compare.proofs.Agree.{agree₂, parts₂, decides_by, Sized, sized-number, sized-token, sized-run, sized-resolve, sized-both}
 use Rattle.compare.proofs.Lists as Ls
 use Rattle.compare.proofs.Lists.{list_from, list-from, token-drop, Left}
 
@@ -114,6 +114,9 @@ pair_agree p q = agree₂ pair pair_inj p q
 
 pub pair_parts : {A B : Type 0} (x x' : Option A) (y y' : Option B) → Agree (map₂ pair x y) (map₂ pair x' y') → Agree x x' × Agree y y'
 pair_parts x x' y y' b = parts₂ pair pair_inj x x' y y' b
+
+pub pair_decides : {A B : Type 0} {x x' : Option A} {y y' : Option B} {b : Bool} → Decides b (Agree x x' × Agree y y') → Decides b (Agree (map₂ pair x y) (map₂ pair x' y'))
+pair_decides d = decides_by (λ p. pair_agree p.0 p.1) (pair_parts _ _ _ _) d
 
 -- what stands behind a token that must be well formed, and is left out
 abbrev pub where_formed : {A : Type 0} → Option Word → Option A → Option A

@@ -1,5 +1,5 @@
 -- The parts of a node's record as the code has them, in an order, against the table of parts.
-use Rattle.std.specs.Prelude.{◌≡◌, List, ℕ, Bool, ◌+◌, ◌*◌, ◌<◌, get_or}
+use Rattle.std.specs.Prelude.{◌≡◌, List, ℕ, Bool, ◌+◌, ◌*◌, ◌<◌, get_or, Option, None, Some}
 use Rattle.rules.specs.Shape.{Env}
 use Rattle.lex.specs.Bytes.{if}
 use Rattle.ast.specs.Schema.{member_width, fields, nodes}
@@ -67,12 +67,12 @@ IsPlaced order x part =
 abbrev pub AreFirst : Order → List Part → Type 0
 AreFirst order parts = (x : ℕ) → x < 4 → IsPlaced order x (get_or parts x P.Nothing)
 
--- the part that stands last in an order
-abbrev pub IsLast : Order → Last → Type 0
-IsLast order L.Nothing = sort_at (6 * number order + 5) ≡ 0
-IsLast order (L.Node o) =
+-- the part that stands last in an order, if there is one
+abbrev pub IsLast : Order → Option Last → Type 0
+IsLast order None = sort_at (6 * number order + 5) ≡ 0
+IsLast order (Some (L.Node o)) =
     (sort_at (6 * number order + 5) ≡ 9) × (cell_at (6 * number order + 5) ≡ o)
-IsLast order (L.Nodes o named) =
+IsLast order (Some (L.Nodes o named)) =
     (sort_at (6 * number order + 5) ≡ if named 7 6) × (cell_at (6 * number order + 5) ≡ o)
 
 -- the cells of a member of a list of nodes, each behind a name or not

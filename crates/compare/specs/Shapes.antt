@@ -26,7 +26,8 @@ node_row script cells types nodes o =
 
 -- what lists of tokens are read from
 abbrev pub word_env : (script cells : List ℕ) → Env
-word_env script cells = record { script = script; cells = cells; type = λ i. none; node = λ i. none }
+word_env script cells =
+    record { script = script; cells = cells; type = λ i. none; node = λ i. none }
 
 -- the shapes of the types before `n`
 unfoldable pub types_below : (script cells types : List ℕ) → ℕ → ℕ → Option TypeShape

@@ -6,7 +6,9 @@ ghost use Rattle.compare.specs.Shapes.{kind_at};
 use ast::decode::cell;
 
 // The kind of record `i`, `width` cells a record; none where it lies outside or its kind is
-// unknown, `known` being the last that is known.
+// unknown, `known` being the last that is known. A number, as in its cell: kinds are compared
+// before a record is read, and an enum of nodes and types would have the numbers beside it.
+// The width is a value, and no size of `as_chunks`: one body serves nodes and types.
 pub(crate) fn kind_at(records: &[u32], width: usize, known: u32, i: u32) -> Option<u32>
     requires { width ≤ node_width }
     ensures { let kind = kind_at width known records.now i in
@@ -17,11 +19,5 @@ pub(crate) fn kind_at(records: &[u32], width: usize, known: u32, i: u32) -> Opti
         return None;
     }
     let kind = cell(records, at, 0);
-    if kind == 0 {
-        return None;
-    }
-    if known < kind {
-        return None;
-    }
-    Some(kind)
+    (1..=known).contains(&kind).then_some(kind)
 }

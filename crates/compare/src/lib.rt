@@ -24,7 +24,8 @@ use node::agree_node;
 use pairs::Pairs;
 use view::View;
 
-// The roots of two trees.
+// The roots of two trees. Beside `agree_nodes`: roots lie in other arrays, and one function of both
+// would take eight values.
 fn agree_roots<'a>(a: &Tree<'a>, b: &Tree<'a>) -> bool
     ensures { Decides result (Agree (shape_in (lent_of a.now)) (shape_in (lent_of b.now))) }
 {
@@ -41,6 +42,7 @@ fn agree_roots<'a>(a: &Tree<'a>, b: &Tree<'a>) -> bool
     };
     let left = View::new(a);
     let right = View::new(b);
+    // a `for`, since under `all` no proof was found that the closure speaks of these views
     for (at, at2) in pairs {
         let root = NodeId(cell(a.roots, at, 0));
         let root2 = NodeId(cell(b.roots, at2, 0));
@@ -51,8 +53,8 @@ fn agree_roots<'a>(a: &Tree<'a>, b: &Tree<'a>) -> bool
     true
 }
 
-// Whether two trees have the same shape. A tree that does not agree with itself is malformed. That a
-// script is too long, of either tree, is said before that an array is too short.
+// Whether two trees have the same shape. A tree that does not agree with itself is malformed. That
+// a script is too long, of either tree, is said before that an array is too short.
 pub fn same_shape(a: &Tree, b: &Tree) -> Result<bool, Refusal>
     ensures { answered result ≡ compare (lent_of a.now) (lent_of b.now) }
 {

@@ -1,9 +1,10 @@
 // When two nodes, or two lists that hold nodes, agree. The number of a node falls from call to
-// call.
+// call. The limits `n` and `m` stay beside the views: they fall from call to call, while a view is
+// lent.
 ghost use Rattle.std.specs.Prelude.{◌≡◌, ◌≢◌, ℕ, true, ◌*◌, ◌<◌};
 ghost use Rattle.ast.specs.Layout.{node_width};
 ghost use Rattle.rules.specs.Shape.{word, shapes, cases};
-ghost use Rattle.ast.specs.Decode.{token_at};
+ghost use Rattle.ast.specs.Decode.{token_at, run_at};
 ghost use Rattle.compare.specs.Agree.{Agree, Decides};
 ghost use Rattle.compare.specs.Shapes.{seen, nodes_below, env_below};
 ghost use Rattle.compare.specs.Parts.{PartsAgree, Ordered};
@@ -18,7 +19,9 @@ use ast::decode::{cell, run_at};
 use ast::schema::{CASE_WIDTH, FIELD_WIDTH, NODE_WIDTH};
 use ast::{Node, NodeId, NodeKind, Run, TypeExprId};
 
-// A part of a node's record, with the cell in which it stands.
+// A part of a node's record, with the cell in which it stands. `Nothing` and no `Option`: the parts
+// are compared by one loop over an array of four, which fills one register; four options do not,
+// and with these a comparison takes up to 5 % more instructions.
 #[derive(Clone, Copy)]
 enum Part {
     Nothing,
@@ -32,18 +35,19 @@ enum Part {
     Node(u8),
 }
 
-// The part that is compared last: a node, or a list of nodes, each behind a name or not.
+// A part that is compared last: a node, or a list of nodes, each behind a name or not. A list of
+// fields is no third case, since both lists are walked by one loop, in the frame of `agree_node`.
 #[derive(Clone, Copy)]
 enum Last {
-    Nothing,
     Node(u8),
     Nodes { cell: u8, named: bool },
 }
 
 // The orders in which the parts of a node are compared: one for each kind, and two more. Its kind's
-// own one has the left side of an operator and the target of a call last; where that is a name or an
-// atom, it is compared first. Either order decides the same, and so chains on the right and in
+// own one has the left side of an operator and the target of a call last; where that is a name or
+// an atom, it is compared first. Either order decides the same, and so chains on the right and in
 // arguments take no stack either.
+// An enum, no closures: what is last is a call in `agree_node`'s own frame, which takes no stack.
 #[derive(Clone, Copy)]
 enum Order {
     Atom,
@@ -100,55 +104,53 @@ impl Order {
         }
     }
 
-    // The part that is compared last.
-    fn last(self) -> Last
+    // The part that is compared last, if there is one.
+    fn last(self) -> Option<Last>
         ensures { IsLast self result }
     {
         match self {
-            Order::Bin => Last::Node(5),
-            Order::Unary => Last::Node(5),
-            Order::Let => Last::Node(7),
-            Order::Fn => Last::Nodes {
+            Order::Bin => Some(Last::Node(5)),
+            Order::Unary => Some(Last::Node(5)),
+            Order::Let => Some(Last::Node(7)),
+            Order::Fn => Some(Last::Nodes {
                 cell: 10,
                 named: false,
-            },
-            Order::Match => Last::Nodes {
+            }),
+            Order::Match => Some(Last::Nodes {
                 cell: 7,
                 named: false,
-            },
-            Order::Call => Last::Node(2),
-            Order::Field => Last::Node(2),
-            Order::Cast => Last::Node(5),
-            Order::Record => Last::Nodes {
+            }),
+            Order::Call => Some(Last::Node(2)),
+            Order::Field => Some(Last::Node(2)),
+            Order::Cast => Some(Last::Node(5)),
+            Order::Record => Some(Last::Nodes {
                 cell: 5,
                 named: true,
-            },
-            Order::Array => Last::Nodes {
+            }),
+            Order::Array => Some(Last::Nodes {
                 cell: 5,
                 named: false,
-            },
-            Order::RightLast => Last::Node(6),
-            Order::ArgumentsLast => Last::Nodes {
+            }),
+            Order::RightLast => Some(Last::Node(6)),
+            Order::ArgumentsLast => Some(Last::Nodes {
                 cell: 3,
                 named: false,
-            },
-            Order::Atom => Last::Nothing,
-            Order::Ident => Last::Nothing,
-            Order::Import => Last::Nothing,
-            Order::Extern => Last::Nothing,
+            }),
+            Order::Atom => None,
+            Order::Ident => None,
+            Order::Import => None,
+            Order::Extern => None,
         }
     }
 }
 
 // Node `i` is a name or an atom.
 fn is_leaf(nodes: &[u32], i: u32) -> bool {
-    match kind_at(nodes, Node::WIDTH, NodeKind::ARRAY, i) {
-        Some(kind) => kind <= NodeKind::IDENT,
-        None => false,
-    }
+    kind_at(nodes, Node::WIDTH, NodeKind::ARRAY, i).is_some_and(|kind| kind <= NodeKind::IDENT)
 }
 
-// The order for node `i` of a known kind.
+// The order for node `i` of a known kind: 1 to 14, by `kind_at`. An enum of them would be
+// `NodeKind`, which says why it is none.
 fn order_of(nodes: &[u32], kind: u32, i: u32) -> Order
     requires { (kind ≢ 0) × (kind < 15) }
     ensures { Ordered kind (number result) }
@@ -246,22 +248,22 @@ fn agree_last(a: &View, i: u32, b: &View, j: u32, order: Order) -> bool
     let at = Node::WIDTH * i as usize;
     let at2 = Node::WIDTH * j as usize;
     match order.last() {
-        Last::Nothing => true,
-        Last::Node(o) => {
+        None => true,
+        Some(Last::Node(o)) => {
             let child = NodeId(cell(a.nodes, at, o as usize));
             let child2 = NodeId(cell(b.nodes, at2, o as usize));
             agree_node(a, i, child, b, j, child2)
         }
-        Last::Nodes { cell: o, named } => {
+        Some(Last::Nodes { cell: o, named }) => {
             let width = member_cells(named);
-            let r = run_at(a.nodes, at + o as usize);
-            let r2 = run_at(b.nodes, at2 + o as usize);
+            let (r, r2) = runs_at(a, at + o as usize, b, at2 + o as usize);
             let Some(mut pairs) = Pairs::new(a.cells, r, b.cells, r2, width) else {
                 return false;
             };
             let Some((last, last2)) = pairs.take_last() else {
                 return true;
             };
+            // as in `agree_nodes`
             for (at, at2) in pairs {
                 if !agree_name(a, at, b, at2, named) {
                     return false;
@@ -302,6 +304,13 @@ fn agree_parts(a: &View, i: u32, b: &View, j: u32, order: Order) -> bool
     true
 }
 
+// The runs from cell `at` of the left nodes and from cell `at2` of the right ones on.
+fn runs_at(a: &View, at: usize, b: &View, at2: usize) -> (Run, Run)
+    ensures { (result.0 ≡ run_at a.now.nodes.now at) × (result.1 ≡ run_at b.now.nodes.now at2) }
+{
+    (run_at(a.nodes, at), run_at(b.nodes, at2))
+}
+
 // One part of two nodes.
 #[cycle(agreement)]
 fn agree_part(a: &View, i: u32, b: &View, j: u32, part: Part) -> bool
@@ -319,13 +328,11 @@ fn agree_part(a: &View, i: u32, b: &View, j: u32, part: Part) -> bool
             agree_token_at(a, a.nodes, at + o as usize, b, b.nodes, at2 + o as usize)
         }
         Part::Tokens(o) => {
-            let r = run_at(a.nodes, at + o as usize);
-            let r2 = run_at(b.nodes, at2 + o as usize);
+            let (r, r2) = runs_at(a, at + o as usize, b, at2 + o as usize);
             agree_words(a, r, b, r2)
         }
         Part::Params(o) => {
-            let r = run_at(a.nodes, at + o as usize);
-            let r2 = run_at(b.nodes, at2 + o as usize);
+            let (r, r2) = runs_at(a, at + o as usize, b, at2 + o as usize);
             agree_params(a, a.type_count, r, b, b.type_count, r2)
         }
         Part::Type(o) => {
@@ -334,18 +341,15 @@ fn agree_part(a: &View, i: u32, b: &View, j: u32, part: Part) -> bool
             agree_type(a, a.type_count, child, b, b.type_count, child2)
         }
         Part::Fns(o) => {
-            let r = run_at(a.nodes, at + o as usize);
-            let r2 = run_at(b.nodes, at2 + o as usize);
+            let (r, r2) = runs_at(a, at + o as usize, b, at2 + o as usize);
             agree_fns(a, a.type_count, r, b, b.type_count, r2)
         }
         Part::Nodes(o) => {
-            let r = run_at(a.nodes, at + o as usize);
-            let r2 = run_at(b.nodes, at2 + o as usize);
+            let (r, r2) = runs_at(a, at + o as usize, b, at2 + o as usize);
             agree_nodes(a, i, r, b, j, r2)
         }
         Part::Cases(o) => {
-            let r = run_at(a.nodes, at + o as usize);
-            let r2 = run_at(b.nodes, at2 + o as usize);
+            let (r, r2) = runs_at(a, at + o as usize, b, at2 + o as usize);
             agree_cases(a, i, r, b, j, r2)
         }
         Part::Node(o) => {
@@ -366,6 +370,7 @@ fn agree_nodes(a: &View, i: u32, r: Run, b: &View, j: u32, r2: Run) -> bool
     let Some(pairs) = Pairs::new(a.cells, r, b.cells, r2, NODE_WIDTH) else {
         return false;
     };
+    // a `for`, since a closure in a cycle of calls wants a clause that is longer than this loop
     for (at, at2) in pairs {
         let member = NodeId(cell(a.cells, at, 0));
         let member2 = NodeId(cell(b.cells, at2, 0));
@@ -386,6 +391,7 @@ fn agree_cases(a: &View, i: u32, r: Run, b: &View, j: u32, r2: Run) -> bool
     let Some(pairs) = Pairs::new(a.cells, r, b.cells, r2, CASE_WIDTH) else {
         return false;
     };
+    // as in `agree_nodes`
     for (at, at2) in pairs {
         if !formed_at(a, at) {
             return false;

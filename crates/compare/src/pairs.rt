@@ -6,7 +6,8 @@ ghost use Rattle.compare.specs.Pairs.{InStep, ArePairs, Room, GivesPlaces, Takes
 use ast::Run;
 
 // Where the members of two lists begin, pair by pair: the next two places, how many pairs are left,
-// and the cells of a member.
+// and the cells of a member. Places and no parts by `chunks_exact`: tokens and runs are read at a
+// place of all cells.
 #[derive(Drop)]
 pub(crate) struct Pairs {
     pub(crate) at: usize,

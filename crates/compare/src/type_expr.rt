@@ -1,5 +1,5 @@
 // When two types, or two lists of arguments or of fns, agree. The number of a type falls from call
-// to call.
+// to call; the limits stand beside the views, as in node.rt.
 ghost use Rattle.rules.specs.Shape.{params, fns};
 ghost use Rattle.compare.specs.Agree.{Agree, Decides};
 ghost use Rattle.compare.specs.Shapes.{types_below, type_env};
@@ -12,9 +12,10 @@ use ast::decode::{cell, run_at};
 use ast::schema::{FN_WIDTH, PARAM_WIDTH};
 use ast::{Run, TypeExpr, TypeExprId, TypeExprKind};
 
-// Type `i`, below `n`, and type `j`, below `m`. What a type holds, or the last field of a record, is
-// the last thing done, so that a long chain takes no stack. The loop over a record's fields is not
-// that of `agree_params`: a call of it would take stack at each level.
+// Type `i`, below `n`, and type `j`, below `m`. What a type holds, or the last field of a record,
+// is the last thing done, so that a long chain takes no stack. The loop over a record's fields is
+// not that of `agree_params`: a call of it would take stack at each level. The tests of the numbers
+// and kinds are those of `agree_node`: one function of both would take eight values.
 pub(crate) fn agree_type(a: &View, n: u32, i: TypeExprId, b: &View, m: u32, j: TypeExprId) -> bool
     ensures { let left =
         types_below a.now.script.now a.now.cells.now a.now.types.now in
@@ -58,6 +59,7 @@ pub(crate) fn agree_type(a: &View, n: u32, i: TypeExprId, b: &View, m: u32, j: T
     let Some((last, last2)) = pairs.take_last() else {
         return true;
     };
+    // a `for`, since a closure in a cycle of calls wants a clause that is longer than this loop
     for (at, at2) in pairs {
         if !agree_token_at(a, a.cells, at, b, b.cells, at2) {
             return false;
@@ -84,20 +86,14 @@ pub(crate) fn agree_params(a: &View, n: u32, r: Run, b: &View, m: u32, r2: Run) 
         type_env b.now.script.now b.now.cells.now b.now.types.now m in
         Decides result (Agree (params left r) (params right r2)) }
 {
-    let Some(pairs) = Pairs::new(a.cells, r, b.cells, r2, PARAM_WIDTH) else {
+    let Some(mut pairs) = Pairs::new(a.cells, r, b.cells, r2, PARAM_WIDTH) else {
         return false;
     };
-    for (at, at2) in pairs {
-        if !agree_token_at(a, a.cells, at, b, b.cells, at2) {
-            return false;
-        }
+    pairs.all(move |(at, at2)| {
         let of = TypeExprId(cell(a.cells, at, 3));
         let of2 = TypeExprId(cell(b.cells, at2, 3));
-        if !agree_type(a, n, of, b, m, of2) {
-            return false;
-        }
-    }
-    true
+        agree_token_at(a, a.cells, at, b, b.cells, at2) && agree_type(a, n, of, b, m, of2)
+    })
 }
 
 // The fns of two externs.
@@ -111,6 +107,7 @@ pub(crate) fn agree_fns(a: &View, n: u32, r: Run, b: &View, m: u32, r2: Run) -> 
     let Some(pairs) = Pairs::new(a.cells, r, b.cells, r2, FN_WIDTH) else {
         return false;
     };
+    // a `for`, since under `all` no proof was found that the cells' places fit a word
     for (at, at2) in pairs {
         if !agree_words(a, run_at(a.cells, at), b, run_at(b.cells, at2)) {
             return false;

@@ -5,7 +5,8 @@ ghost use Rattle.compare.specs.Shapes.{seen, view_of};
 
 use ast::lent::Tree;
 
-// The script, the records, the list cells in use, and how many types there are.
+// The script, the records, the list cells in use, and how many types there are, beside the types as
+// in `Tree`: C lends more cells than are used.
 #[derive(Clone, Copy)]
 pub(crate) struct View<'a> {
     pub(crate) script: &'a [u8],

@@ -2,16 +2,16 @@
 ghost use Rattle.std.specs.Prelude.{◌≡◌};
 ghost use Rattle.lex.specs.Spelling.{well_formed};
 ghost use Rattle.rules.specs.Shape.{word, words};
-ghost use Rattle.ast.specs.Decode.{token_at, run_at};
+ghost use Rattle.ast.specs.Decode.{token_at};
 ghost use Rattle.compare.specs.Agree.{Agree, Decides};
-ghost use Rattle.compare.specs.Shapes.{word_env, seen};
+ghost use Rattle.compare.specs.Shapes.{word_env};
 
 use crate::pairs::Pairs;
 use crate::view::View;
 use ast::Run;
 use ast::decode::token_at;
 use ast::schema::TOKEN_WIDTH;
-use lex::{Token, Type, same_bytes, spelling};
+use lex::{Token, Type, same_bytes, spelling, well_formed};
 
 // Two tokens of one kind, with one spelling: a fixed one, or one of their own.
 fn agree_token(s: &[u8], t: Token, s2: &[u8], t2: Token) -> bool
@@ -21,7 +21,7 @@ fn agree_token(s: &[u8], t: Token, s2: &[u8], t2: Token) -> bool
         return false;
     }
     let Some(a) = spelling(s, t) else {
-        return 0 < Type::spelling_len(t.kind);
+        return Type::fixed_spelling(t.kind).is_some();
     };
     let Some(b) = spelling(s2, t2) else {
         return false;
@@ -31,7 +31,8 @@ fn agree_token(s: &[u8], t: Token, s2: &[u8], t2: Token) -> bool
     same_bytes(&s[a..a_end], &s2[b..b_end])
 }
 
-// Two tokens in arrays of two trees, from cell `at` and cell `at2` on.
+// Two tokens in arrays of two trees, from cell `at` and cell `at2` on. By arrays and places, not by
+// tokens: each of the eight calls would read both tokens by itself.
 pub(crate) fn agree_token_at(
     a: &View,
     cells: &[u32],
@@ -56,11 +57,7 @@ pub(crate) fn agree_token_at(
 pub(crate) fn formed_at(a: &View, at: usize) -> bool
     ensures { result ≡ well_formed a.now.script.now (token_at a.now.cells.now at) }
 {
-    let t = token_at(a.cells, at);
-    match spelling(a.script, t) {
-        Some(_) => true,
-        None => 0 < Type::spelling_len(t.kind),
-    }
+    well_formed(a.script, token_at(a.cells, at))
 }
 
 // Two lists of tokens.
@@ -69,13 +66,8 @@ pub(crate) fn agree_words(a: &View, r: Run, b: &View, r2: Run) -> bool
         let right = word_env b.now.script.now b.now.cells.now in
         Decides result (Agree (words left r) (words right r2)) }
 {
-    let Some(pairs) = Pairs::new(a.cells, r, b.cells, r2, TOKEN_WIDTH) else {
+    let Some(mut pairs) = Pairs::new(a.cells, r, b.cells, r2, TOKEN_WIDTH) else {
         return false;
     };
-    for (at, at2) in pairs {
-        if !agree_token_at(a, a.cells, at, b, b.cells, at2) {
-            return false;
-        }
-    }
-    true
+    pairs.all(|(at, at2)| agree_token_at(a, a.cells, at, b, b.cells, at2))
 }

@@ -1,5 +1,6 @@
 // Numbers and framed bytes on standard input. A number is in decimal and ends at a blank or a line
-// feed; a frame is its length as a number, its bytes, and a line feed.
+// feed; a frame is its length as a number, its bytes, and a line feed. Functions that print promise
+// nothing of the text: no contract can speak of what standard output takes.
 ghost use Rattle.std.specs.Prelude.{◌≡◌, ◌≤◌, length, IfOk, MatchResult, Some, Ok};
 ghost use Rattle.std.specs.Option.{IfSome};
 ghost use Rattle.console.specs.Frame.{IsPrefixLen, Within, Inside};
@@ -15,7 +16,13 @@ pub enum ReadError {
 }
 
 impl From<io::Error> for ReadError {
-    fn from(error: io::Error) -> ReadError {
+    ghost use Rattle.console.specs.declared.frames.ReadError.{ReadError};
+
+    ghost from_gives = { λ error read_error. read_error ≡ ReadError.Io error };
+
+    fn from(error: io::Error) -> ReadError
+        ensures { result ≡ ReadError.Io error }
+    {
         ReadError::Io(error)
     }
 }
@@ -29,6 +36,7 @@ pub fn read_full(input: &mut impl Read, buf: &mut [u8]) -> io::Result<usize>
     ensures { IfOk result (λ n. IsPrefixLen n buf.new) }
 {
     let mut done = 0;
+    // Counted: nothing says that a reader is not interrupted for ever.
     for _ in 0..u64::MAX {
         if done == buf.len() {
             break;
@@ -112,6 +120,17 @@ pub fn each_case<F: FnMut(u64) -> Result<bool, ReadError>>(
     Ok(())
 }
 
+// Prints the name of the next case, a frame. Answers whether there was one.
+pub fn print_name(rt: &impl Print, input: &mut impl Read) -> Result<bool, ReadError> {
+    let mut name = [0u8; 4096];
+    let Some(n) = read_frame(input, &mut name)? else {
+        return Ok(false);
+    };
+    rt.write_all(&name[..n])?;
+    print!(rt; ": ")?;
+    Ok(true)
+}
+
 // ---- numbers and scripts of a case: what is missing or malformed is taken for 0
 
 // What was read, if anything was.
@@ -125,6 +144,7 @@ fn read_or_none(read: Result<Option<usize>, ReadError>) -> io::Result<Option<usi
     }
 }
 
+// A number of a case. 0 and no Option: what is printed of such a case is held byte for byte.
 pub fn read_up_to(input: &mut impl Read, limit: usize) -> io::Result<usize>
     ensures { IfOk result (λ n. n ≤ limit) }
 {

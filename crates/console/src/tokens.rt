@@ -1,6 +1,9 @@
 // What the lexer yields, as text on standard output: one form a line, tokens by the names of the
 // Rust enum.
-use lex::{Fault, Step, Token, Type};
+ghost use Rattle.std.specs.Prelude.{Some};
+ghost use Rattle.console.specs.Tokens.{token_text, fault_text};
+
+use lex::{Fault, Lexer, Token, Type};
 use std::fmt::{Display, Formatter, Write};
 use std::{fmt, io};
 
@@ -10,6 +13,8 @@ use std::{fmt, io};
 pub struct TokenForm(pub Token);
 
 impl Display for TokenForm {
+    ghost output = { λ form. Some (token_text form.0) };
+
     fn fmt<W: Write>(&self, f: &mut Formatter<W>) -> fmt::Result {
         let Token { kind, start, len } = self.0;
         let name = Type::name(kind).unwrap_or("");
@@ -22,6 +27,8 @@ impl Display for TokenForm {
 struct FaultForm(Fault);
 
 impl Display for FaultForm {
+    ghost output = { λ form. Some (fault_text form.0) };
+
     fn fmt<W: Write>(&self, f: &mut Formatter<W>) -> fmt::Result {
         let Fault {
             number,
@@ -35,25 +42,12 @@ impl Display for FaultForm {
 
 // Every token and fault of a script, in order, Eof last.
 pub fn print_script(rt: &impl Print, script: &[u8]) -> io::Result<()> {
-    let mut at = 0;
-    loop {
-        match lex::step(script, at) {
-            Step::Token { token, next } => {
-                println!(rt; "{}", TokenForm(token))?;
-                at = next;
-            }
-            Step::Fault { fault, next } => {
-                println!(rt; "{}", FaultForm(fault))?;
-                at = next;
-            }
-            Step::End { at } => {
-                let eof = Token {
-                    kind: Type::EOF,
-                    start: at,
-                    len: Type::spelling_len(Type::EOF),
-                };
-                return println!(rt; "{}", TokenForm(eof));
-            }
+    let mut lexer = Lexer::new(script);
+    for piece in lexer.by_ref() {
+        match piece {
+            Ok(token) => println!(rt; "{}", TokenForm(token))?,
+            Err(fault) => println!(rt; "{}", FaultForm(fault))?,
         }
     }
+    println!(rt; "{}", TokenForm(Token::eof(lexer.pos)))
 }

@@ -80,7 +80,8 @@ all-early at (x ∷ os) e = go (leb x.after at) refl (all-early at os)
 
 -- ---- the order
 
--- `ds` are the errors `es` and the faults of `fs` but for `rest`, in the order in which they are met
+-- `ds` are the errors `es` and the faults of `fs` but for `rest`, in the order in which they are
+-- met
 pub record Ordered (fs es : List Occurrence) (ds : List Diagnostic) (rest : List Occurrence) : Type 0 where
   pub merges : (more : List Occurrence) → merged (length fs + length (es ++ more)) fs (es ++ more) ≡ ds ++ merged (length rest + length more) rest more
   pub few : length ds + length rest ≡ length es + length fs

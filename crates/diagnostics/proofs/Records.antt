@@ -3,11 +3,11 @@
 -- Assumes nothing.
 use mathlib.Core.Path.{◌≡◌, refl, ◌∙◌, sym, ap}
 use mathlib.Core.List.{List, [], ◌∷◌, ◌++◌, map, flatten, foldl, append_assoc, append-nil}
-use Prim.Native.Nat.{ℕ, suc, ◌+◌, ◌*◌, ◌≤◌, ◌<◌}
+use Prim.Native.Nat.{ℕ, ◌+◌, ◌*◌, ◌≤◌, ◌<◌}
 use native.Mathlib.Omega.{arith}
-use lib.ListN.{length, take, drop, set, length-append, length-drop}
-use lib.Seq.{sets-eq, take_at, length-take-le}
-use borrow.Author.Tests.{lt-ltb, le-ltb, le-leb, lt-leb}
+use lib.ListN.{length, take, drop, length-append, length-drop}
+use lib.Seq.{take_at, length-take-le}
+use borrow.Author.Tests.{lt-ltb, le-leb}
 use Rattle.lex.specs.declared.diagnostic.Diagnostic.{Diagnostic}
 use Rattle.ast.specs.Layout.{diagnostic_cells}
 use Rattle.diagnostics.specs.Records.{Diagnostics, diagnostics, Holding, max_count, pushed}
@@ -15,33 +15,10 @@ use Rattle.diagnostics.specs.Records.{Diagnostics, diagnostics, Holding, max_cou
 -- ---- one record
 
 module _ (cells : List ℕ) (n : ℕ) (d : Diagnostic) where
-  pub pushed_uncounted : max_count ≤ n → diagnostics cells n ≡ pushed (diagnostics cells n) d
-  unfolding pushed
-  pushed_uncounted h = rw (le-ltb n max_count h, pushed)
-
-  pub pushed_short : n < max_count → length cells < 5 * n + 5 → diagnostics cells n ≡ pushed (diagnostics cells n) d
-  unfolding pushed
-  pushed_short h k = rw (lt-ltb n max_count h, pushed) (rw (lt-leb (5 * n + 5) (length cells) k, pushed))
-
-  pub pushed_room : n < max_count → 5 * n + 5 ≤ length cells
+  pushed_room : n < max_count → 5 * n + 5 ≤ length cells
       → pushed (diagnostics cells n) d ≡ diagnostics (take (5 * n) cells ++ diagnostic_cells d ++ drop (5 * n + 5) cells) (n + 1)
   unfolding pushed
   pushed_room h k = rw (lt-ltb n max_count h, pushed) (rw (le-leb (5 * n + 5) (length cells) k, pushed))
-
-five_stores : (xs : List ℕ) (at a b c d e : ℕ) → at + 5 ≤ length xs
-    → set (set (set (set (set xs at a) (at + 1) b) (at + 2) c) (at + 3) d) (at + 4) e ≡ take at xs ++ (a ∷ b ∷ c ∷ d ∷ e ∷ []) ++ drop (at + 5) xs
-five_stores xs at a b c d e h =
-    let one : at + 1 ≡ suc at = omega arith in
-    let two : at + 2 ≡ suc (suc at) = omega arith in
-    let three : at + 3 ≡ suc (suc (suc at)) = omega arith in
-    let four : at + 4 ≡ suc (suc (suc (suc at))) = omega arith in
-    rw (one, two, three, four) (sets-eq (a ∷ b ∷ c ∷ d ∷ e ∷ []) xs at h)
-
-pub pushed_stores : (xs : List ℕ) (n : ℕ) (d : Diagnostic) → n < max_count → 5 * n + 5 ≤ length xs
-    → diagnostics (set (set (set (set (set xs (5 * n) d.number) (5 * n + 1) d.start) (5 * n + 2) d.len) (5 * n + 3) d.wanted) (5 * n + 4) d.seen) (n + 1)
-    ≡ pushed (diagnostics xs n) d
-unfolding diagnostic_cells
-pushed_stores xs n d h k = ap (λ (l : List ℕ). diagnostics l (n + 1)) (five_stores xs (5 * n) _ _ _ _ _ k) ∙ sym (pushed_room xs n d h k)
 
 -- ---- many records
 

@@ -13,6 +13,9 @@ use lex::Diagnostic;
 use tokens::{ERROR_WIDTH, error_at};
 
 // Writes record `n` and answers how many there are then. Nothing changes where it has no room.
+// The array and its count stay apart: C lends the one and reads the other among six numbers, and
+// the parser has the count in the struct of what it gathers.
+#[tactic(auto, unfolding(crate::specs::Records::pushed))]
 pub fn push_diagnostic(diagnostics: &mut [u32], n: u32, d: Diagnostic) -> u32
     ensures { let before = diagnostics_of diagnostics.old n in
         diagnostics_of diagnostics.new result ≡ pushed before d }
@@ -21,22 +24,20 @@ pub fn push_diagnostic(diagnostics: &mut [u32], n: u32, d: Diagnostic) -> u32
     if n == u32::MAX || diagnostics.len() < at + DIAGNOSTIC_WIDTH {
         return n;
     }
-    diagnostics[at] = d.number;
-    diagnostics[at + 1] = d.start;
-    diagnostics[at + 2] = d.len;
-    diagnostics[at + 3] = d.wanted;
-    diagnostics[at + 4] = d.seen;
+    let cells: [u32; DIAGNOSTIC_WIDTH] = d.into();
+    diagnostics[at..at + DIAGNOSTIC_WIDTH].copy_from_slice(&cells);
     n + 1
 }
 
 // How many diagnostics there are, and how many records of the error table are among them.
-#[derive(Clone, Copy)]
+#[derive(Clone, Copy, Default)]
 pub struct Listed {
     pub diagnostics: u32,
     pub errors: usize,
 }
 
 // The faults from record `from` of the error table on that are met before the token of record `at`.
+// The count and the place stay parameters: both tables are lent by the caller apart.
 pub fn push_faults(errors: &[u32], diagnostics: &mut [u32], n: u32, from: usize, at: u32) -> Listed
     ensures { let before = diagnostics_of diagnostics.old n in
         let after = diagnostics_of diagnostics.new result.diagnostics in

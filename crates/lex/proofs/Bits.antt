@@ -6,10 +6,11 @@ use mathlib.Core.Bool.{Bool, true, false, not, ◌||◌}
 use mathlib.Core.List.{List, ◌∷◌}
 use Prim.Native.Nat.{ℕ, zero, suc, ◌<◌, ◌≤◌}
 use native.Mathlib.Omega.{arith}
-use lib.Bits.{bit_and, bit_or}
+use lib.Bits.{bit_and}
 use lib.Dec.{leb, ltb, eqb}
 use lib.ListN.{get_or}
 use borrow.Author.Tests.{le-leb, lt-leb, leb-true, ltb-true, ltb-false, ne_eqb}
+use Rattle.std.specs.Char.{is_ascii_digit, is_ascii_alphanumeric}
 use Rattle.lex.specs.Bytes.{class_of, classes_from, class_table, bit, is_letter, is_ident_cont, is_ident_start, is_digit, is_num_cont, is_ws, or, between}
 use Rattle.lex.proofs.Laws.{cases, table, table_at, agree, at_each}
 
@@ -104,10 +105,14 @@ class_bits b = (
 
 -- ---- bytes that are tested without the table
 
--- with bit 5 set a letter is a small letter
-pub letter_small : (b : ℕ) → b < 256 → between 97 122 (bit_or b 32) ≡ is_letter b
-unfolding is_letter or between
-letter_small b h = agree (λ (x : ℕ). between 97 122 (bit_or x 32)) is_letter true 256 b refl h
+-- the library's tests
+pub ascii_digit : (b : ℕ) → b < 256 → is_ascii_digit b ≡ is_digit b
+unfolding is_digit between
+ascii_digit b h = agree is_ascii_digit is_digit true 256 b refl h
+
+pub ascii_name : (b : ℕ) → b < 256 → is_ascii_alphanumeric b || eqb b 95 ≡ is_ident_cont b
+unfolding is_ident_cont is_ident_start is_digit or between
+ascii_name b h = agree (λ (x : ℕ). is_ascii_alphanumeric x || eqb x 95) is_ident_cont true 256 b refl h
 
 pub letter_class : (b : ℕ) → b < 256 → is_letter b ≡ true → class_of b ≡ 3
 unfolding class_of bit is_letter is_ident_cont is_ident_start is_digit is_num_cont is_ws or between

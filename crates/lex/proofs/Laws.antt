@@ -8,7 +8,7 @@ use native.Mathlib.Nat.{add-zero, zero-add, le_of_suc-le-suc, not-suc-le-zero}
 use native.Mathlib.Numerals.{add-one}
 use native.Mathlib.Omega.{arith}
 use lib.ListN.{length, get_or, take, drop, length-take, length-drop, drop_of_length-le}
-use lib.Seq.{drop-cons}
+use lib.Seq.{drop-cons, drop-drop}
 use lib.Dec.{leb, ltb, eqb, leb-zero, leb-suc-zero, leb-suc-suc}
 use borrow.Author.Tests.{lt-ltb, le-ltb, ltb-true, leb-true, eq-eqb, ne_eqb, eqb-false}
 use Rattle.std.specs.Prelude.{Option, Some, None, MatchOption}
@@ -140,12 +140,17 @@ run-front p (suc k) (b ∷ bs) = go (p b) (run-front p k bs)
     go true h = suc-le-suc h
     go false h = zero-le
 
+-- a run that is counted from a place on is the same behind `k` of its bytes
+pub run_window : (p : ℕ → Bool) (s : List ℕ) (i n : ℕ) → i + count_while p (drop i s) ≡ n → (k : ℕ) → k ≤ count_while p (drop i s) → i + k + count_while p (drop (i + k) s) ≡ n
+run_window p s i n scanned k h = rw (← drop-drop k i s) (omega (arith, run-over p k (drop i s) h))
+
 -- what of the run follows stays what it is over a window that has the property
-pub run_window : (p : ℕ → Bool) (all rest window after : List ℕ) (k : ℕ) → length rest + count_while p all ≡ length all + count_while p rest
+pub run_rest : (p : ℕ → Bool) (all rest window after : List ℕ) (k : ℕ) → length rest + count_while p all ≡ length all + count_while p rest
     → window ≡ take k rest → after ≡ drop k rest → k ≤ count_while p window → length after + count_while p all ≡ length all + count_while p after
-run_window p all rest window after k passed front behind all_have =
+run_rest p all rest window after k passed front behind all_have =
     let over : k ≤ count_while p rest = omega (arith, rw front at all_have, run-front p k rest) in
-    rw behind (omega (arith, passed, length-drop k rest, run-over p k rest over, run_le p rest))
+    let same = rw (zero-add k) at (run_window p rest 0 _ refl k over) in
+    rw behind (omega (arith, passed, length-drop k rest, same, run_le p rest))
 
 -- a run that ends in the first `k` bytes is that of all of them
 run-part : (p : ℕ → Bool) (k : ℕ) (s : List ℕ) → count_while p (take k s) < k → count_while p (take k s) ≡ count_while p s

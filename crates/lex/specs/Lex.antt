@@ -1,11 +1,12 @@
 -- The lexer's rules: a script is cut into tokens and faults.
-use Rattle.std.specs.Prelude.{Bool, true, false, not, List, [], ◌∷◌, ℕ, zero, suc, ◌+◌, ◌-◌, ltb, eqb, length, get_or, take, drop, Some, None}
+use Rattle.std.specs.Prelude.{Bool, true, false, not, List, [], ◌∷◌, ℕ, zero, suc, ◌+◌, ◌-◌, ltb, eqb, length, get_or, take, drop, Option, Some, None, Result, Ok, Err, ◌≡◌}
 use Rattle.lex.specs.declared.diagnostic.Diagnostic.{Diagnostic}
 use Rattle.lex.specs.declared.tok.Token.{Token}
 use Rattle.lex.specs.declared.tok.Fault.{Fault}
 use Rattle.lex.specs.declared.tok.Piece.{Piece}
 use Rattle.lex.specs.declared.tok.Step.{Step}
 use Rattle.lex.specs.declared.tok.Next.{Next}
+use Rattle.lex.specs.declared.Lexer.{Lexer}
 use Rattle.lex.specs.Bytes.{or, is_ws, is_digit, is_ident_start, is_ident_cont}
 use Rattle.lex.specs.Bytes.{is_num_cont, count_while, before, find_byte}
 use Rattle.lex.specs.Errors.{e_unterminated_string, e_invalid_utf8}
@@ -154,6 +155,15 @@ stands_at script at =
 -- what stands at a position after blanks and comments
 unfoldable pub step_at : List ℕ → ℕ → Step
 step_at script pos = stands_at script (pos + skipped false (drop pos script))
+
+-- what a call of the iterator takes is what the step gives: a token, a fault, or none at the end
+abbrev pub step_of : Option (Result Token Fault) → ℕ → Step
+step_of (Some (Ok t)) next = Step.Token t next
+step_of (Some (Err e)) next = Step.Fault e next
+step_of None at = Step.End at
+
+abbrev pub TakesStep : Lexer → Option (Result Token Fault) → Lexer → Type 0
+TakesStep s r t = (t.input ≡ s.input) × (step_at s.input.now s.pos ≡ step_of r t.pos)
 
 -- a script cut: its tokens, each with the next position, its faults, and where it ends
 pub data Cut : Type 0 where

@@ -30,6 +30,7 @@ fn all_have<F: Fn(u8) -> bool>(window: &[u8; 16], has: &F) -> bool
 
 // How many bytes in front have the property: by windows of 16 bytes, and one by one where a window
 // has another byte.
+// No iterator: what is left behind the last whole window is what is read next.
 pub(crate) fn count_run<F: Fn(u8) -> bool>(bytes: &[u8], has: F) -> usize
     requires { F.IsAlwaysCallable has }
     ensures within { result ≤ length bytes.now }
@@ -107,9 +108,9 @@ pub(crate) fn skip_num_cont(classes: &Classes, haystack: &[u8]) -> usize
     count_each(haystack, |b| classes.continues_number(b))
 }
 
-// The byte at a position; 0 past the end.
+// The byte at a position; 0 past the end, which begins nothing: so each caller makes one test.
 pub(crate) fn peek(script: &[u8], at: usize) -> u8
     ensures { result ≡ get_or script.now at 0 }
 {
-    if at < script.len() { script[at] } else { 0 }
+    script.get(at).copied().unwrap_or(0)
 }

@@ -1,7 +1,7 @@
 // The class of a byte: five bits, looked up in one table.
 ghost use Rattle.std.specs.Prelude.{◌≡◌};
-ghost use Rattle.lex.specs.Bytes.{is_ws, is_letter, is_digit, is_ident_start};
-ghost use Rattle.lex.specs.Bytes.{is_ident_cont, is_num_cont, class_table};
+ghost use Rattle.lex.specs.Bytes.{is_ws, is_digit, is_ident_start, is_ident_cont};
+ghost use Rattle.lex.specs.Bytes.{is_num_cont, class_table};
 
 // The bits of a class: what the byte can be or begin. They and the table have prescribed forms.
 #[derive(Clone, Copy)]
@@ -33,40 +33,31 @@ pub const CLASS: [u8; 256] = [
     0, 0, 0, 0, 0,
 ];
 
-// Whether the byte is a letter: a capital and its small letter differ in one bit.
-pub(crate) fn is_letter(b: u8) -> bool
-    ensures { result ≡ is_letter b }
-{
-    let small = b | 32;
-    if small < b'a' {
-        return false;
-    }
-    small <= b'z'
-}
-
 // Whether the byte is a digit.
+// Tested without the table, for windows of 16 bytes.
+#[tactic(auto, using(crate::proofs::Bits::ascii_digit))]
 pub(crate) fn is_digit(b: u8) -> bool
     ensures { result ≡ is_digit b }
 {
-    if b < b'0' {
-        return false;
-    }
-    b <= b'9'
+    b.is_ascii_digit()
 }
 
-// Whether the byte separates: space, tab, CR or LF. Without branches, here and for names, so that
-// 16 bytes are tested in one step.
+// Whether the byte separates: space, tab, CR or LF. ASCII's white space has the form feed besides.
+// Tested without the table, where none is lent.
+#[tactic(auto, using(crate::proofs::Bits::separates))]
 pub(crate) fn is_ws(b: u8) -> bool
     ensures { result ≡ is_ws b }
 {
     (b == b' ') | (b == b'\t') | (b == b'\r') | (b == b'\n')
 }
 
-// Whether the byte can continue a name.
+// Whether the byte can continue a name. Without branches, so that 16 bytes are tested in one step.
+// Tested without the table, for windows of 16 bytes.
+#[tactic(auto, using(crate::proofs::Bits::ascii_name))]
 pub(crate) fn is_ident_cont(b: u8) -> bool
     ensures { result ≡ is_ident_cont b }
 {
-    is_letter(b) | is_digit(b) | (b == b'_')
+    b.is_ascii_alphanumeric() | (b == b'_')
 }
 
 // The table of classes: made once, and lent to whoever looks up many bytes.
@@ -80,6 +71,8 @@ impl Classes {
     pub fn new() -> Classes {
         Classes { bits: CLASS }
     }
+
+    // Five methods of one line: each has another property in its contract.
 
     // Whether the byte can begin a name.
     pub(crate) fn begins_name(&self, b: u8) -> bool

@@ -1,11 +1,13 @@
-// Diagnostics: document 01's five numbers for an error of the script. Refusals: the papers' numbers.
+// Diagnostics: document 01's five numbers for an error of the script. Refusals: the papers'
+// numbers.
 ghost use Rattle.std.specs.Prelude.{◌≡◌};
+ghost use Rattle.lex.specs.Cells.{diagnostic_cells, diagnostic_at};
 ghost use Rattle.lex.specs.Refusals.{number};
 
-// The numbers stay numbers: cells of lent arrays have them, and an enum as a parameter would ask
-// more. An error: its number, where its span starts and how long it is, the wanted kind (0 but for 11)
-// and the seen kind (for 33 the byte).
-#[derive(Clone, Copy, Default)]
+// An error: its number, where its span starts and how long it is, the wanted kind (0 but for 11)
+// and the seen kind (for 33 the byte). The numbers stay numbers: cells of lent arrays have them,
+// and an enum as a parameter would ask more.
+#[derive(Clone, Copy, Default, PartialEq, Eq)]
 pub struct Diagnostic {
     pub number: u32,
     pub start: u32,
@@ -52,6 +54,41 @@ impl Diagnostic {
     pub const UNKNOWN_CHARACTER: u32 = 33;
 
     pub const INVALID_NUMBER: u32 = 34;
+}
+
+// Five cells hold it, in this order.
+impl From<Diagnostic> for [u32; 5] {
+    ghost from_gives = { λ error cells. cells ≡ diagnostic_cells error };
+
+    #[tactic(auto, unfolding(crate::specs::Cells::diagnostic_cells))]
+    fn from(error: Diagnostic) -> [u32; 5]
+        ensures { result ≡ diagnostic_cells error }
+    {
+        [
+            error.number,
+            error.start,
+            error.len,
+            error.wanted,
+            error.seen,
+        ]
+    }
+}
+
+impl From<&[u32; 5]> for Diagnostic {
+    ghost from_gives = { λ cells error. error ≡ diagnostic_at cells.now 0 };
+
+    fn from(cells: &[u32; 5]) -> Diagnostic
+        ensures { result ≡ diagnostic_at cells.now 0 }
+    {
+        let [number, start, len, wanted, seen] = *cells;
+        Diagnostic {
+            number,
+            start,
+            len,
+            wanted,
+            seen,
+        }
+    }
 }
 
 // Why a call is refused. Nothing that is lent changes then.

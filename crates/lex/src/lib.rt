@@ -7,15 +7,16 @@ mod diagnostic;
 mod tok;
 mod utf8;
 
-ghost use Rattle.std.specs.Prelude.{◌≡◌, false, ◌+◌, ◌<◌, ◌≤◌, length, get_or, drop};
+ghost use Rattle.std.specs.Prelude.{◌≡◌, false, ◌+◌, ◌-◌, ◌<◌, ◌≤◌, length, get_or, drop};
+ghost use Rattle.std.specs.Iterator.{at_most};
 ghost use Rattle.lex.specs.declared.tok.Piece.{Piece};
 ghost use Rattle.lex.specs.Bytes.{is_num_cont, count_while};
 ghost use Rattle.lex.specs.Kind.{punctuator_kind, IsKindOf};
-ghost use Rattle.lex.specs.Errors.{e_unknown_character};
+ghost use Rattle.lex.specs.Errors.{e_invalid_utf8, e_unknown_character};
 ghost use Rattle.lex.specs.Lex.{begins_comment, skipped, punctuation as punctuation_of};
 ghost use Rattle.lex.specs.Lex.{leading_space, doc as doc_of, string as string_of, double_in};
 ghost use Rattle.lex.specs.Lex.{number as number_of, name as name_of, symbol as symbol_of};
-ghost use Rattle.lex.specs.Lex.{piece as piece_of, step_at, next_at, is_prefix_sign};
+ghost use Rattle.lex.specs.Lex.{piece as piece_of, step_at, TakesStep, next_at, is_prefix_sign};
 
 use byte_search::{
     count_each, find_byte, line_end, peek, skip_digits, skip_ident_cont, skip_num_cont, skip_plain,
@@ -33,6 +34,7 @@ pub use utf8::is_utf8;
 pub const MAX_BYTES: usize = 65536;
 
 // A sign detached from what precedes it and glued to what follows begins a new expression.
+#[tactic(auto, unfolding(crate::specs::Lex::is_prefix_sign, crate::specs::Bytes::or))]
 pub fn is_prefix_sign(script: &[u8], at: usize) -> bool
     ensures { result ≡ is_prefix_sign script.now at }
 {
@@ -53,6 +55,7 @@ pub fn is_prefix_sign(script: &[u8], at: usize) -> bool
 }
 
 // A comment begins with `#`, but not with `#!`.
+#[tactic(auto, unfolding(crate::specs::Lex::begins_comment))]
 fn begins_comment(b: u8, next: u8) -> bool
     ensures { result ≡ begins_comment b next }
 {
@@ -62,7 +65,8 @@ fn begins_comment(b: u8, next: u8) -> bool
     next != b'!'
 }
 
-// The position after blanks and comments.
+// The position after blanks and comments. It leaps over whole runs, so that no iterator steps as it
+// does, and may begin behind the script's end, where there is no slice.
 fn skip_separators(classes: &Classes, script: &[u8], pos: usize) -> usize
     ensures { result ≡ pos + skipped false (drop pos script.now) }
 {
@@ -102,39 +106,43 @@ fn punctuation(b: u8, kind: u32, next: u8) -> Piece
     requires { IsKindOf b kind }
     ensures { result ≡ punctuation_of b next }
 {
-    if next != b'=' {
-        return Piece::Token {
-            kind,
-            len: 1,
-            taken: 1,
-        };
-    }
-    if b == b'=' {
-        return Piece::Token {
+    match (next, b) {
+        (b'=', b'=') => Piece::Token {
             kind: Type::DOUBLE_EQUAL,
             len: 2,
             taken: 2,
-        };
-    }
-    if b == b'!' {
-        return Piece::Token {
+        },
+        (b'=', b'!') => Piece::Token {
             kind: Type::NOT_EQUAL,
             len: 2,
             taken: 2,
-        };
-    }
-    Piece::Token {
-        kind,
-        len: 1,
-        taken: 1,
+        },
+        _ => Piece::Token {
+            kind,
+            len: 1,
+            taken: 1,
+        },
     }
 }
 
 // 1 where the line begins with a space.
+#[tactic(auto, unfolding(crate::specs::Lex::leading_space))]
 fn leading_space(line: &[u8]) -> usize
     ensures { result ≡ leading_space line.now }
 {
     if peek(line, 0) == b' ' { 1 } else { 0 }
+}
+
+// The fault of bytes that are no UTF-8.
+fn invalid_utf8(len: usize, taken: usize) -> Piece
+    ensures { result ≡ Piece.Fault e_invalid_utf8 len 0 taken }
+{
+    Piece::Fault {
+        number: Diagnostic::INVALID_UTF8,
+        len,
+        seen: 0,
+        taken,
+    }
 }
 
 // A doc, of which `rest` is what follows `#!`. Most are of ASCII and are read in one pass, as
@@ -160,12 +168,7 @@ fn doc(rest: &[u8]) -> Piece
             taken: n + 2,
         }
     } else {
-        Piece::Fault {
-            number: Diagnostic::INVALID_UTF8,
-            len: n + 1,
-            seen: 0,
-            taken: n + 1, // at the line's last byte
-        }
+        invalid_utf8(n + 1, n + 1) // at the line's last byte
     }
 }
 
@@ -197,12 +200,7 @@ fn string(rest: &[u8]) -> Piece
             taken: n + 2,
         }
     } else {
-        Piece::Fault {
-            number: Diagnostic::INVALID_UTF8,
-            len: n + 1,
-            seen: 0,
-            taken: n + 2, // after the quote
-        }
+        invalid_utf8(n + 1, n + 2) // after the quote
     }
 }
 
@@ -214,14 +212,7 @@ fn double(classes: &Classes, rest: &[u8], from: usize) -> Piece
         result ≡ double_in (from + count_while is_num_cont (drop from bytes)) from bytes }
 {
     let second = from + skip_digits(classes, &rest[from..]);
-    if peek(rest, second) != b'.' {
-        return Piece::Token {
-            kind: Type::D,
-            len: second,
-            taken: second,
-        };
-    }
-    if classes.begins_name(peek(rest, second + 1)) {
+    if peek(rest, second) != b'.' || classes.begins_name(peek(rest, second + 1)) {
         return Piece::Token {
             kind: Type::D,
             len: second,
@@ -242,14 +233,7 @@ fn number(classes: &Classes, rest: &[u8]) -> Piece
     ensures { result ≡ number_of rest.now }
 {
     let first = skip_digits(classes, rest);
-    if peek(rest, first) != b'.' {
-        return Piece::Token {
-            kind: Type::I,
-            len: first,
-            taken: first,
-        };
-    }
-    if classes.begins_name(peek(rest, first + 1)) {
+    if peek(rest, first) != b'.' || classes.begins_name(peek(rest, first + 1)) {
         return Piece::Token {
             kind: Type::I,
             len: first,
@@ -360,6 +344,7 @@ pub fn step(script: &[u8], pos: usize) -> Step
 
 // The first token at a position or after it, past all faults, and the position after it; Eof at the
 // end.
+// By steps: each has its next position, which a `for` over a Lexer keeps lent in its body.
 pub fn next_token(script: &[u8], pos: usize) -> Next
     ensures { result ≡ next_at script.now pos }
 {
@@ -369,11 +354,7 @@ pub fn next_token(script: &[u8], pos: usize) -> Next
             Step::Token { token, next } => return Next { token, next },
             Step::Fault { fault: _, next } => p = next,
             Step::End { at } => return Next {
-                token: Token {
-                    kind: Type::EOF,
-                    start: at,
-                    len: 3,
-                },
+                token: Token::eof(at),
                 next: at,
             },
         }
@@ -406,9 +387,32 @@ impl<'l> Lexer<'l> {
     pub fn with_pos(self, pos: usize) -> Lexer<'l>
         ensures { (result.input ≡ self.entry.input) × (result.pos ≡ pos) }
     {
-        Lexer {
-            input: self.input,
-            pos,
+        Lexer { pos, ..self }
+    }
+}
+
+// The tokens and faults from the position on. Behind the last the position is the script's end.
+impl<'l> Iterator for Lexer<'l> {
+    type Item = Result<Token, Fault>;
+
+    ghost next_gives = { λ s r t. TakesStep s r t };
+
+    ghost remaining = { λ s. at_most (length s.input.now - s.pos) };
+
+    fn next(&mut self) -> Option<Result<Token, Fault>> {
+        match step(self.input, self.pos) {
+            Step::Token { token, next } => {
+                self.pos = next;
+                Some(Ok(token))
+            }
+            Step::Fault { fault, next } => {
+                self.pos = next;
+                Some(Err(fault))
+            }
+            Step::End { at } => {
+                self.pos = at;
+                None
+            }
         }
     }
 }

@@ -8,12 +8,26 @@ ghost use Rattle.lex.specs.Spelling.{well_formed, as_str_length};
 
 use crate::leading_space;
 
-// A token: its kind, where it starts and how long its spelling is.
+// A token: its kind, where it starts and how long its spelling is. Both are `usize`, as places in a
+// slice are: spans of any script fit. A record of tokens' table has them as cells of 32 bits.
 #[derive(Clone, Copy)]
 pub struct Token {
     pub kind: u32,
     pub start: usize,
     pub len: usize,
+}
+
+impl Token {
+    // Eof, where the script ends.
+    pub fn eof(start: usize) -> Token
+        ensures { result ≡ record { kind = 1; start = start; len = 3 } }
+    {
+        Token {
+            kind: Type::EOF,
+            start,
+            len: 3,
+        }
+    }
 }
 
 // A fault: its number, where its span starts and how long it is, and the byte that is seen; 0 but
@@ -27,7 +41,8 @@ pub struct Fault {
 }
 
 // What stands where no blank or comment begins: a token or a fault, its length, and how many bytes
-// are taken. A fault is no failure: both go on behind what is taken, so this is no Result.
+// are taken.
+// A fault stands beside how much is taken, as a token does: a Result would need a struct about it.
 #[derive(Clone, Copy)]
 pub enum Piece {
     Token {
@@ -45,6 +60,7 @@ pub enum Piece {
 
 // What stands at a position after blanks and comments, with the next position; or where the script
 // ends.
+// Each of the three has a next position; an Option of a Result in a struct with it says no more.
 #[derive(Clone, Copy)]
 pub enum Step {
     Token { token: Token, next: usize },
@@ -59,8 +75,8 @@ pub struct Next {
     pub next: usize,
 }
 
-// The kinds of token are numbers, in the order of the Rust enum: cells of lent arrays have them, and
-// an enum as a parameter would ask more.
+// The kinds of token are numbers, in the order of the Rust enum: cells of lent arrays have them,
+// and an enum as a parameter would ask more.
 #[derive(Clone, Copy)]
 pub struct Type(pub u32);
 
@@ -156,6 +172,7 @@ impl Type {
     pub const RECORD: u32 = 43;
 
     // The kind of a name: its keyword's, or IDENT.
+    // By the first byte: a `match` on whole names compares with each.
     pub fn from_keyword(name: &[u8]) -> u32
         ensures { result ≡ name_kind keywords name.now }
     {
@@ -227,14 +244,16 @@ impl Type {
         text_at(&KIND_NAMES, kind as usize)
     }
 
-    // The length of `as_str`; 0 for a kind whose tokens have spellings of their own, and for a
-    // number that is no kind.
-    pub fn spelling_len(kind: u32) -> usize
-        ensures { result ≡ length (fixed_spelling kind) }
+    // The fixed spelling of a kind; none for a kind whose tokens have spellings of their own, and
+    // for a number that is no kind.
+    pub fn fixed_spelling(kind: u32) -> Option<&'static str>
+        ensures { MatchOption result
+            (length (fixed_spelling kind) ≡ 0)
+            (λ t. (0 < length (fixed_spelling kind)) × (t.now ≡ fixed_spelling kind)) }
     {
         match text_at(&SPELLINGS, kind as usize) {
-            Some(text) => text.len(),
-            None => 0,
+            Some(text) if !text.is_empty() => Some(text),
+            _ => None,
         }
     }
 }
@@ -245,11 +264,10 @@ fn text_at(table: &[&'static str], n: usize) -> Option<&'static str>
         (length table.now ≤ n)
         (λ t. (n < length table.now) × (t.now ≡ text_at table.now n)) }
 {
-    match table.get(n) {
-        Some(text) => Some(*text),
-        None => None,
-    }
+    table.get(n).copied()
 }
+
+// Two tables, each with a text for 0 and for each kind: the specification has each as one list.
 
 // The name of each kind; 0 is none.
 const KIND_NAMES: [&str; 44] = [
@@ -367,14 +385,12 @@ pub fn spelling(script: &[u8], t: Token) -> Option<usize>
     Some(start + offset)
 }
 
-// The kind is known, and a spelling from the script lies in it. A known kind has one of these, or a fixed one.
+// The kind is known, and a spelling from the script lies in it. A known kind has one of these, or a
+// fixed one.
 pub fn well_formed(script: &[u8], t: Token) -> bool
     ensures { result ≡ well_formed script.now t }
 {
-    match spelling(script, t) {
-        Some(_) => true,
-        None => 0 < Type::spelling_len(t.kind),
-    }
+    spelling(script, t).is_some() || Type::fixed_spelling(t.kind).is_some()
 }
 
 // The length of `as_str`: only S, D, I, Ident and Doc have one of their own.
@@ -382,11 +398,8 @@ pub fn as_str_len(t: Token) -> usize
     ensures { result ≡ as_str_length t }
 {
     let kind = t.kind;
-    if kind < Type::S {
-        return Type::spelling_len(kind);
+    if Type::S <= kind && kind <= Type::DOC {
+        return t.len;
     }
-    if Type::DOC < kind {
-        return Type::spelling_len(kind);
-    }
-    t.len
+    Type::fixed_spelling(kind).map_or(0, |text| text.len())
 }

@@ -2,8 +2,9 @@
 // `(long)` for a longer one.
 #![tactic(auto)]
 
+use list_script::Buffers;
 use std::io;
 
 fn main(rt: HostRuntime) -> io::Result<()> {
-    list_script::print_input(&rt, &mut rt.stdin(), parser::parse_collect)
+    list_script::print_input(&rt, &mut rt.stdin(), Buffers::parse_collect)
 }

@@ -7,23 +7,22 @@ ghost use Rattle.std.specs.Prelude.{◌≡◌, ◌+◌, length};
 ghost use Rattle.lex.specs.Lex.{tokens_from};
 
 use console::frames::read_full;
+use lex::Lexer;
 use std::io;
 use std::io::Read;
 
 // How many tokens there are before Eof.
+// A loop: `filter` and `count` promise of whole runs of the lexer, whose laws are of single steps.
 fn count(script: &[u8]) -> usize
     ensures { length (tokens_from script.now 0) ≡ result + 1 }
 {
     let mut n: usize = 0;
-    let mut p: usize = 0;
-    loop {
-        let x = lex::next_token(script, p);
-        if x.token.kind == lex::Type::EOF {
-            return n;
+    for piece in Lexer::new(script) {
+        if piece.is_ok() {
+            n += 1;
         }
-        n += 1;
-        p = x.next;
     }
+    n
 }
 
 // Says that there is more than was shown, where another byte can be read.

@@ -3,7 +3,7 @@ use mathlib.Core.Path.{◌≡◌, refl, sym, ◌∙◌, ap}
 use mathlib.Core.Bool.{Bool, true, false, false≢true, ◌&&◌}
 use mathlib.Core.List.{List, [], ◌∷◌, ◌++◌, map}
 use Prim.Native.Nat.{ℕ, zero, suc, ◌+◌, ◌*◌, ◌<◌, ◌≤◌}
-use native.Mathlib.Nat.{mul-le-mul_right}
+use native.Mathlib.Nat.{mul-le-mul_left, mul-le-mul_right}
 use native.Mathlib.Numerals.{add-one}
 use native.Mathlib.Omega.{arith}
 use lib.Dec.{leb, ltb}
@@ -122,11 +122,13 @@ module _ (width : ℕ) (cells : List ℕ) (member : ℕ → List ℕ) (r : Run) 
   unfolding listed
   run_outside h = rw (lt-leb (r.start + width * r.len) (length cells) h, listed)
 
--- where a member begins
-pub few-before : (w n i : ℕ) → w < 9 → n < 4294967296 → i < n → w * i < 38654705664
-few-before w n i h k l =
-    let a : w * i ≤ 9 * i = mul-le-mul_right i (omega arith) in
-    omega arith
+-- so many cells has a list, and a member begins before them
+module _ (w n : ℕ) (h : w < 9) (l : n < 4294967296) where
+  pub few-cells : w * n < 34359738368
+  few-cells = let z : w * n ≤ 8 * n = mul-le-mul_right n (omega arith) in omega arith
+
+  pub few-before : (i : ℕ) → i < n → w * i < 34359738368
+  few-before i k = let z : w * i ≤ w * n = mul-le-mul_left w (omega arith) in let y = few-cells in omega arith
 
 -- ---- fields
 

@@ -17,9 +17,10 @@ use Rattle.text.specs.Emit.{plain}
 use Rattle.listing.specs.Listing.{fits, Measures, into_buffer, listing_answer}
 use Rattle.listing.specs.Lists.{Unlisted}
 use Rattle.text.specs.Answer as T
-use Rattle.text.specs.Answer.{Result, refuse, in_front}
+use Rattle.text.specs.Answer.{Result}
 use Rattle.text.specs.Emit.{Output, last, put, emit, Emits}
 use Rattle.text.proofs.EmitLaws.{bytes_count, bytes_in, and_left, and_right}
+use Rattle.text.proofs.Plain.{kept as counted_leaves}
 
 -- ---- positions
 
@@ -49,12 +50,16 @@ fault (b ∷ text) o e = go (ltb b 256) refl (fault text (put b o))
 
 -- ---- how long a text is
 
-module _ {text x y : List ℕ} {n : ℕ} (counted : Emits text x 0 y n) where
-  at_end : (emit text (record { buffer = x; at = 0 })).at ≡ n
-  at_end = sym (ap (λ (o : Output). o.at) counted.emitted)
+-- counted on no buffer it leaves none
+pub kept : {text y : List ℕ} (x : List ℕ) {n : ℕ} → Emits text [] 0 y n → y ++ x ≡ x
+kept x measured = counted_leaves measured x
+
+module _ {text x y : List ℕ} {n : ℕ} (measured : Emits text x 0 y n) where
+  pub counted : (emit text (record { buffer = x; at = 0 })).at ≡ n
+  counted = sym (ap (λ (o : Output). o.at) measured.emitted)
 
   length_is : plain text ≡ true → n ≡ min (length text) last
-  length_is e = sym at_end ∙ bytes_count text (record { buffer = x; at = 0 }) e (omega arith) ∙ omega arith
+  length_is e = sym counted ∙ bytes_count text (record { buffer = x; at = 0 }) e (omega arith) ∙ omega arith
 
   pub too_long : n ≡ last → fits text ≡ false
   too_long h = go (plain text) refl
@@ -63,12 +68,12 @@ module _ {text x y : List ℕ} {n : ℕ} (counted : Emits text x 0 y n) where
       go true e = let l : last ≤ length text = omega (arith, length_is e) in le-ltb (length text) last l
       go false e = refl
 
-  pub measured : (n ≡ last → ⊥) → (fits text ≡ true) × (n ≡ length text)
-  measured h = go (plain text) refl
+  pub fitting : (n ≡ last → ⊥) → (fits text ≡ true) × (n ≡ length text)
+  fitting h = go (plain text) refl
     where
       go : (t : Bool) → plain text ≡ t → ((t && ltb (length text) last) ≡ true) × (n ≡ length text)
       go true e = let l : n ≡ min (length text) last = length_is e in (lt-ltb (length text) last (omega arith), omega arith)
-      go false e = absurd (h (sym at_end ∙ fault text (record { buffer = x; at = 0 }) e))
+      go false e = absurd (h (sym counted ∙ fault text (record { buffer = x; at = 0 }) e))
 
 -- below the last position there are bytes only
 pub not_measured : (text : List ℕ) (r : Outcome ℕ Malformed) → IsErr r → Unlisted text → Measures text r

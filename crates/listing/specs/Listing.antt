@@ -1,5 +1,6 @@
 -- The listing of a reading, and of arrays whoever filled them; what of it goes into a lent buffer.
-use Rattle.std.specs.Prelude.{Bool, true, false, ◌&&◌, List, [], ◌∷◌, ◌++◌, ℕ, ◌*◌, leb, ltb, eqb, length, get_or, take, Result as Outcome, Ok, Err, MatchResult, ◌≡◌}
+use Rattle.std.specs.Prelude.{Bool, true, false, ◌&&◌, List, [], ◌∷◌, ◌++◌, ℕ, ◌*◌, ◌≡◌, leb, ltb, eqb}
+use Rattle.std.specs.Prelude.{length, get_or, take, Result as Outcome, Ok, Err, MatchResult}
 use Rattle.std.proofs.Math.Option.{Option, none, some}
 use Rattle.std.proofs.Math.ListN.{get_elem?}
 use Rattle.lex.specs.declared.diagnostic.Diagnostic.{Diagnostic}
@@ -8,6 +9,8 @@ use Rattle.ast.specs.declared.Node.{Node}
 use Rattle.ast.specs.declared.TypeExpr.{TypeExpr}
 use Rattle.rules.specs.Parsed.{Parsed}
 use Rattle.rules.specs.Parsed as P
+use Rattle.listing.specs.declared.Failure.{Failure}
+use Rattle.listing.specs.declared.Failure.TheVariants as F
 use Rattle.lex.specs.Errors.{e_too_deep}
 use Rattle.lex.specs.Refusals.{r_too_short, r_malformed, number as refusal_number}
 use Rattle.ast.specs.declared.ReadError.{ReadError}
@@ -75,10 +78,15 @@ error_line e =
       | false ↦ numbers_line (bytes "error") e
     ]
 
--- why there is no tree: an error of the script, or a refusal by its number
-abbrev pub failure_line : ReadError → List ℕ
-failure_line (E.Script e) = error_line e
-failure_line (E.Refused r) = line (bytes "refused") (number (refusal_number r) ∷ [])
+-- why there is no tree: an error of the script, or a refusal by its number, whatever that is
+abbrev pub failure_line : Failure → List ℕ
+failure_line (F.Script e) = error_line e
+failure_line (F.Refused n) = line (bytes "refused") (number n ∷ [])
+
+-- what a reading has no tree for, as it is listed
+abbrev pub failure_of : ReadError → Failure
+failure_of (E.Script e) = F.Script e
+failure_of (E.Refused r) = F.Refused (refusal_number r)
 
 -- a tree by its counts and its records, wherever they are taken from
 unfoldable pub tree_text : Counts → List ℕ → (ℕ → Option Node) → (ℕ → Option TypeExpr)
@@ -128,6 +136,12 @@ within c a =
 abbrev pub diagnostic_at : List ℕ → ℕ → Diagnostic
 diagnostic_at xs i = D.diagnostic_at xs (diagnostic_width * i)
 
+-- an answer as a reading's, with any number for a refusal
+abbrev pub as_parsed : Outcome Counts Failure → Parsed
+as_parsed (Ok c) = P.Tree c
+as_parsed (Err (F.Script e)) = P.Error e
+as_parsed (Err (F.Refused n)) = P.Refused n
+
 -- what is listed of an answer and of arrays whoever filled them; of a refusal without a place its
 -- number
 unfoldable pub text_of : Parsed → Arrays → List ℕ
@@ -149,7 +163,8 @@ fits text = plain text && ltb (length text) 18446744073709551615
 
 -- how long a text is that fits
 abbrev pub Measures : List ℕ → Outcome ℕ Malformed → Type 0
-Measures text r = MatchResult r (λ n. (fits text ≡ true) × (n ≡ length text)) (λ _. fits text ≡ false)
+Measures text r =
+    MatchResult r (λ n. (fits text ≡ true) × (n ≡ length text)) (λ _. fits text ≡ false)
 
 -- the text in front; refused, with the buffer as it was, where that is too short (2), and where the
 -- text has what is no byte, or 2^64 - 1 bytes or more (4)

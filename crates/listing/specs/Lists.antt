@@ -9,11 +9,14 @@ use Rattle.listing.specs.declared.emit.Malformed.{Malformed}
 pub record Unlisted (text : List ℕ) : Type 0 where
   pub not_plain : plain text ≡ false
 
-pub record Lists (text : List ℕ) (before after : Writer) (r : Result (Unit {0}) Malformed) : Type 0 where
+pub record Lists (text : List ℕ) (before after : Writer) (r : Result (Unit {0}) Malformed)
+    : Type 0 where
   pub answers : MatchResult r (λ _. Writes text before after) (λ _. Unlisted text)
 
 -- whatever calls of `post` answer, the call at a number below `n` lists its text
-abbrev pub ListsEach : (ℕ → MutBor Writer → Result (Unit {0}) Malformed → MutBor Writer → Type 0) → ℕ → (ℕ → List ℕ) → Type 0
+abbrev pub ListsEach :
+    (ℕ → MutBor Writer → Result (Unit {0}) Malformed → MutBor Writer → Type 0)
+    → ℕ → (ℕ → List ℕ) → Type 0
 ListsEach post n text =
     (j : ℕ) (u : MutBor Writer) (r : Result (Unit {0}) Malformed) (v : MutBor Writer)
     → j < n → post j u r v → Lists (text j) u.now v.now r

@@ -1,5 +1,6 @@
 -- The forms of the listing as bytes: tokens, lists, records.
-use Rattle.std.specs.Prelude.{true, false, List, [], ◌∷◌, ◌++◌, ℕ, zero, suc, ◌+◌, ◌*◌, leb, length, get_or}
+use Rattle.std.specs.Prelude.{true, false, List, [], ◌∷◌, ◌++◌, ℕ, zero, suc, ◌+◌, ◌*◌, leb, length}
+use Rattle.std.specs.Prelude.{get_or}
 use Rattle.lex.specs.declared.tok.Token.{Token}
 use Rattle.ast.specs.declared.Run.{Run}
 use Rattle.ast.specs.declared.Node.{Node}
@@ -7,7 +8,7 @@ use Rattle.ast.specs.declared.Node.TheVariants as N
 use Rattle.ast.specs.declared.TypeExpr.{TypeExpr}
 use Rattle.ast.specs.declared.TypeExpr.TheVariants as T
 use Rattle.ast.specs.Schema as S
-use Rattle.ast.specs.Schema.{Members, member_width}
+use Rattle.ast.specs.Schema.{member_width}
 use Rattle.ast.specs.Decode.{token_at, run_at}
 use Rattle.text.specs.Text.{bytes, number}
 
@@ -106,23 +107,6 @@ module _ (cells : List ℕ) where
 
   unfoldable pub extern_fns : Run → List ℕ
   extern_fns = listed (member_width S.fns) cells extern_fn
-
-  -- a member from cell `j` on, and the list of a run, by what the members are
-  abbrev pub member : Members → ℕ → List ℕ
-  member S.tokens j = token (token_at cells j)
-  member S.params j = pair j
-  member S.fns j = extern_fn j
-  member S.nodes j = number (get_or cells j 0)
-  member S.fields j = pair j
-  member S.cases j = branch j
-
-  abbrev pub list : Members → Run → List ℕ
-  list S.tokens r = tokens r
-  list S.params r = pairs r
-  list S.fns r = extern_fns r
-  list S.nodes r = ids r
-  list S.fields r = pairs r
-  list S.cases r = branches r
 
   -- ---- records
 

@@ -13,20 +13,11 @@ pub(crate) struct Malformed;
 
 pub(crate) type Listed = Result<(), Malformed>;
 
-// The blank in front of what is not the first.
-pub(crate) fn write_gap(before: usize, w: &mut Writer)
-    ensures { Writes (gap before) w.old w.new }
-{
-    if 0 < before {
-        w.write_byte(b' ');
-    }
-}
-
 // A number behind something else.
 pub(crate) fn write_next_number(n: usize, w: &mut Writer)
     ensures { Writes (gap 1 ++ number n) w.old w.new }
 {
-    write_gap(1, w);
+    w.write_byte(b' ');
     w.write_number(n);
 }
 

@@ -1,11 +1,13 @@
-// Tokens and lists, and forms of them.
+// Tokens and lists, and forms of them. The cells stay beside the writer: a list's closures read
+// them while they lend the writer.
 ghost use Rattle.std.specs.Prelude.{ℕ, List, [], ◌∷◌, ◌+◌, ◌<◌, map};
-ghost use Rattle.listing.specs.Text.{kind_name, token, pair, branch, extern_fn, listed};
+ghost use Rattle.listing.specs.Text.{gap, kind_name, token, pair, branch, extern_fn, listed};
 ghost use Rattle.listing.specs.Text.{tokens, ids, pairs, tuple, form};
 ghost use Rattle.listing.specs.Field.{field_text};
 ghost use Rattle.listing.specs.Lists.{Lists, ListsEach};
+ghost use Rattle.text.specs.Emit.{Writes};
 
-use crate::emit::{Listed, Malformed, write_gap, write_next_number};
+use crate::emit::{Listed, Malformed, write_next_number};
 use ast::Run;
 use ast::decode::{cell, run_at, token_at};
 use ast::schema::{CASE_WIDTH, FN_WIDTH, NODE_WIDTH, PARAM_WIDTH, TOKEN_WIDTH};
@@ -15,13 +17,13 @@ use text::Writer;
 fn write_kind(kind: u32, w: &mut Writer) -> Listed
     ensures { Lists (kind_name kind) w.old w.new result }
 {
-    let Some(name) = Type::name(kind) else {
-        return Err(Malformed);
-    };
+    let name = Type::name(kind).ok_or(Malformed)?;
     w.write_text(name.as_bytes());
     Ok(())
 }
 
+// A token, `(kind start len)`. Not by console's `TokenForm`: `write!` may fail (see text's
+// `Writer`), and a number that is no kind is malformed here, where `TokenForm` prints no name.
 fn write_token(t: Token, w: &mut Writer) -> Listed
     ensures { Lists (token t) w.old w.new result }
 {
@@ -31,6 +33,16 @@ fn write_token(t: Token, w: &mut Writer) -> Listed
     write_next_number(t.len, w);
     w.write_byte(b')');
     Ok(())
+}
+
+// The blank in front of member `i`; the first has none. A function of its own: the loop of
+// `write_list` has the text of either branch from its one clause.
+fn write_gap(i: usize, w: &mut Writer)
+    ensures { Writes (gap i) w.old w.new }
+{
+    if 0 < i {
+        w.write_byte(b' ');
+    }
 }
 
 // A run of members of `width` cells, each by `write_member` from its first cell.

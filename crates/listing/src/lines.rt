@@ -1,19 +1,21 @@
 // The lines of the listing.
-ghost use Rattle.std.specs.Prelude.{ℕ, List, [], ◌∷◌, ◌++◌, ◌≡◌, ◌<◌, map};
+ghost use Rattle.std.specs.Prelude.{ℕ, List, [], ◌∷◌, ◌<◌, ◌/◌, length, map};
+ghost use Rattle.ast.specs.Layout.{diagnostic_width};
 ghost use Rattle.ast.specs.Decode.{node_at, type_at};
 ghost use Rattle.text.specs.Text.{bytes, number};
 ghost use Rattle.text.specs.Emit.{Writes};
-ghost use Rattle.rules.specs.Parsed.{parsed_of, Parsed as Answer};
+ghost use Rattle.rules.specs.Parsed.{Parsed};
 ghost use Rattle.listing.specs.Text.{each};
 ghost use Rattle.listing.specs.Listing.{line, node_text, type_text, counts_line, numbers_line};
-ghost use Rattle.listing.specs.Listing.{error_line, failure_line, diagnostic_at, held, text_of};
+ghost use Rattle.listing.specs.Listing.{error_line, failure_line, diagnostic_at, held};
+ghost use Rattle.listing.specs.Listing.{as_parsed, text_of};
 ghost use Rattle.listing.specs.Lists.{Lists, ListsEach};
 
-use crate::Arrays;
 use crate::emit::{Listed, Malformed, write_next_number, write_numbers};
 use crate::records::{write_node, write_type};
-use ast::decode::{diagnostic_at, node, type_expr};
-use ast::{Counts, DIAGNOSTIC_WIDTH, NodeId, Parsed, ReadError, TypeExprId};
+use crate::{Arrays, Failure};
+use ast::decode::{node, type_expr};
+use ast::{Counts, DIAGNOSTIC_WIDTH, NodeId, TypeExprId};
 use lex::Diagnostic;
 use text::Writer;
 
@@ -39,6 +41,8 @@ fn write_counts(c: Counts, w: &mut Writer)
     w.write_byte(b'\n');
 }
 
+// Two functions, one for nodes and one for types, and no bodies of the closures of `write_tree`: as
+// bodies, no proof was found of what is listed where a record is none.
 fn write_node_at(nodes: &[u32], lists: &[u32], i: u32, w: &mut Writer) -> Listed
     ensures { Lists (node_text lists.now (node_at nodes.now i)) w.old w.new result }
 {
@@ -80,28 +84,27 @@ fn write_records<F: Fn(u32, &mut Writer) -> Listed>(
     Ok(())
 }
 
-// The five numbers of an error.
+// The five numbers of an error, under a name. Not by console's `FaultForm`: `write!` may fail (see
+// text's `Writer`), and the name and the wanted kind differ.
 fn write_diagnostic(name: &[u8], e: Diagnostic, w: &mut Writer)
     ensures { Writes (numbers_line name.now e) w.old w.new }
 {
-    write_line(name, &[e.number, e.start, e.len, e.wanted, e.seen], w);
+    write_line(name, &<[u32; 5]>::from(e), w);
 }
 
-fn write_diagnostics(diagnostics: &[u32], n: u32, w: &mut Writer)
+// A line for each error.
+fn write_diagnostics(diagnostics: &[u32], w: &mut Writer)
     ensures { let error = diagnostic_at diagnostics.now in
+        let n = length diagnostics.now / diagnostic_width in
         Writes (each (λ i. numbers_line (bytes "diag") (error i)) n) w.old w.new }
 {
-    for i in 0..n {
-        write_diagnostic(
-            b"diag",
-            diagnostic_at(diagnostics, DIAGNOSTIC_WIDTH * i as usize),
-            w,
-        );
+    for record in diagnostics.as_chunks().0 {
+        write_diagnostic(b"diag", record.into(), w);
     }
 }
 
 fn write_tree(c: Counts, arrays: &Arrays, w: &mut Writer) -> Listed
-    ensures { Lists (text_of (Answer.Tree c) (held arrays.now)) w.old w.new result }
+    ensures { Lists (text_of (Parsed.Tree c) (held arrays.now)) w.old w.new result }
 {
     if !arrays.holds(c) {
         return Err(Malformed);
@@ -123,7 +126,8 @@ fn write_tree(c: Counts, arrays: &Arrays, w: &mut Writer) -> Listed
         |i, w| write_type_at(types, lists, i, w),
     )?;
     write_line(b"roots", &arrays.roots[..c.roots as usize], w);
-    write_diagnostics(arrays.diagnostics, c.diagnostics, w);
+    let diagnostics = &arrays.diagnostics[..DIAGNOSTIC_WIDTH * c.diagnostics as usize];
+    write_diagnostics(diagnostics, w);
     Ok(())
 }
 
@@ -139,17 +143,21 @@ fn write_error(e: Diagnostic, w: &mut Writer)
 }
 
 // Why there is no tree.
-fn write_failure(failure: ReadError, w: &mut Writer)
+fn write_failure(failure: Failure, w: &mut Writer)
     ensures { Writes (failure_line failure) w.old w.new }
 {
     match failure {
-        ReadError::Script(e) => write_error(e, w),
-        ReadError::Refused(refusal) => write_line(b"refused", &[refusal.into()], w),
+        Failure::Script(e) => write_error(e, w),
+        Failure::Refused(number) => write_line(b"refused", &[number], w),
     }
 }
 
-pub(crate) fn write_answer(answer: Parsed, arrays: &Arrays, w: &mut Writer) -> Listed
-    ensures { Lists (text_of (parsed_of answer) (held arrays.now)) w.old w.new result }
+pub(crate) fn write_answer(
+    answer: Result<Counts, Failure>,
+    arrays: &Arrays,
+    w: &mut Writer,
+) -> Listed
+    ensures { Lists (text_of (as_parsed answer) (held arrays.now)) w.old w.new result }
 {
     match answer {
         Ok(counts) => write_tree(counts, arrays, w),

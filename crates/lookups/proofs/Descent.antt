@@ -160,6 +160,3 @@ module _ (types : List ℕ) where
   innermost_step i j r e h b =
       let l : inner_of (type_at types i) i < i = rw e at h in
       record { ends = b.ends; same = λ script. b.same script ∙ ap (type_token_at script types) e ∙ lower script i (type_at types i) refl l }
-
-  pub innermost_here : (i j : ℕ) → j ≡ inner_of (type_at types i) i → i ≤ j → Innermost types i i
-  innermost_here i j e h = record { ends = rw e at h; same = λ script. refl }

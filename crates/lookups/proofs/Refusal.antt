@@ -43,6 +43,12 @@ module _ {A : Type 0} (a : Answer A) where
     unfolding record_asked tested
     asked-answer x e = tested-answer (refusal l) (ltb i count) (fits size xs i) x e
 
+-- the tree is refused, whatever record is asked about; `r` is what its test found
+pub refused-lent : {A : Type 0} (l : Lent) (count size : ℕ) (xs : List ℕ) (i : ℕ) (a : Answer A) (r : ℕ) → r ≡ refusal l → (r ≡ 0 → ⊥) → refused r ≡ record_asked l count size xs i a
+unfolding record_asked unless
+refused-lent l count size xs i a zero e h = absurd (h refl)
+refused-lent l count size xs i a (suc m) e h = rw (← e) refl
+
 pub start_answered : (x : Option (Option ℕ)) → start_answer (start_or (Ok R.None) (as_start x)) ≡ unless_malformed x
 unfolding start_answer start_or as_start unless_malformed
 start_answered none = refl

@@ -1,5 +1,6 @@
 -- What a lookup answers: where a node starts, and the token of a type.
-use Rattle.std.specs.Prelude.{Bool, List, ℕ, ◌+◌, ◌*◌, leb, ltb, eqb, length, get_or, Result, Ok, Err}
+use Rattle.std.specs.Prelude.{Bool, List, ℕ, ◌+◌, ◌*◌, leb, ltb, eqb, length, get_or}
+use Rattle.std.specs.Prelude.{Result, Ok, Err}
 use Rattle.std.specs.Prelude as R
 use Rattle.std.proofs.Math.Option.{Option, none, some}
 use Rattle.lex.specs.declared.tok.Token.{Token}

@@ -17,7 +17,8 @@ use ast::schema::CASE_WIDTH;
 use ast::{Node, NodeId, Run, Tree, TypeExpr, TypeExprId};
 use lex::{Refusal, Token, as_str_len, well_formed};
 
-// Record `i` of an array is asked about: `width` cells a record, of which `count` are in use.
+// Record `i` of an array is asked about: `width` cells a record, of which `count` are in use. These
+// are values, since the array is either the nodes or the types of the tree.
 #[tactic(auto, unfolding(crate::specs::Lookup::record_asked, ast::specs::Answer::unless))]
 fn check_record(
     tree: &Tree,
@@ -40,6 +41,8 @@ fn check_record(
     Ok(())
 }
 
+// The start of a token, of which an array holds the low 32 bits: `%`, since `try_from` refuses a
+// start that has more, and the script here has any length.
 #[tactic(auto, unfolding(crate::specs::Lookup::token_start, crate::specs::Descent::as_start))]
 fn token_start(script: &[u8], t: Token) -> Result<Option<u32>, Refusal>
     ensures { result ≡ as_start (token_start script.now t) }
@@ -129,7 +132,8 @@ fn start_step(tree: &Tree, id: NodeId, start: &mut Result<Option<u32>, Refusal>)
 
 // Where node `id` starts, into `start`, which stays where the node has no start. The call is the
 // last thing done, and passes nothing that lies in this function's frame, so that a long chain
-// takes no stack.
+// takes no stack. A start that is passed on and answered lies there: then a chain of 32,767 links
+// does not fit into 256 KiB.
 fn find_start(tree: &Tree, id: NodeId, start: &mut Result<Option<u32>, Refusal>)
     ensures { let lent = lent_of tree.now in
         let read = start_at lent.script (cells_of lent) lent.nodes id.0 in
@@ -146,7 +150,6 @@ fn find_start(tree: &Tree, id: NodeId, start: &mut Result<Option<u32>, Refusal>)
 }
 
 // Where a node starts.
-#[tactic(auto, unfolding(crate::specs::Lookup::node_start, crate::specs::Lookup::start_answer, crate::specs::Lookup::record_asked, crate::specs::Lookup::unless_malformed, crate::specs::Descent::start_or, crate::specs::Descent::as_start))]
 pub fn node_start(tree: &Tree, id: NodeId) -> Result<Option<u32>, Refusal>
     ensures { start_answer result ≡ node_start (lent_of tree.now) id.0 }
 {
@@ -208,7 +211,6 @@ fn token_here(script: &[u8], types: &[u32], id: TypeExprId) -> Result<Token, Ref
 }
 
 // The token of a type.
-#[tactic(auto, unfolding(crate::specs::Lookup::type_token, crate::specs::Lookup::record_asked, crate::specs::Lookup::unless_malformed, crate::specs::Descent::as_type_token))]
 pub fn type_token(tree: &Tree, id: TypeExprId) -> Result<Token, Refusal>
     ensures { answered result ≡ type_token (lent_of tree.now) id.0 }
 {

@@ -1,5 +1,5 @@
 -- What a reading promises, from how the roots end.
-use Rattle.std.specs.Prelude.{Some, None, Result as Answered, Ok, Err, MatchResult, IsErrAnd}
+use Rattle.std.specs.Prelude.{Option, Some, Result as Answered, Ok, Err, MatchResult, IsErrAnd}
 use Rattle.std.specs.Result.{is_ok}
 use Rattle.ast.specs.declared.ReadError.{ReadError}
 use Rattle.ast.specs.declared.ReadError.TheVariants.{Refused}
@@ -34,38 +34,51 @@ use Rattle.parser_state.specs.declared.Used.{Used}
 use Rattle.parser_state.proofs.Steps.{true≢false}
 use Rattle.parser_state.proofs.Cells.{nodes-length, types-length}
 use Rattle.diagnostics.proofs.Records.{cells-length}
-use Rattle.parser.specs.Whole.{RootsRead, refusal, not_read, behind, Begun, Holds, RootsEnd}
-use Rattle.parser.specs.Collect.{RootsCollected, in_order, CollectEnds}
+use Rattle.parser.specs.Whole.{refusal, not_read, behind, Begun, Holds, RootsEnd}
+use Rattle.parser.specs.Collect.{RootsCollected, in_order, CollectEnds, finished_as, finished}
 use Rattle.parser.specs.Steps.{turned_away, any_too_short, read_promised, WholeOutcome, parse_promised}
+
+-- ---- the beginning
+
+pub nothing_used : (u : Used) → (u.nodes ≡ 0) × ((u.values ≡ 0) × ((u.types ≡ 0) × ((u.docs ≡ 0) × ((u.cells ≡ 0) × (u.scratch ≡ 0))))) → u ≡ record { nodes = 0; values = 0; types = 0; docs = 0; cells = 0; scratch = 0 }
+nothing_used u e = λ i. record { nodes = e.0 i; values = e.1.0 i; types = e.1.1.0 i; docs = e.1.1.1.0 i; cells = e.1.1.1.1.0 i; scratch = e.1.1.1.1.1 i }
 
 -- ---- trees and errors
 
-abbrev pub tree_of : Used → ℕ → ℕ → Parsed
-tree_of u roots n = P.Tree (record { nodes = u.nodes; types = u.types; cells = u.cells; roots = roots; values = u.values; diagnostics = n })
-
 -- the used part of an array, and zeros behind
-held_as : (a a₁ a₂ f : List ℕ) (n : ℕ) → length a₁ ≡ length a → take n a₁ ≡ f → n ≡ length f → a₂ ≡ behind n a₁ → padded (length a) f ≡ a₂
-held_as a a₁ a₂ f n same e count w = sym (w ∙ (λ i. e i ++ zeros (same i - count i)))
+held_as : (a a₁ f : List ℕ) (n : ℕ) → length a₁ ≡ length a → take n a₁ ≡ f → n ≡ length f → padded (length a) f ≡ behind n a₁
+held_as a a₁ f n same e count = sym (λ i. e i ++ zeros (same i - count i))
 
-module _ (x : Reading) (ns ts ls rs ds rs₁ ns₂ ts₂ ls₂ rs₂ ds₂ : List ℕ) where
-  pub tree-outcome : {xs : List ℕ} {m : State} (r : RootsRead) (es : List Diagnostic) (n : ℕ) → x ≡ read (record { arena = m.arena; roots = xs }) es → Holds rs₁ r xs m
-      → length r.code.nodes ≡ length ns → length r.code.types ≡ length ts → length r.code.lists ≡ length ls → length rs₁ ≡ length rs
-      → ns₂ ≡ behind (node_width * r.code.parser.used.nodes) r.code.nodes → ts₂ ≡ behind (type_width * r.code.parser.used.types) r.code.types → ls₂ ≡ behind r.code.parser.used.cells r.code.lists → rs₂ ≡ behind r.members rs₁
-      → n ≡ length es → padded (length ds) (flatten (map diagnostic_cells es)) ≡ ds₂
-      → outcome x (arrays_of ns ts ls rs ds) ≡ record { answer = tree_of r.code.parser.used r.members n; arrays = arrays_of ns₂ ts₂ ls₂ rs₂ ds₂ }
+-- the arrays as they are lent and once the roots are read
+module _ (x : Reading) (ns ts ls rs ds rs₁ ds₁ : List ℕ) (c : RootsCollected)
+    (n : length c.code.nodes ≡ length ns) (t : length c.code.types ≡ length ts) (l : length c.code.lists ≡ length ls) (o : length rs₁ ≡ length rs) (k : length ds₁ ≡ length ds) where
+  tree-outcome : {xs : List ℕ} {m : State} (es : List Diagnostic) → x ≡ read (record { arena = m.arena; roots = xs }) es → Holds rs₁ (record { code = c.code; members = c.members }) xs m
+      → c.diagnostics ≡ length es → padded (length ds) (flatten (map diagnostic_cells es)) ≡ behind (diagnostic_width * c.diagnostics) ds₁
+      → outcome x (arrays_of ns ts ls rs ds) ≡ finished c rs₁ ds₁
   unfolding outcome holding
-  tree-outcome {xs} {m} r es n e h a b c d a' b' c' d' k z = ap (λ (y : Reading). outcome y (arrays_of ns ts ls rs ds)) e ∙ (λ i. record {
-    answer = P.Tree (record { nodes = sym h.node_count i; types = sym h.type_count i; cells = sym h.cell_count i; roots = sym h.root_count i; values = sym h.value_count i; diagnostics = sym k i });
-    arrays = arrays_of
-        (held_as ns r.code.nodes ns₂ (flatten (map node_cells m.arena.nodes)) (node_width * r.code.parser.used.nodes) a h.nodes_held (omega (arith, nodes-length m.arena.nodes, h.node_count)) a' i)
-        (held_as ts r.code.types ts₂ (flatten (map type_cells m.arena.types)) (type_width * r.code.parser.used.types) b h.types_held (omega (arith, types-length m.arena.types, h.type_count)) b' i)
-        (held_as ls r.code.lists ls₂ m.arena.cells r.code.parser.used.cells c h.lists_held h.cell_count c' i) (held_as rs rs₁ rs₂ xs r.members d h.roots_held h.root_count d' i) (z i);
-  })
+  tree-outcome {xs} {m} es e h d z =
+      let u : Used = c.code.parser.used in
+      ap (λ (y : Reading). outcome y (arrays_of ns ts ls rs ds)) e
+      ∙ (λ i. record {
+        answer = P.Tree (record { nodes = sym h.node_count i; types = sym h.type_count i; cells = sym h.cell_count i; roots = sym h.root_count i; values = sym h.value_count i; diagnostics = sym d i });
+        arrays = arrays_of
+            (held_as ns c.code.nodes (flatten (map node_cells m.arena.nodes)) (node_width * u.nodes) n h.nodes_held (omega (arith, nodes-length m.arena.nodes, h.node_count)) i)
+            (held_as ts c.code.types (flatten (map type_cells m.arena.types)) (type_width * u.types) t h.types_held (omega (arith, types-length m.arena.types, h.type_count)) i)
+            (held_as ls c.code.lists m.arena.cells u.cells l h.lists_held h.cell_count i)
+            (held_as rs rs₁ xs c.members o h.roots_held h.root_count i) (z i);
+      })
+      ∙ ap (λ (f : Option Diagnostic). finished_as f c rs₁ ds₁) (sym h.going)
 
-pub error-outcome : (x : Reading) (ns ts ls rs ds ns₂ ts₂ ls₂ rs₂ ds₂ : List ℕ) (e : Diagnostic) → x ≡ ended e → ns₂ ≡ zeros (length ns) → ts₂ ≡ zeros (length ts) → ls₂ ≡ zeros (length ls) → rs₂ ≡ zeros (length rs) → ds₂ ≡ zeros (length ds)
-    → outcome x (arrays_of ns ts ls rs ds) ≡ record { answer = P.Error e; arrays = arrays_of ns₂ ts₂ ls₂ rs₂ ds₂ }
-unfolding outcome zeroed
-error-outcome x ns ts ls rs ds ns₂ ts₂ ls₂ rs₂ ds₂ e w a b c d z = ap (λ (y : Reading). outcome y (arrays_of ns ts ls rs ds)) w ∙ (λ i. record { answer = P.Error e; arrays = arrays_of (sym a i) (sym b i) (sym c i) (sym d i) (sym z i) })
+  error-outcome : (e : Diagnostic) → x ≡ ended e → c.code.parser.error ≡ Some e → outcome x (arrays_of ns ts ls rs ds) ≡ finished c rs₁ ds₁
+  unfolding outcome zeroed
+  error-outcome e w f =
+      ap (λ (y : Reading). outcome y (arrays_of ns ts ls rs ds)) w
+      ∙ (λ i. record { answer = P.Error e; arrays = arrays_of (zeros (sym n i)) (zeros (sym t i)) (zeros (sym l i)) (zeros (sym o i)) (zeros (sym k i)) })
+      ∙ ap (λ (g : Option Diagnostic). finished_as g c rs₁ ds₁) (sym f)
+
+-- the arrays at the end are those that the parser held
+pub left_as : {o f : Outcome} {a : Parsed} {ns ts ls rs ds ns₂ ts₂ ls₂ : List ℕ} → o ≡ f → record { answer = a; arrays = arrays_of ns ts ls rs ds } ≡ f → ns₂ ≡ ns → ts₂ ≡ ts → ls₂ ≡ ls → o ≡ record { answer = a; arrays = arrays_of ns₂ ts₂ ls₂ rs ds }
+left_as {a = a} {rs = rs} {ds = ds} e g x y z = e ∙ sym g ∙ (λ i. record { answer = a; arrays = arrays_of (sym x i) (sym y i) (sym z i) rs ds })
 
 -- ---- strict
 
@@ -77,33 +90,15 @@ parse_ending : (script : List ℕ) → parse stage_one script ≡ ending (parse_
 unfolding parse ending
 parse_ending script = refl
 
-module _ (script ns ts ls rs ds rs₁ : List ℕ) (r : RootsRead) (ends : RootsEnd rs₁ r (parse_roots stage_one script (begin script)))
-    (n : length r.code.nodes ≡ length ns) (t : length r.code.types ≡ length ts) (c : length r.code.lists ≡ length ls) (o : length rs₁ ≡ length rs) where
-  pub strict_tree : (ns₂ ts₂ ls₂ rs₂ ds₂ : List ℕ) → r.code.parser.error ≡ None
-      → ns₂ ≡ behind (node_width * r.code.parser.used.nodes) r.code.nodes → ts₂ ≡ behind (type_width * r.code.parser.used.types) r.code.types → ls₂ ≡ behind r.code.parser.used.cells r.code.lists → rs₂ ≡ behind r.members rs₁ → ds₂ ≡ behind 0 ds
-      → outcome (parse stage_one script) (arrays_of ns ts ls rs ds) ≡ record { answer = tree_of r.code.parser.used r.members 0; arrays = arrays_of ns₂ ts₂ ls₂ rs₂ ds₂ }
-  unfolding ending flatten
-  strict_tree ns₂ ts₂ ls₂ rs₂ ds₂ g a b x d z =
-      go (parse_roots stage_one script (begin script)) (parse_ending script) ends
-    where
-      go : (res : Result (List ℕ)) → parse stage_one script ≡ ending res → RootsEnd rs₁ r res → outcome (parse stage_one script) (arrays_of ns ts ls rs ds) ≡ record { answer = tree_of r.code.parser.used r.members 0; arrays = arrays_of ns₂ ts₂ ls₂ rs₂ ds₂ }
-      go (ok xs m) e h = tree-outcome (parse stage_one script) ns ts ls rs ds rs₁ ns₂ ts₂ ls₂ rs₂ ds₂ r [] 0 e h n t c o
-          a b x d refl
-          (sym z)
-      go (err y m) e h = let f : None ≡ Some y = sym g ∙ h in absurd (cc)
-
-  pub strict-error : (ns₂ ts₂ ls₂ rs₂ ds₂ : List ℕ) {d₀ : Diagnostic} → r.code.parser.error ≡ Some d₀
-      → ns₂ ≡ zeros (length r.code.nodes) → ts₂ ≡ zeros (length r.code.types) → ls₂ ≡ zeros (length r.code.lists) → rs₂ ≡ zeros (length rs₁) → ds₂ ≡ zeros (length ds)
-      → outcome (parse stage_one script) (arrays_of ns ts ls rs ds) ≡ record { answer = P.Error d₀; arrays = arrays_of ns₂ ts₂ ls₂ rs₂ ds₂ }
-  unfolding ending
-  strict-error ns₂ ts₂ ls₂ rs₂ ds₂ {d₀} g a b x d z = go (parse_roots stage_one script (begin script)) (parse_ending script) ends
-    where
-      same : (y : Diagnostic) → r.code.parser.error ≡ Some y → y ≡ d₀
-      same y h = let f : Some y ≡ Some d₀ = sym h ∙ g in cc
-
-      go : (res : Result (List ℕ)) → parse stage_one script ≡ ending res → RootsEnd rs₁ r res → outcome (parse stage_one script) (arrays_of ns ts ls rs ds) ≡ record { answer = P.Error d₀; arrays = arrays_of ns₂ ts₂ ls₂ rs₂ ds₂ }
-      go (ok xs m) w h = let f : None ≡ Some d₀ = sym h.going ∙ g in absurd (cc)
-      go (err y m) w h = error-outcome (parse stage_one script) ns ts ls rs ds ns₂ ts₂ ls₂ rs₂ ds₂ d₀ (w ∙ ap ended (same y h)) (a ∙ ap zeros n) (b ∙ ap zeros t) (x ∙ ap zeros c) (d ∙ ap zeros o) z
+pub strict_outcome : (script ns ts ls rs ds rs₁ : List ℕ) (c : RootsCollected) → c.diagnostics ≡ 0 → RootsEnd rs₁ (record { code = c.code; members = c.members }) (parse_roots stage_one script (begin script))
+    → length c.code.nodes ≡ length ns → length c.code.types ≡ length ts → length c.code.lists ≡ length ls → length rs₁ ≡ length rs
+    → outcome (parse stage_one script) (arrays_of ns ts ls rs ds) ≡ finished c rs₁ ds
+unfolding ending flatten
+strict_outcome script ns ts ls rs ds rs₁ c none ends n t l o = go (parse_roots stage_one script (begin script)) (parse_ending script) ends
+  where
+    go : (res : Result (List ℕ)) → parse stage_one script ≡ ending res → RootsEnd rs₁ (record { code = c.code; members = c.members }) res → outcome (parse stage_one script) (arrays_of ns ts ls rs ds) ≡ finished c rs₁ ds
+    go (ok xs m) e h = tree-outcome (parse stage_one script) ns ts ls rs ds rs₁ ds c n t l o refl [] e h none (ap (λ (k : ℕ). behind (diagnostic_width * k) ds) (sym none))
+    go (err y m) e h = error-outcome (parse stage_one script) ns ts ls rs ds rs₁ ds c n t l o refl y e h
 
 -- ---- collecting
 
@@ -114,36 +109,15 @@ collect_ending_lem : (script : List ℕ) → parse_collect stage_one script ≡ 
 unfolding parse_collect collect_ending
 collect_ending_lem script = refl
 
-module _ (script ns ts ls rs ds rs₁ ds₁ : List ℕ) (r : RootsCollected) (ends : CollectEnds script rs₁ ds₁ r (parse_roots_collect stage_one script (begin script)))
-    (n : length r.code.nodes ≡ length ns) (t : length r.code.types ≡ length ts) (c : length r.code.lists ≡ length ls) (o : length rs₁ ≡ length rs) (k : length ds₁ ≡ length ds) where
-  abbrev roots : RootsRead
-  roots = record { code = r.code; members = r.members }
-
-  pub collect_tree : (ns₂ ts₂ ls₂ rs₂ ds₂ : List ℕ) → r.code.parser.error ≡ None
-      → ns₂ ≡ behind (node_width * r.code.parser.used.nodes) r.code.nodes → ts₂ ≡ behind (type_width * r.code.parser.used.types) r.code.types → ls₂ ≡ behind r.code.parser.used.cells r.code.lists → rs₂ ≡ behind r.members rs₁ → ds₂ ≡ behind (diagnostic_width * r.diagnostics) ds₁
-      → outcome (parse_collect stage_one script) (arrays_of ns ts ls rs ds) ≡ record { answer = tree_of r.code.parser.used r.members r.diagnostics; arrays = arrays_of ns₂ ts₂ ls₂ rs₂ ds₂ }
-  unfolding collect_ending
-  collect_tree ns₂ ts₂ ls₂ rs₂ ds₂ g a b x d z =
-      go (parse_roots_collect stage_one script (begin script)) (collect_ending_lem script) ends
-    where
-      go : (res : Result Gathered) → parse_collect stage_one script ≡ collect_ending script res → CollectEnds script rs₁ ds₁ r res → outcome (parse_collect stage_one script) (arrays_of ns ts ls rs ds) ≡ record { answer = tree_of r.code.parser.used r.members r.diagnostics; arrays = arrays_of ns₂ ts₂ ls₂ rs₂ ds₂ }
-      go (ok w m) e h = tree-outcome (parse_collect stage_one script) ns ts ls rs ds rs₁ ns₂ ts₂ ls₂ rs₂ ds₂ roots (in_order script w) r.diagnostics e h.0 n t c o
-          a b x d h.2
-          (held_as ds ds₁ ds₂ (flatten (map diagnostic_cells (in_order script w))) (diagnostic_width * r.diagnostics) k h.1 (omega (arith, h.2, cells-length (in_order script w))) z)
-      go (err y m) e h = let f : None ≡ Some y = sym g ∙ h in absurd (cc)
-
-  pub collect_error : (ns₂ ts₂ ls₂ rs₂ ds₂ : List ℕ) {d₀ : Diagnostic} → r.code.parser.error ≡ Some d₀
-      → ns₂ ≡ zeros (length r.code.nodes) → ts₂ ≡ zeros (length r.code.types) → ls₂ ≡ zeros (length r.code.lists) → rs₂ ≡ zeros (length rs₁) → ds₂ ≡ zeros (length ds₁)
-      → outcome (parse_collect stage_one script) (arrays_of ns ts ls rs ds) ≡ record { answer = P.Error d₀; arrays = arrays_of ns₂ ts₂ ls₂ rs₂ ds₂ }
-  unfolding collect_ending
-  collect_error ns₂ ts₂ ls₂ rs₂ ds₂ {d₀} g a b x d z = go (parse_roots_collect stage_one script (begin script)) (collect_ending_lem script) ends
-    where
-      same : (y : Diagnostic) → r.code.parser.error ≡ Some y → y ≡ d₀
-      same y h = let f : Some y ≡ Some d₀ = sym h ∙ g in cc
-
-      go : (res : Result Gathered) → parse_collect stage_one script ≡ collect_ending script res → CollectEnds script rs₁ ds₁ r res → outcome (parse_collect stage_one script) (arrays_of ns ts ls rs ds) ≡ record { answer = P.Error d₀; arrays = arrays_of ns₂ ts₂ ls₂ rs₂ ds₂ }
-      go (ok w m) v h = let f : None ≡ Some d₀ = sym h.0.going ∙ g in absurd (cc)
-      go (err y m) v h = error-outcome (parse_collect stage_one script) ns ts ls rs ds ns₂ ts₂ ls₂ rs₂ ds₂ d₀ (v ∙ ap ended (same y h)) (a ∙ ap zeros n) (b ∙ ap zeros t) (x ∙ ap zeros c) (d ∙ ap zeros o) (z ∙ ap zeros k)
+pub collect_outcome : (script ns ts ls rs ds rs₁ ds₁ : List ℕ) (c : RootsCollected) → CollectEnds script rs₁ ds₁ c (parse_roots_collect stage_one script (begin script))
+    → length c.code.nodes ≡ length ns → length c.code.types ≡ length ts → length c.code.lists ≡ length ls → length rs₁ ≡ length rs → length ds₁ ≡ length ds
+    → outcome (parse_collect stage_one script) (arrays_of ns ts ls rs ds) ≡ finished c rs₁ ds₁
+unfolding collect_ending
+collect_outcome script ns ts ls rs ds rs₁ ds₁ c ends n t l o k = go (parse_roots_collect stage_one script (begin script)) (collect_ending_lem script) ends
+  where
+    go : (res : Result Gathered) → parse_collect stage_one script ≡ collect_ending script res → CollectEnds script rs₁ ds₁ c res → outcome (parse_collect stage_one script) (arrays_of ns ts ls rs ds) ≡ finished c rs₁ ds₁
+    go (ok w m) e h = tree-outcome (parse_collect stage_one script) ns ts ls rs ds rs₁ ds₁ c n t l o k (in_order script w) e h.0 h.2 (held_as ds ds₁ (flatten (map diagnostic_cells (in_order script w))) (diagnostic_width * c.diagnostics) k h.1 (omega (arith, h.2, cells-length (in_order script w))))
+    go (err y m) e h = error-outcome (parse_collect stage_one script) ns ts ls rs ds rs₁ ds₁ c n t l o k y e h
 
 -- ---- the calls
 

@@ -1,6 +1,7 @@
 -- The roots of a script, one after the other.
+use Rattle.std.specs.Prelude as Std
 use mathlib.Core.Path.{◌≡◌, refl, sym, ap, subst, ◌∙◌}
-use mathlib.Core.Bool.{true, false, ◌&&◌}
+use mathlib.Core.Bool.{true, false}
 use mathlib.Core.List.{List, [], ◌∷◌, ◌++◌, map, flatten, reverse, append-nil}
 use Prim.Native.Nat.{ℕ, zero, suc, ◌+◌, ◌*◌, ◌≤◌, ◌<◌}
 use native.Mathlib.Omega.{arith}
@@ -13,6 +14,7 @@ use Rattle.lex.specs.Cells.{padded}
 use Rattle.lex.specs.Kind.{k_eof}
 use Rattle.lex.specs.Lex.{cut, tokens_of}
 use Rattle.lex.proofs.Steps.{cut_le}
+use Rattle.lex.specs.declared.diagnostic.Diagnostic.{Diagnostic}
 use Rattle.lex.specs.declared.tok.Token.{Token}
 use Rattle.tokens.specs.Table.{token_of, token_at, tokens_from}
 use Rattle.tokens.specs.Tables.{token_table}
@@ -23,14 +25,14 @@ use Rattle.rules.specs.Rules.{max_levels, stage_one}
 use Rattle.rules.specs.Parse.{begin, parse_roots}
 use Rattle.ast.specs.Layout.{node_width, type_width, node_cells, type_cells}
 use Rattle.ast.specs.declared.NodeId.{NodeId}
-use Rattle.parser_state.specs.Represents.{Reading, with_used, Code, going, is_going, ahead, from, Near, doc_cells, Related, Represents}
+use Rattle.parser_state.specs.Represents.{Failed, with_used, with_error, error_of, Code, going, is_going, ahead, from, Near, doc_cells, Related, Represents}
 use Rattle.parser_state.specs.Refines.{Ends, stack_unchanged, Refines, rules_of, deeper, member_follows}
 use Rattle.parser_state.specs.declared.Used.{Used}
-use Rattle.parser_state.proofs.Steps.{either, true≢false, and_both, left-some, current_represents, represents_less, represents_going, failed-fails}
+use Rattle.parser_state.proofs.Steps.{Passed, passed_on, fails_as, either, true≢false, and_both, left-some, current_represents, represents_less, represents_going, failed-fails}
 use Rattle.parser_state.proofs.Leaves.{from_at}
 use Rattle.parser_state.proofs.Cells.{types-length, nodes-length}
-use Rattle.parser_state.proofs.Rounds.{Again, Turned, LoopInvariant, round_start_at, round_out, if_kind_is_yes, if_kind_is_no}
-use Rattle.parser_state.proofs.Loops.{member-eof, no_member}
+use Rattle.parser_state.proofs.Rounds.{Again, Turned, LoopInvariant, again_stops, round_start_at, round_out, if_kind_is_yes, if_kind_is_no}
+use Rattle.parser_state.proofs.Loops.{member-going, member-eof, no_member}
 use Rattle.parser.specs.Whole.{RootsRead, has_cell, RootPushed, Begun, FirstToken, root_step, RootsAre, drop_docs, Holds, RootsEnd}
 
 -- ---- docs that are dropped
@@ -71,28 +73,27 @@ dropping tokens s g = record {
 
 -- ---- one more root
 
-module _ (p : Reading) (n : ℕ) (roots : List ℕ) where
-  has_cell_lem : has_cell p n roots ≡ true → (is_going p.error ≡ true) × (n < length roots) × (n < max_bytes)
+module _ (n : ℕ) (roots : List ℕ) where
+  has_cell_lem : has_cell n roots ≡ true → (n < length roots) × (n < max_bytes)
   unfolding has_cell
   has_cell_lem e =
-      let a = and_both (is_going p.error) (ltb n (length roots) && ltb n max_bytes) e in
-      let b = and_both (ltb n (length roots)) (ltb n max_bytes) a.1 in
-      (a.0, ltb-true _ _ b.0, ltb-true _ _ b.1)
+      let b = and_both (ltb n (length roots)) (ltb n max_bytes) e in
+      (ltb-true _ _ b.0, ltb-true _ _ b.1)
 
-  cell_there : is_going p.error ≡ true → n < length roots → n < max_bytes → has_cell p n roots ≡ true
+  cell_there : n < length roots → n < max_bytes → has_cell n roots ≡ true
   unfolding has_cell
-  cell_there g h k = rw (g, lt-ltb _ _ h, lt-ltb _ _ k) refl
+  cell_there h k = rw (lt-ltb _ _ h, lt-ltb _ _ k) refl
 
 -- with a cell its number is written, without one all stays
-module _ {p : Reading} {n : ℕ} {roots : List ℕ} where
-  pub root-written : {id : ℕ} → is_going p.error ≡ true → n < length roots → n < max_bytes → RootPushed p roots n id (set roots n id) (n + 1)
-  root-written g h k = record { pushed = λ _. (refl, refl); left_out = λ e. absurd (true≢false (cell_there p n roots g h k) e) }
+module _ {n : ℕ} {roots : List ℕ} where
+  pub root-written : {id : ℕ} → n < length roots → n < max_bytes → RootPushed roots n id (set roots n id) (n + 1)
+  root-written h k = record { pushed = λ _. (refl, refl); left_out = λ e. absurd (true≢false (cell_there n roots h k) e) }
 
-  pub root-left_out : {id : ℕ} → (is_going p.error ≡ true → n < length roots → n < max_bytes → ⊥) → RootPushed p roots n id roots n
-  root-left_out f = record { pushed = λ e. let t = has_cell_lem p n roots e in absurd (f t.0 t.1 t.2); left_out = λ _. (refl, refl) }
+  pub root-left_out : {id : ℕ} → (n < length roots → n < max_bytes → ⊥) → RootPushed roots n id roots n
+  root-left_out f = record { pushed = λ e. let t = has_cell_lem n roots e in absurd (f t.0 t.1); left_out = λ _. (refl, refl) }
 
-  pub root_there : {id n' : ℕ} {roots' : List ℕ} → RootPushed p roots n id roots' n' → is_going p.error ≡ true → n < length roots → n < max_bytes → (roots' ≡ set roots n id) × (n' ≡ n + 1)
-  root_there h g l k = h.pushed (cell_there p n roots g l k)
+  pub root_there : {id n' : ℕ} {roots' : List ℕ} → RootPushed roots n id roots' n' → n < length roots → n < max_bytes → (roots' ≡ set roots n id) × (n' ≡ n + 1)
+  root_there h l k = h.pushed (cell_there n roots l k)
 
 pub some-ahead : {tokens : List ℕ} {s : Code} {r l : ℕ} {stack : List ℕ} {m : State} → Related tokens s r l stack m → 1 ≤ length (ahead tokens s)
 some-ahead h = omega (arith, left-some h, ap length h.left)
@@ -240,3 +241,18 @@ module _ {script tokens roots : List ℕ} (s : Code) (h : Begun script tokens s.
         go : (res : Result (List ℕ)) → Ends tokens (RootsAre script tokens roots' r.members s') stack_unchanged s' 0 0 0 0 [] res → RootsEnd roots' r res
         go (ok xs m) k = tree-held k.1 k.0 d
         go (err e m) k = ap (λ (t : Code). t.parser.error) (d.sticky (failed-fails k)) ∙ k.status
+
+  -- a root that fails ends the reading
+  module _ {A : Type 0} {P : NodeId → Type 0} {roots' : List ℕ} {n d r' l' : ℕ} {s₁ s₂ : Code} {x : Diagnostic} (res : Std.Result A Diagnostic) (k : ℕ) where
+    pub roots_stop : LoopInvariant tokens (root_step script) stack_unchanged [] (RootsAre script tokens roots' n s₁) s s₁ → member_follows s₁.parser k_eof ≡ true → length script ≤ max_bytes → length script ≤ length roots'
+        → Refines tokens 0 0 (deeper (rules_of script) max_levels).prefix P stack_unchanged d r' l' s₁ s₂ → s₂.parser.error ≡ Failed x → Passed x res
+        → RootsEnd roots' (record { code = with_error s₂ (error_of res); members = k }) (parse_roots stage_one script (begin script))
+    unfolding parse_roots
+    roots_stop i w small long p f g =
+        let failed₂ : going s₂ ≡ false = ap is_going f in
+        let q = root_again script {roots' = roots'} {n' = 0} {id = record { 0 = 0 }} w small long (fails_as p failed₂) (λ z. absurd (true≢false z failed₂)) in
+        go (loop (root_step script) [] (begin script)) ((again_stops i (member-going s₁.parser k_eof w) q failed₂ (λ stack. refl)).simulates 0 0 [] (begin script) begun)
+      where
+        go : (out : Result (List ℕ)) → Ends tokens (RootsAre script tokens roots' 0 s₂) stack_unchanged s₂ 0 0 0 0 [] out → RootsEnd roots' (record { code = with_error s₂ (error_of res); members = k }) out
+        go (ok xs m) h = absurd (true≢false (represents_going h.1) (ap is_going f))
+        go (err e m) h = ap (λ (t : Code). t.parser.error) (sym (passed_on {s = s₂} res f g)) ∙ h.status

@@ -1,7 +1,9 @@
 -- What reading the roots of a whole script comes to where errors are gathered.
-use Rattle.std.specs.Prelude.{◌≡◌, ℕ, ◌+◌, ◌*◌, ◌≤◌, ◌<◌, length, take}
+use Rattle.std.specs.Prelude as Std
+use Rattle.std.specs.Prelude.{Ok, Err, ◌≡◌, Option, None, Some, ℕ, ◌+◌, ◌*◌, ◌≤◌, ◌<◌, length, take}
 use mathlib.Core.List.{List, [], ◌∷◌, ◌++◌, map, flatten}
 use Rattle.lex.specs.Answer.{max_bytes}
+use Rattle.lex.specs.Cells.{zeros}
 use Rattle.lex.specs.Kind.{k_eof}
 use Rattle.lex.specs.Lex.{Occurrence, cut, tokens_of, faults_of}
 use Rattle.lex.specs.declared.diagnostic.Diagnostic.{Diagnostic}
@@ -10,12 +12,17 @@ use Rattle.rules.specs.Tree.{Result, ok, err}
 use Rattle.rules.specs.Combinators.{Rule, pure, if_kind, ControlFlow, continue, break}
 use Rattle.rules.specs.Rules.{stage_one, max_levels}
 use Rattle.rules.specs.Parse.{Gathered, merged, recover}
-use Rattle.ast.specs.Layout.{diagnostic_width, diagnostic_cells}
+use Rattle.rules.specs.Promise.{arrays_of, Outcome}
+use Rattle.rules.specs.Parsed.{Parsed}
+use Rattle.rules.specs.Parsed as P
+use Rattle.ast.specs.Layout.{node_width, type_width, diagnostic_width, diagnostic_cells}
 use Rattle.diagnostics.specs.Records.{diagnostics, Holding}
 use Rattle.diagnostics.proofs.Order.{Ordered}
-use Rattle.parser_state.specs.Represents.{Failed, Code, Represents}
+use Rattle.parser_state.specs.declared.Parser.{Parser}
+use Rattle.parser_state.specs.Represents.{Failed, Code, code_after, Represents}
 use Rattle.parser_state.specs.Refines.{rules_of, deeper}
-use Rattle.parser.specs.Whole.{RootsAre, Holds}
+use Rattle.parser_state.specs.declared.Used.{Used}
+use Rattle.parser.specs.Whole.{behind, RootsAre, Holds}
 use Rattle.parser.specs.declared.Gathering.{Gathering}
 
 -- the code behind the roots, how many roots and diagnostics there are, and how many of the lexer's
@@ -27,7 +34,15 @@ pub record RootsCollected : Type 0 where
   pub listed : ℕ
 
 abbrev pub collected : Code → Gathering → RootsCollected
-collected s c = record { code = s; members = c.members; diagnostics = c.diagnostics; listed = c.listed }
+collected s c = record { code = s; members = c.members; diagnostics = c.listed.diagnostics; listed = c.listed.errors }
+
+-- an error counts none
+abbrev pub gathering_of : Std.Result Gathering Diagnostic → Gathering
+gathering_of (Ok c) = c
+gathering_of (Err e) = record { members = 0; listed = record { diagnostics = 0; errors = 0 } }
+
+abbrev pub gathered : Parser → Std.Result Gathering Diagnostic → RootsCollected
+gathered p r = collected (code_after p r) (gathering_of r)
 
 -- one more root, or one more error
 abbrev pub collect_step : List ℕ → Gathered → Rule (ControlFlow Gathered)
@@ -75,3 +90,24 @@ abbrev pub CollectEnds : (script roots diagnostics : List ℕ) → RootsCollecte
 CollectEnds script roots diagnostics c (ok g m) =
     Holds roots (record { code = c.code; members = c.members }) g.roots m × (take (diagnostic_width * c.diagnostics) diagnostics ≡ flatten (map diagnostic_cells (in_order script g))) × (c.diagnostics ≡ length (in_order script g))
 CollectEnds script roots diagnostics c (err e m) = c.code.parser.error ≡ Failed e
+
+-- ---- the answer
+
+abbrev pub tree_of : Used → ℕ → ℕ → Parsed
+tree_of u roots n = P.Tree (record { nodes = u.nodes; types = u.types; cells = u.cells; roots = roots; values = u.values; diagnostics = n })
+
+-- what is answered and left in the arrays once the roots are read, by whether the reading has failed
+abbrev pub finished_as : Option Diagnostic → RootsCollected → List ℕ → List ℕ → Outcome
+finished_as None c roots diagnostics =
+    let u : Used = c.code.parser.used in
+    record {
+      answer = tree_of u c.members c.diagnostics;
+      arrays = arrays_of (behind (node_width * u.nodes) c.code.nodes) (behind (type_width * u.types) c.code.types) (behind u.cells c.code.lists) (behind c.members roots) (behind (diagnostic_width * c.diagnostics) diagnostics);
+    }
+finished_as (Some e) c roots diagnostics = record {
+  answer = P.Error e;
+  arrays = arrays_of (zeros (length c.code.nodes)) (zeros (length c.code.types)) (zeros (length c.code.lists)) (zeros (length roots)) (zeros (length diagnostics));
+}
+
+abbrev pub finished : RootsCollected → List ℕ → List ℕ → Outcome
+finished c = finished_as c.code.parser.error c

@@ -1,13 +1,14 @@
 -- What reading the roots of a whole script comes to.
-use Rattle.std.specs.Prelude.{◌≡◌, Bool, true, false, not, ◌&&◌, ℕ, ◌+◌, ◌*◌, ◌-◌, ◌≤◌, eqb, ltb, length, take, set}
+use Rattle.std.specs.Prelude.{◌≡◌, Bool, true, false, not, ◌&&◌, ℕ, ◌+◌, ◌*◌, ◌≤◌, eqb, ltb, length, take, set}
 use mathlib.Core.List.{List, [], ◌∷◌, ◌++◌, map, flatten}
 use Rattle.lex.specs.Answer.{max_bytes}
 use Rattle.lex.specs.Bytes.{or}
-use Rattle.lex.specs.Cells.{zeros, padded}
+use Rattle.lex.specs.Cells.{padded}
 use Rattle.lex.specs.Kind.{k_eof, k_import, k_extern, k_let, k_fn, k_match, k_curly_right}
 use Rattle.lex.specs.Refusals.{r_too_long, r_too_short, r_not_cut}
 use Rattle.lex.specs.declared.diagnostic.Diagnostic.{Diagnostic}
 use Rattle.tokens.specs.Tables.{token_width, error_width, token_table, is_cut}
+pub use Rattle.tokens.specs.Tables.{behind}
 use Rattle.tokens.specs.Table.{token_of, token_at}
 use Rattle.rules.specs.Tree.{State, Result, ok, err}
 use Rattle.rules.specs.Combinators.{Rule, ◌>>=◌, pure, if_kind, with_docs, ControlFlow, continue, break, loop}
@@ -44,10 +45,6 @@ pub record FirstToken (tokens : List ℕ) (p : Reading) : Type 0 where
   pub used : p.used ≡ record { nodes = 0; values = 0; types = 0; docs = 0; cells = 0; scratch = 0 }
   pub error : p.error ≡ Going
 
--- an array with zeros behind its first `n` cells
-abbrev pub behind : ℕ → List ℕ → List ℕ
-behind n a = take n a ++ zeros (length a - n)
-
 -- the code behind the roots, and how many there are
 pub record RootsRead : Type 0 where
   pub code : Code
@@ -63,15 +60,14 @@ pub record RootsAre (script tokens array : List ℕ) (n : ℕ) (s : Code) (xs : 
   pub counted : length xs ≡ n
   pub few : length xs + length (ahead tokens s) ≤ length script + 1
 
--- one more root is pushed: the reading has not failed, and there is a cell behind the `n` that are
--- there
-unfoldable pub has_cell : Reading → ℕ → List ℕ → Bool
-has_cell p n roots = is_going p.error && (ltb n (length roots) && ltb n max_bytes)
+-- one more root is pushed: there is a cell behind the `n` that are there
+unfoldable pub has_cell : ℕ → List ℕ → Bool
+has_cell n roots = ltb n (length roots) && ltb n max_bytes
 
 -- the array and the count, by whether it is
-pub record RootPushed (p : Reading) (roots : List ℕ) (n id : ℕ) (roots' : List ℕ) (n' : ℕ) : Type 0 where
-  pub pushed : has_cell p n roots ≡ true → (roots' ≡ set roots n id) × (n' ≡ n + 1)
-  pub left_out : has_cell p n roots ≡ false → (roots' ≡ roots) × (n' ≡ n)
+pub record RootPushed (roots : List ℕ) (n id : ℕ) (roots' : List ℕ) (n' : ℕ) : Type 0 where
+  pub pushed : has_cell n roots ≡ true → (roots' ≡ set roots n id) × (n' ≡ n + 1)
+  pub left_out : has_cell n roots ≡ false → (roots' ≡ roots) × (n' ≡ n)
 
 -- docs that are still pending are dropped
 unfoldable pub drop_docs : Rule ℕ

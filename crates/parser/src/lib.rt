@@ -1,17 +1,18 @@
-// The entry points of parser.rs.
+// The entry points of parser.rs. The script and the arrays are parameters of their own: C and
+// list_script lend each by itself.
 #![tactic(auto)]
 
 mod recovery;
 
 ghost use Rattle.std.specs.Prelude.{◌≡◌, true, List, [], ℕ, ◌*◌, ◌≤◌, length};
-ghost use Rattle.lex.specs.Cells.{zeros, padded};
+ghost use Rattle.lex.specs.Cells.{padded};
 ghost use Rattle.lex.specs.Kind.{k_eof};
 ghost use Rattle.lex.specs.Lex.{cut, tokens_of};
 ghost use Rattle.lex.specs.declared.diagnostic.Diagnostic.{Diagnostic};
 ghost use Rattle.tokens.specs.Table.{tokens_from};
 ghost use Rattle.tokens.specs.Tables.{error_table};
 ghost use Rattle.rules.specs.Tree.{State};
-ghost use Rattle.ast.specs.Layout.{node_width, type_width, diagnostic_width};
+ghost use Rattle.ast.specs.Layout.{diagnostic_width};
 ghost use Rattle.ast.specs.Answer.{refusal_number};
 ghost use Rattle.rules.specs.Rules.{stage_one};
 ghost use Rattle.rules.specs.Parse.{Gathered, begin, parse_roots, parse, recover as recover_rule};
@@ -19,76 +20,27 @@ ghost use Rattle.rules.specs.Parse.{parse_roots_collect, parse_collect};
 ghost use Rattle.rules.specs.Parsed.{parsed_of};
 ghost use Rattle.rules.specs.Promise.{arrays_of, outcome};
 ghost use Rattle.parser_state.specs.Represents.{reading, code_of, Represents, FailedAt};
-ghost use Rattle.parser_state.specs.Refines.{Refines, stack_unchanged, member_follows};
-ghost use Rattle.parser.specs.Whole.{refusal, not_read, behind, Begun, FirstToken, RootPushed};
+ghost use Rattle.parser_state.specs.Refines.{Refines, stack_unchanged, failed, member_follows};
+ghost use Rattle.parser.specs.Whole.{refusal, not_read, Begun, FirstToken, RootPushed};
 ghost use Rattle.parser.specs.Whole.{RootsEnd, drop_docs};
-ghost use Rattle.parser.specs.Collect.{collected, GatheredAre, Room, TurnEnds, collect_step};
-ghost use Rattle.parser.specs.Collect.{CollectEnds};
+ghost use Rattle.parser.specs.Collect.{collected, gathered, GatheredAre, Room, TurnEnds};
+ghost use Rattle.parser.specs.Collect.{collect_step, CollectEnds, finished};
 ghost use Rattle.parser.specs.Steps.{read_promised, parse_promised};
 
 use crate::recovery::{resume, synchronize_root};
 use ast::lent::CELLS_PER_BYTE;
 use ast::{Counts, DIAGNOSTIC_WIDTH, Node, NodeId, Parsed, ReadError, TypeExpr};
-use diagnostics::{push_diagnostic, push_faults};
+use diagnostics::{Listed, push_diagnostic, push_faults};
 use lex::{Diagnostic, Refusal, Type};
 use parser_items::{Source, member};
 use parser_state::{Parser, Used};
-use tokens::{ERROR_WIDTH, TOKEN_WIDTH, cut, is_cut, token_at};
+use tokens::{ERROR_WIDTH, TOKEN_WIDTH, clear_from, cut, is_cut, token_at};
 
 // ---- arrays
 
-// From a place on an array is cleared.
-fn clear_from(a: &mut [u32], from: usize)
-    ensures { a.new ≡ behind from a.old }
-{
-    if from < a.len() {
-        a[from..].fill(0);
-    }
-}
-
-// The four arrays of a tree are cleared behind what is used of them.
-fn clear_behind(
-    nodes: &mut [u32],
-    types: &mut [u32],
-    lists: &mut [u32],
-    roots: &mut [u32],
-    u: Used,
-    members: u32,
-)
-    ensures { (nodes.new ≡ behind (node_width * u.nodes) nodes.old)
-        × (types.new ≡ behind (type_width * u.types) types.old)
-        × (lists.new ≡ behind u.cells lists.old)
-        × (roots.new ≡ behind members roots.old) }
-{
-    clear_from(nodes, Node::WIDTH * u.nodes as usize);
-    clear_from(types, TypeExpr::WIDTH * u.types as usize);
-    clear_from(lists, u.cells as usize);
-    clear_from(roots, members as usize);
-}
-
-// The five arrays are cleared.
-fn clear_all(
-    nodes: &mut [u32],
-    types: &mut [u32],
-    lists: &mut [u32],
-    roots: &mut [u32],
-    diagnostics: &mut [u32],
-)
-    ensures { (nodes.new ≡ zeros (length nodes.old))
-        × (types.new ≡ zeros (length types.old))
-        × (lists.new ≡ zeros (length lists.old))
-        × (roots.new ≡ zeros (length roots.old))
-        × (diagnostics.new ≡ zeros (length diagnostics.old)) }
-{
-    nodes.fill(0);
-    types.fill(0);
-    lists.fill(0);
-    roots.fill(0);
-    diagnostics.fill(0);
-}
-
 // Refused where the script is too long, then where an array or a table has fewer cells than its
-// bytes ask for.
+// bytes ask for. Beside `Tree::refusal` and that of `cut`: to ask both takes a tree with counts
+// that nobody has made, and tests the script's length twice.
 #[tactic(auto, unfolding(crate::specs::Whole::refusal, lex::specs::Bytes::or))]
 fn refusal(
     script: &[u8],
@@ -123,12 +75,13 @@ fn refusal(
 
 // ---- roots
 
-// A root's number goes behind those that are there, where the reading has not failed.
-fn push_root(roots: &mut [u32], p: &Parser, n: u32, id: NodeId) -> u32
-    ensures { RootPushed (reading p.now) roots.old n id.0 roots.new result }
+// A root's number goes behind those that are there. Their count is not kept with the array: C lends
+// that alone, and the count goes into the answer with others.
+fn push_root(roots: &mut [u32], n: u32, id: NodeId) -> u32
+    ensures { RootPushed roots.old n id.0 roots.new result }
 {
     let at = n as usize;
-    if p.going() && at < roots.len() && at < Parser::MAX_BYTES {
+    if at < roots.len() && at < Parser::MAX_BYTES {
         roots[at] = id.0;
         return n + 1;
     }
@@ -143,76 +96,79 @@ fn drop_docs(p: &mut Parser)
         × (p.new.cur ≡ p.old.cur)
         × (p.new.at ≡ p.old.at) }
 {
-    if p.going() {
-        p.used.docs = 0;
-    }
+    p.used.docs = 0;
 }
 
-// program = prefix*
-fn parse_roots(p: &mut Parser, source: &Source, roots: &mut [u32]) -> u32
+// How many roots there are, how many diagnostics, and how many of the lexer's errors are among
+// them.
+#[derive(Clone, Copy, Default)]
+pub struct Gathering {
+    pub members: u32,
+    pub listed: Listed,
+}
+
+// program = prefix*. Beside `parse_roots_collect`: they share the test of the loop; here an error
+// ends it by `?`.
+fn parse_roots(p: &mut Parser, source: &Source, roots: &mut [u32]) -> Result<Gathering, Diagnostic>
     requires { let before = code_of p.old in
         Begun source.now.script.now source.now.tokens.now before.nodes before.types before.lists
         roots.old
         × FirstToken source.now.tokens.now before.parser }
     ensures { let script = source.now.script.now in
-        let after = code_of p.new in
-        RootsEnd roots.new (record { code = after; members = result })
+        let after = gathered p.new result in
+        RootsEnd roots.new (record { code = after.code; members = after.members })
         (parse_roots stage_one script (begin script))
-        × (after.names ≡ (code_of p.old).names) }
+        × (after.diagnostics ≡ 0)
+        × (after.code.names ≡ (code_of p.old).names) }
 {
     let mut members: u32 = 0;
     while p.member_follows(Type::EOF) {
-        let n = member(p, source, Parser::MAX_LEVELS);
-        members = push_root(roots, p, members, n);
+        let n = member(p, source, Parser::MAX_LEVELS)?;
+        members = push_root(roots, members, n);
     }
     drop_docs(p);
-    members
+    Ok(Gathering {
+        members,
+        ..Gathering::default()
+    })
 }
 
-// ---- roots and errors
-
-// How many roots and diagnostics there are, and how many of the lexer's errors are among these.
-#[derive(Clone, Copy)]
-pub struct Gathering {
-    pub members: u32,
-    pub diagnostics: u32,
-    pub listed: usize,
-}
+// ---- roots and errors: these are no fields of the parser, since only the loop over the roots
+// writes them
 
 // An error is gathered, behind the faults that were met before it, and the reading goes on at the
-// next token that may begin a root; 10 ends it.
+// next token that may begin a root; `TOO_DEEP` ends it.
 fn recover(
     p: &mut Parser,
     tokens: &[u32],
     errors: &[u32],
     diagnostics: &mut [u32],
     c: Gathering,
-) -> Gathering
+    error: Diagnostic,
+) -> Result<Gathering, Diagnostic>
     ensures turn { (script roots : List ℕ) (g : Gathered) (e : Diagnostic) (m : State) →
-        let before = code_of p.old in
+        let before = failed (code_of p.old) error in
         Room script roots diagnostics.old g
         → tokens_from tokens.now 0 ≡ tokens_of (cut script)
         → FailedAt tokens.now before e 0 0 [] m
         → GatheredAre script tokens.now errors.now roots diagnostics.old (collected before c) g
         → TurnEnds script tokens.now errors.now roots diagnostics.new
-        (collected (code_of p.new) result) (recover_rule stage_one script g e m) }
+        (gathered p.new result) (recover_rule stage_one script g e m) }
     ensures same { (code_of p.new).names ≡ (code_of p.old).names }
 {
-    let Some(error) = p.error else {
-        return c;
-    };
     if error.number == Diagnostic::TOO_DEEP {
-        return c;
+        return Err(error);
     }
-    let faults = push_faults(errors, diagnostics, c.diagnostics, c.listed, p.at);
+    let before = c.listed;
+    let faults = push_faults(errors, diagnostics, before.diagnostics, before.errors, p.at);
     let n = push_diagnostic(diagnostics, faults.diagnostics, error);
     resume(p);
     synchronize_root(p, tokens);
-    Gathering {
+    let listed = Listed {
         diagnostics: n,
-        listed: faults.errors,
-        ..c
-    }
+        ..faults
+    };
+    Ok(Gathering { listed, ..c })
 }
 
 // One more root, or one more error.
@@ -223,7 +179,7 @@ fn collect_root(
     roots: &mut [u32],
     diagnostics: &mut [u32],
     c: Gathering,
-) -> Gathering
+) -> Result<Gathering, Diagnostic>
     requires { member_follows (reading p.old) k_eof ≡ true }
     ensures turn { (g : Gathered) (m : State) →
         let before = code_of p.old in
@@ -234,15 +190,16 @@ fn collect_root(
         → Represents tokens before 0 0 [] m
         → GatheredAre script tokens errors.now roots.old diagnostics.old (collected before c) g
         → TurnEnds script tokens errors.now roots.new diagnostics.new
-        (collected (code_of p.new) result) (collect_step script g m) }
+        (gathered p.new result) (collect_step script g m) }
     ensures same { (code_of p.new).names ≡ (code_of p.old).names }
 {
-    let n = member(p, source, Parser::MAX_LEVELS);
-    if p.going() {
-        let members = push_root(roots, p, c.members, n);
-        return Gathering { members, ..c };
+    match member(p, source, Parser::MAX_LEVELS) {
+        Ok(n) => {
+            let members = push_root(roots, c.members, n);
+            Ok(Gathering { members, ..c })
+        }
+        Err(error) => recover(p, source.tokens, errors, diagnostics, c, error),
     }
-    recover(p, source.tokens, errors, diagnostics, c)
 }
 
 // program = prefix*, errors gathered.
@@ -252,7 +209,7 @@ fn parse_roots_collect(
     errors: &[u32],
     roots: &mut [u32],
     diagnostics: &mut [u32],
-) -> Gathering
+) -> Result<Gathering, Diagnostic>
     requires { let before = code_of p.old in
         let script = source.now.script.now in
         Begun script source.now.tokens.now before.nodes before.types before.lists roots.old
@@ -260,42 +217,70 @@ fn parse_roots_collect(
         × (errors.now ≡ padded (length errors.now) (error_table script))
         × (diagnostic_width * length script ≤ length diagnostics.old) }
     ensures { let script = source.now.script.now in
-        let after = code_of p.new in
-        CollectEnds script roots.new diagnostics.new (collected after result)
+        CollectEnds script roots.new diagnostics.new (gathered p.new result)
         (parse_roots_collect stage_one script (begin script))
-        × (after.names ≡ (code_of p.old).names) }
+        × ((code_of p.new).names ≡ (code_of p.old).names) }
 {
-    let mut c = Gathering {
-        members: 0,
-        diagnostics: 0,
-        listed: 0,
-    };
+    let mut c = Gathering::default();
     while p.member_follows(Type::EOF) {
-        c = collect_root(p, source, errors, roots, diagnostics, c);
+        c = collect_root(p, source, errors, roots, diagnostics, c)?;
     }
-    if !p.going() {
-        return c;
-    }
-    let faults = push_faults(errors, diagnostics, c.diagnostics, c.listed, p.at);
+    let before = c.listed;
+    let listed = push_faults(errors, diagnostics, before.diagnostics, before.errors, p.at);
     drop_docs(p);
-    Gathering {
-        diagnostics: faults.diagnostics,
-        listed: faults.errors,
-        ..c
-    }
+    Ok(Gathering { listed, ..c })
 }
 
 // ---- the two readings
 
-// What is used before anything is read.
-const NOTHING: Used = Used {
-    nodes: 0,
-    values: 0,
-    types: 0,
-    docs: 0,
-    cells: 0,
-    scratch: 0,
-};
+// The answer once the roots are read. Behind what is used the arrays are cleared; all of them where
+// the reading has failed.
+fn finish(
+    p: &mut Parser,
+    roots: &mut [u32],
+    diagnostics: &mut [u32],
+    read: Result<Gathering, Diagnostic>,
+) -> Parsed
+    ensures ends { let after = code_of p.new in
+        record {
+          answer = parsed_of result;
+          arrays = arrays_of after.nodes after.types after.lists roots.new diagnostics.new;
+        }
+        ≡ finished (gathered p.old read) roots.old diagnostics.old }
+    ensures same { (code_of p.new).names ≡ (code_of p.old).names }
+    ensures as_long { (length p.new.nodes.now ≡ length p.old.nodes.now)
+        × (length p.new.types.now ≡ length p.old.types.now)
+        × (length p.new.lists.now ≡ length p.old.lists.now) }
+{
+    let c = match read {
+        Ok(c) => c,
+        Err(error) => {
+            p.nodes.fill(0);
+            p.types.fill(0);
+            p.lists.fill(0);
+            roots.fill(0);
+            diagnostics.fill(0);
+            return Err(ReadError::Script(error));
+        }
+    };
+    let u = p.used;
+    clear_from(p.nodes, Node::WIDTH * u.nodes as usize);
+    clear_from(p.types, TypeExpr::WIDTH * u.types as usize);
+    clear_from(p.lists, u.cells as usize);
+    clear_from(roots, c.members as usize);
+    clear_from(
+        diagnostics,
+        DIAGNOSTIC_WIDTH * c.listed.diagnostics as usize,
+    );
+    Ok(Counts {
+        nodes: u.nodes,
+        types: u.types,
+        cells: u.cells,
+        roots: c.members,
+        values: u.values,
+        diagnostics: c.listed.diagnostics,
+    })
+}
 
 // program = prefix*, up to the first error, from the tables of the script.
 fn read_cut(
@@ -315,35 +300,23 @@ fn read_cut(
         outcome (parse stage_one script.now) before
         ≡ record { answer = parsed_of result; arrays = after } }
 {
+    // made here and in `read_cut_collect`: tried by a function that makes it, and then no proof
+    // has what becomes of the arrays
     let mut p = Parser {
         nodes,
         types,
         lists,
         cur: token_at(tokens, 0),
         at: 0,
-        used: NOTHING,
-        error: None,
+        used: Used::default(),
     };
-    let members = parse_roots(&mut p, &Source { script, tokens }, roots);
-    let u = p.used;
-    if let Some(error) = p.error {
-        clear_all(nodes, types, lists, roots, diagnostics);
-        return Err(ReadError::Script(error));
-    }
-    clear_behind(nodes, types, lists, roots, u, members);
-    clear_from(diagnostics, 0);
-    Ok(Counts {
-        nodes: u.nodes,
-        types: u.types,
-        cells: u.cells,
-        roots: members,
-        values: u.values,
-        diagnostics: 0,
-    })
+    let read = parse_roots(&mut p, &Source { script, tokens }, roots);
+    finish(&mut p, roots, diagnostics, read)
 }
 
 // The same, each error gathered with the faults of the lexer in the order in which they are met;
-// 10 ends it.
+// `TOO_DEEP` ends it. Beside `read_cut`: one call differs, and a closure for it would take four
+// references and their clauses.
 fn read_cut_collect(
     script: &[u8],
     tokens: &[u32],
@@ -370,34 +343,17 @@ fn read_cut_collect(
         lists,
         cur: token_at(tokens, 0),
         at: 0,
-        used: NOTHING,
-        error: None,
+        used: Used::default(),
     };
     let source = Source { script, tokens };
-    let c = parse_roots_collect(&mut p, &source, errors, roots, diagnostics);
-    let u = p.used;
-    if let Some(error) = p.error {
-        clear_all(nodes, types, lists, roots, diagnostics);
-        return Err(ReadError::Script(error));
-    }
-    clear_behind(nodes, types, lists, roots, u, c.members);
-    clear_from(diagnostics, DIAGNOSTIC_WIDTH * c.diagnostics as usize);
-    Ok(Counts {
-        nodes: u.nodes,
-        types: u.types,
-        cells: u.cells,
-        roots: c.members,
-        values: u.values,
-        diagnostics: c.diagnostics,
-    })
+    let read = parse_roots_collect(&mut p, &source, errors, roots, diagnostics);
+    finish(&mut p, roots, diagnostics, read)
 }
 
 // ---- the calls
 
-// Each call lends its eight arrays and makes its own promise: one generic call would repeat both.
-// The arrays stay eight parameters: C and list_script lend each of them by itself.
-
-// Refused by 1, 2 and 43, in this order, unless the tables are the script's and all is long enough.
+// Refused by `TooLong`, `TooShort` and `NotCut`, in this order, unless the tables are the script's
+// and all is long enough.
 fn not_read(
     script: &[u8],
     tokens: &[u32],
@@ -429,7 +385,10 @@ fn not_read(
     }
 }
 
-// A strict reading from the tables: 43 where they are not those that cutting the script gives.
+// Each call lends its eight slices and makes its own promise: one generic call would repeat both.
+
+// A strict reading from the tables: `NotCut` where they are not those that cutting the script
+// gives.
 pub fn read(
     script: &[u8],
     tokens: &[u32],
@@ -448,6 +407,7 @@ pub fn read(
         errors.now before
         ≡ record { answer = parsed_of result; arrays = after } }
 {
+    // `map_err` names the case: a `From` in ast would serve the four calls alone
     not_read(
         script,
         tokens,
@@ -539,6 +499,7 @@ pub fn parse(
         diagnostics,
     )
     .map_err(ReadError::Refused)?;
+    // `refusal` has tested all that cutting is refused for
     let _ = cut(script, tokens, errors);
     read_cut(script, tokens, nodes, types, lists, roots, diagnostics)
 }
@@ -578,6 +539,7 @@ pub fn parse_collect(
         diagnostics,
     )
     .map_err(ReadError::Refused)?;
+    // `refusal` has tested all that cutting is refused for
     let _ = cut(script, tokens, errors);
     read_cut_collect(
         script,

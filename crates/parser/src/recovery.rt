@@ -1,7 +1,8 @@
 // How collecting mode goes on after an error.
 ghost use Rattle.std.specs.Prelude.{◌≡◌, List, ℕ};
 ghost use Rattle.parser_state.specs.Represents.{reading, code_of};
-ghost use Rattle.parser_state.specs.Refines.{Refines, stack_unchanged};
+ghost use Rattle.parser_state.specs.Refines.{Refines, stack_unchanged, failed};
+ghost use Rattle.lex.specs.declared.diagnostic.Diagnostic.{Diagnostic};
 ghost use Rattle.parser.specs.Whole.{Resumes, root_boundary, skips, synchronizing};
 
 use crate::drop_docs;
@@ -11,10 +12,10 @@ use parser_state::Parser;
 // What was under construction when a reading failed is given up, its docs are dropped, and the
 // reading goes on.
 pub(crate) fn resume(p: &mut Parser)
-    ensures { (tokens : List ℕ) → Resumes tokens (code_of p.old) (code_of p.new) }
+    ensures { (tokens : List ℕ) (e : Diagnostic) →
+        Resumes tokens (failed (code_of p.old) e) (code_of p.new) }
 {
     p.used.scratch = 0;
-    p.error = None;
     drop_docs(p);
 }
 
@@ -34,10 +35,11 @@ fn is_root_boundary(kind: u32) -> bool
     )
 }
 
+// The token being read is passed over.
 fn skips(p: &Parser) -> bool
     ensures { result ≡ skips (reading p.now) }
 {
-    p.going() && !is_root_boundary(p.kind())
+    !is_root_boundary(p.kind())
 }
 
 // To the next token that may begin a root, past it where it is `}`.

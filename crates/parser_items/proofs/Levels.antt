@@ -1,19 +1,18 @@
 -- Which rule reads an item or an expression, by the levels that are left and what the code has found out.
-use Rattle.std.proofs.Common.{◌≡◌, ℕ, zero, suc, ◌-◌, ◌<◌, true, List, get_or, sym, refl, ap, ◌∙◌, subst, arith, ne_eqb}
-use Rattle.std.specs.Prelude.{Some, None}
-use mathlib.Core.Option.{some}
+use Rattle.std.proofs.Common.{◌≡◌, ℕ, zero, suc, ◌-◌, ◌<◌, true, List, sym, refl, subst, arith, ne_eqb}
+use mathlib.Core.Option.{some, none}
 use Rattle.lex.specs.Kind.{k_doc, k_import, k_extern, k_let, k_fn, k_match}
 use Rattle.rules.specs.Tree.{State, ok}
-use Rattle.rules.specs.Combinators.{Rule, Readers, ControlFlow, break, fail_expecting, by_kind, choose, collect_docs, pure}
-use Rattle.rules.specs.Rules.{stage_one, readers, item_by_kind, parse_prefix, parse_expr, operand}
+use Rattle.rules.specs.Combinators.{Rule, ◌>>◌, Readers, ControlFlow, break, fail_expecting, by_kind, choose, collect_docs, pure}
+use Rattle.rules.specs.Rules.{stage_one, readers, plain_item, item_by_kind, parse_prefix, parse_expr, operand}
 use Rattle.ast.specs.declared.NodeId.{NodeId}
 use Rattle.parser_state.specs.Represents.{Code, going}
-use Rattle.parser_state.specs.Refines.{stack_unchanged, Refines, Refuses, Rules, deeper}
+use Rattle.parser_state.specs.Refines.{stack_unchanged, Refines, Refuses, no_docs_wait, Rules, deeper}
 use Rattle.parser_state.proofs.Steps.{either, at-kind, refused, then, enough, current_represents, if_kind-no}
 use Rattle.parser_state.proofs.Docs.{docs-none, require_then}
 use Rattle.parser_state.proofs.Rounds.{Again, weight, if_kind_is_no, round_out, round_start}
-use Rattle.parser_operators.specs.Tests.{begins_expr, operand_class, operand_of, operator_number, operator_of, left_powers}
-use Rattle.parser_operators.proofs.Tables.{begins-expr, entry_past, entry_other, operand_class_lem, power-some}
+use Rattle.parser_operators.specs.Tests.{begins_expr, operand_class, operand_of}
+use Rattle.parser_operators.proofs.Tables.{begins-expr, entry_past, entry_other, operand_class_lem}
 
 -- ---- levels
 
@@ -49,19 +48,20 @@ no-doc : {tokens : List ℕ} {s : Code} → (s.parser.cur.kind ≡ k_doc → ⊥
 unfolding collect_docs pure
 no-doc f = round_out round_start (λ stack. refl) (λ R L stack n m e h. if_kind_is_no _ _ _ m (rw (current_represents h.related) (ne_eqb _ k_doc f)))
 
+-- an item that begins with none of the four words
+module _ {tokens : List ℕ} {Q : NodeId → Type 0} {s s' : Code} (d : Readers) where
+  pub plain_item_by : {k : ℕ} → s.parser.cur.kind ≡ k → (k ≡ k_import → ⊥) → (k ≡ k_let → ⊥) → (k ≡ k_fn → ⊥) → (k ≡ k_extern → ⊥)
+      → Refines tokens 0 0 (no_docs_wait >> plain_item d) Q stack_unchanged 1 0 8 s s' → Refines tokens 0 0 (by_kind (item_by_kind d)) Q stack_unchanged 1 0 8 s s'
+  plain_item_by {k} e a b c x p = at-kind _ k (entry_past _ _ _ a (entry_past _ _ _ b (entry_past _ _ _ c (entry_past _ _ _ x (entry_other _ _ (require_then _ p)))))) e
+
 -- an item that is an expression
 pub prefix-expr : {tokens : List ℕ} {Q : NodeId → Type 0} {s s' : Code} (d : Readers) → begins_expr s.parser ≡ true → Refines tokens 0 0 (d.expr 0) Q stack_unchanged 1 0 8 s s' → Refines tokens 0 0 (parse_prefix d) Q stack_unchanged 1 0 8 s s'
 unfolding parse_prefix
 prefix-expr {tokens} {Q} {s} {s'} d e p =
     let plain = begins-expr s.parser e in
     let item : Refines tokens 0 0 (by_kind (item_by_kind d)) Q stack_unchanged 1 0 8 s s' =
-    at-kind _ _
-    (entry_past _ _ _ (plain.1 k_import (omega arith) (omega arith))
-    (entry_past _ _ _ (plain.1 k_let (omega arith) (omega arith))
-    (entry_past _ _ _ (plain.1 k_fn (omega arith) (omega arith))
-    (entry_past _ _ _ (plain.1 k_extern (omega arith) (omega arith))
-    (entry_other _ _ (require_then _ (enough (then (docs-none tokens s plain.0) (if_kind-no _ _ p (plain.1 k_match (omega arith) (omega arith)))) tt)))))))
-    refl in
+    plain_item_by d refl (plain.1 k_import (omega arith) (omega arith)) (plain.1 k_let (omega arith) (omega arith)) (plain.1 k_fn (omega arith) (omega arith)) (plain.1 k_extern (omega arith) (omega arith))
+    (enough (then (docs-none tokens s plain.0) (if_kind-no _ _ p (plain.1 k_match (omega arith) (omega arith)))) tt) in
     enough (then (no-doc (plain.1 k_doc (omega arith) (omega arith))) item) tt
 
 -- ---- tables
@@ -79,14 +79,11 @@ operand-kind (suc zero) e h = absurd (h e)
 operand-kind (suc (suc k)) e h = omega arith
 
 -- an infix sign is no Eof
-pub infix_kind : (k : ℕ) {n : ℕ} → Some n ≡ operator_of k → 1 < k
-unfolding operator_number choose
-infix_kind zero {n} e = let f : Some n ≡ None = e in absurd (cc)
-infix_kind (suc zero) {n} e = let f : Some n ≡ None = e in absurd (cc)
+pub infix_kind : (k : ℕ) {left : ℕ} → some left ≡ stage_one k → 1 < k
+unfolding stage_one choose
+infix_kind zero {left} e = let f : some left ≡ none = e in absurd (cc)
+infix_kind (suc zero) {left} e = let f : some left ≡ none = e in absurd (cc)
 infix_kind (suc (suc k)) e = omega arith
-
-pub left_is : (k : ℕ) {n left : ℕ} → Some n ≡ operator_of k → left ≡ get_or left_powers n 0 → stage_one k ≡ some left
-left_is k e w = (power-some k e).1 ∙ ap some (sym w)
 
 -- ---- loops
 

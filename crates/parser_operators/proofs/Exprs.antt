@@ -123,9 +123,13 @@ module _ (script : List ℕ) (p : Reading) (least : ℕ) where
   sign_follows_lem e f = sign_of (is_going p.error) (eqb p.cur.kind k_as) (sign_follows (breaks_off script (token_of p.cur)) least (stage_one p.cur.kind)) e (borrow.Author.Tests.ne_eqb _ _ f)
 
   -- a sign that goes on has a power
-  pub no_sign : infix_follows script p least ≡ true → (p.cur.kind ≡ k_as → ⊥) → stage_one p.cur.kind ≡ none → ⊥
+  no_sign : infix_follows script p least ≡ true → (p.cur.kind ≡ k_as → ⊥) → stage_one p.cur.kind ≡ none → ⊥
   unfolding sign_follows
   no_sign e f n = true≢false (subst (λ (o : Option ℕ). sign_follows (breaks_off script (token_of p.cur)) least o ≡ true) n (sign_follows_lem e f)) refl
+
+  -- so what goes on without one is a cast
+  pub is_cast : infix_follows script p least ≡ true → none ≡ stage_one p.cur.kind → p.cur.kind ≡ k_as
+  is_cast e n = either (eqb p.cur.kind k_as) (λ b. eqb-true _ _ b) (λ b. absurd (no_sign e (borrow.Author.Tests.eqb-false _ _ b) (sym n)))
 
 module _ (d : Readers) (script : List ℕ) {tokens : List ℕ} {Q : ControlFlow NodeId → Type 0} {s s' : Code} (least : ℕ) (x : NodeId) (o : ℕ) where
   pub infix_sign : infix_follows script s.parser least ≡ true → (s.parser.cur.kind ≡ k_as → ⊥) → stage_one s.parser.cur.kind ≡ some o → Refines tokens 0 0 (binary d x o) Q stack_unchanged 1 0 0 s s'

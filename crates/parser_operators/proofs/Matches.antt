@@ -21,10 +21,10 @@ use Rattle.ast.specs.declared.Run.{Run}
 use Rattle.ast.specs.declared.NodeId.{NodeId}
 use Rattle.parser_state.specs.Represents.{Code, going, ahead, Represents, FailedAt}
 use Rattle.parser_state.specs.Refines.{Ends, stack_unchanged, grown, Refines, ReadsMember, Lists, fail_at, member_follows, closed}
-use Rattle.parser_state.proofs.Steps.{either, represents_less, represents_going, failed-fails, represents_noted, noted, current_represents, seq, read, looks, done, enough, if_kind-yes}
+use Rattle.parser_state.proofs.Steps.{either, represents_less, represents_going, failed-fails, represents_noted, noted, current_represents, seq, read, looks, done, enough, stops, if_kind-yes}
 use Rattle.parser_state.proofs.Cells.{flatten_snoc}
-use Rattle.parser_state.proofs.Rounds.{Again, Turned, LoopInvariant, round_out, if_kind_is_yes, if_kind_is_no}
-use Rattle.parser_state.proofs.Loops.{member-eof, member_stop, no_member}
+use Rattle.parser_state.proofs.Rounds.{Again, Turned, LoopInvariant, again_stops, round_out, if_kind_is_yes, if_kind_is_no}
+use Rattle.parser_state.proofs.Loops.{member-going, member-eof, member_stop, no_member}
 use Rattle.parser_operators.specs.Matches.{default_of, cases_grown, CasesAre, case_cells, match_node, match_end, match_rest}
 use Rattle.parser_operators.specs.declared.DefaultBlock.{DefaultBlock}
 
@@ -134,9 +134,9 @@ module _ (deeper : Readers) where
 
   -- ---- the end
 
-  module _ {tokens : List ℕ} {n mark d₂ r₂ l₂ : ℕ} {id : NodeId} {s₀ s s₂ : Code} (t : Token) (d : Answer DefaultBlock) where
+  module _ {tokens : List ℕ} {n mark d₂ r₂ l₂ : ℕ} {Q : NodeId → Type 0} {s₀ s s₂ : Code} (t : Token) (d : Answer DefaultBlock) where
     pub match_end_lem : LoopInvariant tokens (next_case deeper) cases_grown (record { cases = []; default = none }) (CasesAre tokens d n s) s₀ s → member_follows s.parser k_curly_right ≡ false → mark ≡ s₀.parser.used.scratch
-        → Lists tokens (match_end t (default_of d)) id d₂ r₂ l₂ mark n s s₂ → Refines tokens 0 0 (match_rest deeper t) (λ a. a ≡ id) stack_unchanged d₂ r₂ l₂ s₀ s₂
+        → Lists tokens (match_end t (default_of d)) Q d₂ r₂ l₂ mark n s s₂ → Refines tokens 0 0 (match_rest deeper t) Q stack_unchanged d₂ r₂ l₂ s₀ s₂
     unfolding match_rest ◌>>=◌ next_case pure flatten
     match_end_lem i w k q = record {
       sticky = λ e. let e₁ : s ≡ s₀ = p.sticky e in q.sticky (ap going e₁ ∙ e) ∙ e₁;
@@ -157,11 +157,18 @@ module _ (deeper : Readers) where
         p = round_out i (λ stack. append-nil stack) out
 
         go : (R L : ℕ) (stack : List ℕ) → length stack ≡ mark → (r : Result Cases) → Ends tokens (CasesAre tokens d n s) cases_grown s R L 0 0 stack r
-            → Ends tokens (λ a. a ≡ id) stack_unchanged s₂ R L r₂ l₂ stack (elim r as (λ _. Result NodeId) [ ok c m ↦ match_end t c.default c.cases m | err e m ↦ err e m ])
+            → Ends tokens Q stack_unchanged s₂ R L r₂ l₂ stack (elim r as (λ _. Result NodeId) [ ok c m ↦ match_end t c.default c.cases m | err e m ↦ err e m ])
         go R L stack j (ok c m) h =
-            subst (λ (o : Option (Token × Run)). Ends tokens (λ a. a ≡ id) stack_unchanged s₂ R L r₂ l₂ stack (match_end t o c.cases m)) (sym h.0.0)
+            subst (λ (o : Option (Token × Run)). Ends tokens Q stack_unchanged s₂ R L r₂ l₂ stack (match_end t o c.cases m)) (sym h.0.0)
             (q.simulates R L stack c.cases m j h.0.1.0 (omega (arith, h.0.1.1, ap length h.1.related.left)) (represents_less _ _ (omega arith) (omega arith) h.1))
         go R L stack j (err e m) h = subst (λ (x : Code). FailedAt tokens x e R L stack m) (sym (q.sticky (failed-fails h))) h
+
+  -- a block that fails ends it
+  module _ {tokens : List ℕ} {n : ℕ} {Q : Cases → Type 0} {s₀ s s' : Code} (t : Token) (d : Answer DefaultBlock) where
+    pub match_stops : LoopInvariant tokens (next_case deeper) cases_grown (record { cases = []; default = none }) (CasesAre tokens d n s) s₀ s → member_follows s.parser k_curly_right ≡ true
+        → Again tokens (next_case deeper) cases_grown (CasesAre tokens d n s) Q s s' → going s' ≡ false → Refines tokens 0 0 (match_rest deeper t) (λ _. Unit {0}) stack_unchanged 0 0 0 s₀ s'
+    unfolding match_rest flatten
+    match_stops i w p g = stops _ (again_stops i (member-going s.parser k_curly_right w) p g (λ stack. append-nil stack)) g
 
   -- the rule as the code takes it apart
   pub match_rest_lem : (t : Token) (m : State)

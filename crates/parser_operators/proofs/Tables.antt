@@ -9,7 +9,7 @@ use native.Mathlib.Omega.{arith}
 use lib.Dec.{eqb, ltb, leb}
 use lib.ListN.{length, get_or}
 use borrow.Author.Tests.{eqb-true, eq-eqb, ne_eqb, ltb-true, ltb-false, le-ltb, le-leb, lt-leb}
-use Rattle.lex.specs.Kind.{k_doc, k_match}
+use Rattle.lex.specs.Kind.{k_doc, k_match, k_as}
 use Rattle.rules.specs.Combinators.{Rule, Readers, choose}
 use Rattle.rules.specs.Rules.{stage_one, right_power, prefix_power, operand_by_kind}
 use Rattle.parser_state.specs.Represents.{Reading, Code}
@@ -109,25 +109,42 @@ module _ (k : ℕ) where
       (λ b. let f : None ≡ Some (operator_number k) = e ∙ (by_number b).1 in absurd (cc))
       (λ b. (by_number b).0)
 
-pub power-none : (breaks : Bool) (least k : ℕ) → None ≡ operator_of k → false ≡ sign_follows breaks least (stage_one k)
+pub left_is : (k : ℕ) {n left : ℕ} → Some n ≡ operator_of k → left ≡ get_or left_powers n 0 → stage_one k ≡ some left
+left_is k e w = (power-some k e).1 ∙ ap some (sym w)
+
+-- so is that of any infix sign
+pub power_below : (k : ℕ) {left : ℕ} → some left ≡ stage_one k → left < prefix_power
+unfolding power_at
+power_below k {left} e = go (ltb (operator_number k) 9) refl (e ∙ operator_power k)
+  where
+    go : (b : Bool) → ltb (operator_number k) 9 ≡ b → some left ≡ elim b as (λ _. Option ℕ) [ true ↦ some (get_or left_powers (operator_number k) 0) | false ↦ none ] → left < prefix_power
+    go true b f = let g : left ≡ get_or left_powers (operator_number k) 0 = cc in left_below (ltb-true _ _ b) g
+    go false b f = absurd (cc)
+
+-- `as` is no such sign
+pub as_is_none : (k : ℕ) {left : ℕ} → k ≡ k_as → some left ≡ stage_one k → ⊥
+unfolding stage_one choose
+as_is_none k {left} e f = let g : some left ≡ none = f ∙ ap stage_one e in cc
+
+pub no_sign_follows : (breaks : Bool) (least k : ℕ) → none ≡ stage_one k → false ≡ sign_follows breaks least (stage_one k)
 unfolding sign_follows
-power-none breaks least k e = rw (no_power k e, sign_follows) refl
+no_sign_follows breaks least k e = rw (sym e, sign_follows) refl
+
+pub power-none : (breaks : Bool) (least k : ℕ) → None ≡ operator_of k → false ≡ sign_follows breaks least (stage_one k)
+power-none breaks least k e = no_sign_follows breaks least k (sym (no_power k e))
 
 pub infix_when : {going cast sign r : Bool} → going ≡ true → cast ≡ false → r ≡ sign → r ≡ infix_by going cast sign
 unfolding infix_by
 infix_when {sign = sign} g c e = rw (g, c, infix_by) e
 
-pub least_test : {left r : ℕ} (least : ℕ) → r ≡ left → leb least r ≡ not (ltb left least)
-least_test {left} {r} least e = rw e (either (ltb left least)
+pub least_test : (least left : ℕ) → leb least left ≡ not (ltb left least)
+least_test least left = either (ltb left least)
     (λ f. rw f (lt-leb least left (ltb-true left least f)))
-    (λ f. rw f (le-leb least left (ltb-false left least f))))
+    (λ f. rw f (le-leb least left (ltb-false left least f)))
 
 -- ---- a rule by a table
 
 module _ {A : Type 0} {script : List ℕ} {Q : A → Type 0} {grow : A → List ℕ → List ℕ} {r l d r' l' : ℕ} {s s' : Code} {k n : ℕ} (x other : Rule A) (xs : List (ℕ × Rule A)) where
-  pub entry_here : k ≡ n → Refines script r l x Q grow d r' l' s s' → Refines script r l (choose ((n, x) ∷ xs) other k) Q grow d r' l' s s'
-  entry_here e p = rw (here x other xs e) p
-
   pub entry_past : (k ≡ n → ⊥) → Refines script r l (choose xs other k) Q grow d r' l' s s' → Refines script r l (choose ((n, x) ∷ xs) other k) Q grow d r' l' s s'
   entry_past e p = rw (past x other xs e) p
 

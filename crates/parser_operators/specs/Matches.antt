@@ -1,8 +1,9 @@
 -- The cases of a match.
-use Rattle.std.specs.Prelude.{◌≡◌, ℕ, Option as Answer, Some, None}
+use Rattle.std.specs.Prelude.{◌≡◌, ℕ, Option as Answer, Some, None, Result, Ok, Err}
 use Rattle.std.proofs.Math.Option.{Option, none, some}
 use mathlib.Core.List.{List, [], ◌∷◌, ◌++◌, flatten}
 use Rattle.lex.specs.Kind.{k_curly_right}
+use Rattle.lex.specs.declared.diagnostic.Diagnostic.{Diagnostic}
 use Rattle.lex.specs.declared.tok.Token.{Token}
 use Rattle.rules.specs.Tree.{err}
 use Rattle.rules.specs.Combinators.{Rule, Readers, ◌>>=◌, pure, cur, at_token, push_node, loop}
@@ -15,6 +16,7 @@ use Rattle.tokens.specs.Table.{token_of}
 use Rattle.parser_state.specs.Represents.{Code}
 use Rattle.parser_state.specs.Refines.{Collected, closed}
 use Rattle.parser_operators.specs.declared.DefaultBlock.{DefaultBlock}
+use Rattle.parser_operators.specs.declared.CasesRead.{CasesRead}
 
 abbrev pub default_of : Answer DefaultBlock → Option (Token × Run)
 default_of None = none
@@ -26,6 +28,11 @@ cases_grown c stack = stack ++ flatten c.cases
 -- the code has as many cases, and the same default
 abbrev pub CasesAre : List ℕ → Answer DefaultBlock → ℕ → Code → Cases → Type 0
 CasesAre tokens d n s c = (c.default ≡ default_of d) × Collected tokens n s c.cases
+
+-- what a call answers is as many cases, and the default
+abbrev pub CasesGiven : List ℕ → Result CasesRead Diagnostic → Code → Cases → Type 0
+CasesGiven tokens (Ok r) s c = CasesAre tokens r.default r.members s c
+CasesGiven tokens (Err e) s c = ⊥
 
 -- the cells of a case
 unfoldable pub case_cells : Readers → Rule (List ℕ)

@@ -1,19 +1,20 @@
 // The tables and tests of items and expressions, and the nodes with none below them.
 #![tactic(auto)]
 
-ghost use Rattle.std.specs.Prelude.{◌≡◌, List, ◌∷◌, ◌++◌, ℕ, ◌<◌, get_or};
+ghost use Rattle.std.specs.Prelude.{◌≡◌, List, ◌∷◌, ◌++◌, ℕ, ◌<◌, get_or, Ok};
 ghost use Rattle.tokens.specs.Table.{token_of, token_at};
 ghost use Rattle.rules.specs.Combinators.{push_node};
 ghost use Rattle.ast.specs.Layout.{token_cells, run_cells};
 ghost use Rattle.ast.specs.declared.Node.TheVariants as N;
-ghost use Rattle.rules.specs.Rules.{atom, ident, field_access, cast, breaks_off};
-ghost use Rattle.parser_state.specs.Represents.{reading, code_of};
+ghost use Rattle.ast.specs.Decode.{option_of};
+ghost use Rattle.rules.specs.Rules.{stage_one, atom, ident, field_access, cast, breaks_off};
+ghost use Rattle.parser_state.specs.Represents.{reading, code_of, code_after};
 ghost use Rattle.parser_state.specs.Keeps.{KeepsNodesTypes, KeepsTypesLists};
-ghost use Rattle.parser_state.specs.Refines.{Refines, stack_unchanged, ReadsNode, ReadsStep};
-ghost use Rattle.parser_state.specs.Refines.{Pushes, Rules, deeper};
-ghost use Rattle.parser_operators.specs.Tests.{operand_class, class_number, operator_of};
-ghost use Rattle.parser_operators.specs.Tests.{left_powers, begins_expr, call_at, postfix_follows};
-ghost use Rattle.parser_operators.specs.Tests.{infix_follows};
+ghost use Rattle.parser_state.specs.Refines.{Refines, stack_unchanged, Gives, ReadsNode};
+ghost use Rattle.parser_state.specs.Refines.{ReadsStep, Pushes, Rules, deeper};
+ghost use Rattle.parser_operators.specs.Tests.{operand_class, class_number, begins_expr, call_at};
+ghost use Rattle.parser_operators.specs.Tests.{postfix_follows, infix_follows};
+ghost use Rattle.parser_operators.specs.Tests.{operator_of, left_powers};
 ghost use Rattle.parser_operators.specs.Matches.{default_of, match_node};
 
 use ast::{Node, NodeId, NodeKind, Run, TypeExprId};
@@ -25,7 +26,8 @@ use tokens::Entry;
 // ---- tables
 
 // The binding powers on the left of `+` `-` `*` `/` `%` `==` `<` `>` `!=`, by their numbers. The
-// one on the right is the left one plus 1 (`binary`).
+// one on the right is the left one plus 1 (`binary`). A table by number is the form that document
+// 01 names, so a sign has a number and is no enum.
 const LEFT_POWERS: [u32; 9] = [1, 1, 3, 3, 3, 0, 0, 0, 0];
 
 // The power of a prefix sign.
@@ -77,12 +79,22 @@ pub fn operator(kind: u32) -> Option<u32>
     }
 }
 
-// The power on the left of an infix sign, by its number.
+// The power on the left of an infix sign, by its number; 0 for another number.
 pub fn left_power(n: u32) -> u32
-    requires { n < 9 }
     ensures { result ≡ get_or left_powers n 0 }
 {
-    LEFT_POWERS[n as usize]
+    LEFT_POWERS.get(n as usize).copied().unwrap_or(0)
+}
+
+// The power on the left of an infix sign; none where the kind is no such sign.
+pub fn infix_power(kind: u32) -> Option<u32>
+    ensures { option_of result ≡ stage_one kind }
+{
+    // of `map(left_power)` no proof was found
+    match operator(kind) {
+        Some(n) => Some(left_power(n)),
+        None => None,
+    }
 }
 
 // ---- whether an item is an expression, and a loop over an expression goes on
@@ -97,12 +109,14 @@ pub fn begins_expr(p: &Parser) -> bool
     p.used.docs == 0 && (k < Type::DOC || Type::MATCH < k)
 }
 
-// An Ident or a Field can be called. `made` nodes are there.
-fn is_callable_target(nodes: &[u32], made: u32, n: NodeId) -> bool
-    ensures { result ≡ call_at nodes.now made n }
+// An Ident or a Field that is there can be called.
+fn is_callable_target(p: &Parser, n: NodeId) -> bool
+    ensures { result ≡ call_at p.now.nodes.now p.now.used.nodes n }
 {
     let at = Node::WIDTH * n.0 as usize;
-    n.0 < made && at < nodes.len() && matches!(nodes[at], NodeKind::IDENT | NodeKind::FIELD)
+    n.0 < p.used.nodes
+        && at < p.nodes.len()
+        && matches!(p.nodes[at], NodeKind::IDENT | NodeKind::FIELD)
 }
 
 // A `.`, or a `(` behind a node that can be called.
@@ -110,12 +124,9 @@ fn is_callable_target(nodes: &[u32], made: u32, n: NodeId) -> bool
 pub fn postfix_follows(p: &Parser, n: NodeId) -> bool
     ensures { result ≡ postfix_follows p.now.nodes.now (reading p.now) n }
 {
-    if !p.going() {
-        return false;
-    }
     match p.kind() {
         Type::DOT => true,
-        Type::BRACE_LEFT => is_callable_target(p.nodes, p.used.nodes, n),
+        Type::BRACE_LEFT => is_callable_target(p, n),
         _ => false,
     }
 }
@@ -132,15 +143,12 @@ fn breaks_off(script: &[u8], t: Entry) -> bool
 pub fn infix_follows(p: &Parser, script: &[u8], least: u32) -> bool
     ensures { result ≡ infix_follows script.now (reading p.now) least }
 {
-    if !p.going() {
-        return false;
-    }
     let t = p.cur;
     if t.kind == Type::AS {
         return true;
     }
-    match operator(t.kind) {
-        Some(n) => !breaks_off(script, t) && least <= left_power(n),
+    match infix_power(t.kind) {
+        Some(left) => !breaks_off(script, t) && least <= left,
         None => false,
     }
 }
@@ -150,7 +158,7 @@ pub fn infix_follows(p: &Parser, script: &[u8], least: u32) -> bool
 // An expr = atom. Beside `ident`: three lines each, each named by its rule.
 pub fn atom(p: &mut Parser, tokens: &[u32]) -> NodeId
     requires { 1 < p.old.cur.kind }
-    ensures reads { ReadsNode tokens.now atom (code_of p.old) (code_of p.new) result }
+    ensures reads { ReadsNode tokens.now atom p.old p.new (Ok result) }
     ensures keeps { KeepsTypesLists p.old p.new }
 {
     let raw = p.cur;
@@ -161,7 +169,7 @@ pub fn atom(p: &mut Parser, tokens: &[u32]) -> NodeId
 // An expr = ident
 pub fn ident(p: &mut Parser, tokens: &[u32]) -> NodeId
     requires { 1 < p.old.cur.kind }
-    ensures reads { ReadsNode tokens.now ident (code_of p.old) (code_of p.new) result }
+    ensures reads { ReadsNode tokens.now ident p.old p.new (Ok result) }
     ensures keeps { KeepsTypesLists p.old p.new }
 {
     let name = p.cur;
@@ -170,15 +178,15 @@ pub fn ident(p: &mut Parser, tokens: &[u32]) -> NodeId
 }
 
 // An expr = expr "." ident
-pub fn field_access(p: &mut Parser, tokens: &[u32], lhs: NodeId) -> NodeId
+pub fn field_access(p: &mut Parser, tokens: &[u32], lhs: NodeId) -> Result<NodeId, Diagnostic>
     requires { 1 < p.old.cur.kind }
-    ensures reads { ReadsStep tokens.now (field_access lhs) (code_of p.old) (code_of p.new) result }
+    ensures reads { ReadsStep tokens.now (field_access lhs) p.old p.new result }
     ensures keeps { KeepsTypesLists p.old p.new }
 {
     p.advance(tokens);
     let name = p.cur;
-    p.expect_ident(tokens);
-    p.push_field(lhs, name)
+    p.expect_ident(tokens)?;
+    Ok(p.push_field(lhs, name))
 }
 
 // A Cast is pushed from a node and a type, one of each.
@@ -192,16 +200,20 @@ fn push_cast(p: &mut Parser, src: Entry, lhs: NodeId, rhs: TypeExprId) -> NodeId
 }
 
 // An expr = expr "as" type
-pub fn cast(p: &mut Parser, tokens: &[u32], lhs: NodeId, levels: usize) -> NodeId
+pub fn cast(
+    p: &mut Parser,
+    tokens: &[u32],
+    lhs: NodeId,
+    levels: usize,
+) -> Result<NodeId, Diagnostic>
     requires { 1 < p.old.cur.kind }
     ensures { (rules : Rules) →
-        ReadsStep tokens.now (cast (deeper rules levels) lhs) (code_of p.old) (code_of p.new)
-        result }
+        ReadsStep tokens.now (cast (deeper rules levels) lhs) p.old p.new result }
 {
     let src = p.cur;
     p.advance(tokens);
-    let rhs = parse_type(p, tokens, levels);
-    push_cast(p, src, lhs, rhs)
+    let rhs = parse_type(p, tokens, levels)?;
+    Ok(push_cast(p, src, lhs, rhs))
 }
 
 // ---- the cases of a match
@@ -214,7 +226,7 @@ pub struct DefaultBlock {
 }
 
 // The default of a match so far, and how many cases there are.
-#[derive(Clone, Copy)]
+#[derive(Clone, Copy, Default)]
 pub struct CasesRead {
     pub default: Option<DefaultBlock>,
     pub members: u32,
@@ -239,17 +251,14 @@ pub fn match_node(
     at: u32,
     cases: Run,
     default: Option<DefaultBlock>,
-) -> NodeId
+) -> Result<NodeId, Diagnostic>
     ensures reads { Refines tokens.now 1 0
-        (match_node (token_at tokens.now at) (default_of default) cases) (λ n. n ≡ result)
-        stack_unchanged 0 0 0 (code_of p.old) (code_of p.new) }
+        (match_node (token_at tokens.now at) (default_of default) cases) (Gives result)
+        stack_unchanged 0 0 0 (code_of p.old) (code_after p.new result) }
     ensures keeps { KeepsTypesLists p.old p.new }
 {
     match default {
-        Some(block) => p.push_match(cases, block.token, block.run),
-        None => {
-            p.fail_at(tokens, Diagnostic::MATCH_WITHOUT_A_DEFAULT, at);
-            NodeId(0)
-        }
+        Some(block) => Ok(p.push_match(cases, block.token, block.run)),
+        None => Err(p.fail_at(tokens, Diagnostic::MATCH_WITHOUT_A_DEFAULT, at)),
     }
 }

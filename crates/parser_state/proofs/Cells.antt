@@ -6,7 +6,7 @@ use borrow.Rule.Slice.PartMut.{mid_of, put_mid}
 use lib.Seq.{paste, length-paste, drop-append-add, drop-append-le, drop-paste, paste-suc, get_or_at}
 use Rattle.lex.specs.declared.tok.Token.{Token}
 use Rattle.rules.specs.Combinators.{pure, push_node_and, push_type, with_arena, alloc_slice}
-use Rattle.ast.specs.Layout.{token_cells, run_cells, node_width, type_width, node_cells, type_cells}
+use Rattle.ast.specs.Layout.{token_cells, run_cells, node_width, type_width, zeros, padded, node_cells, type_cells}
 use Rattle.ast.specs.declared.Node.{Node}
 use Rattle.ast.specs.declared.Node.TheVariants as N
 use Rattle.ast.specs.declared.TypeExpr.{TypeExpr}
@@ -28,6 +28,10 @@ map_snoc f [] x = refl
 map_snoc f (y ∷ ys) x = ap (λ (l : List _). f y ∷ l) (map_snoc f ys x)
 
 -- ---- records
+
+-- zeros behind cells take none away
+pub padded-length : (n : ℕ) (xs : List ℕ) → length xs ≤ length (padded n xs)
+padded-length n xs = omega (arith, length-append xs (zeros (n - length xs)))
 
 -- cells laid over the first of those behind what is there
 pub laid-over : (xs vs between back : List ℕ) (n : ℕ) → length xs ≡ n → length vs ≤ length between → paste (xs ++ (between ++ back)) n vs (length vs) ≡ (xs ++ vs) ++ (drop (length vs) between ++ back)
@@ -71,7 +75,7 @@ module _ {A : Type 0} (cells : A → List ℕ) (xs : List A) (x : A) (array arra
 
 -- ---- types
 
-cells-length : (t : TypeExpr) → length (type_cells t) ≡ 8
+pub cells-length : (t : TypeExpr) → length (type_cells t) ≡ 8
 unfolding type_cells token_cells run_cells
 cells-length (TE.Atom t) = refl
 cells-length (TE.Foreign t) = refl
@@ -294,7 +298,7 @@ moved_list between top base n scratch e k fits =
     ap (λ (l : List ℕ). paste part 0 l n) cells ∙ rw w (laid-over [] top between (reverse top ++ base) 0 refl (omega arith))
 
 pub allocating : (tokens : List ℕ) {lists' : List ℕ} (s : Code) (mark members : ℕ) → going s ≡ true → lists' ≡ take s.parser.used.cells s.lists ++ moved (drop s.parser.used.cells s.lists) (s.parser.used.scratch - mark) s.parser.used.scratch
-    → Lists tokens alloc_slice (record { start = s.parser.used.cells; len = members }) 0 0 0 mark members s (with_lists (with_used s (finished s.parser.used mark)) lists')
+    → Lists tokens alloc_slice (λ run. run ≡ record { start = s.parser.used.cells; len = members }) 0 0 0 mark members s (with_lists (with_used s (finished s.parser.used mark)) lists')
 unfolding alloc_slice with_arena
 allocating tokens {lists'} s mark members g e = record {
   sticky = λ f. absurd (true≢false g f);

@@ -4,6 +4,7 @@ use mathlib.Core.List.{flatten, reverse-append, reverse-reverse}
 use lib.ListN.{length-map, length-reverse}
 use lib.Seq.{paste, length-paste, get_or_at}
 use Rattle.lex.specs.Kind.{k_eof}
+use Rattle.lex.specs.declared.diagnostic.Diagnostic.{Diagnostic}
 use Rattle.lex.specs.declared.tok.Token.{Token}
 use Rattle.tokens.specs.Table.{token_of, token_at}
 use Rattle.tokens.specs.declared.Entry.{Entry}
@@ -12,7 +13,7 @@ use Rattle.rules.specs.Combinators.{Rule, ◌>>◌, current, pure, if_kind, at_t
 use Rattle.ast.specs.Layout.{token_cells, type_cells}
 use Rattle.rules.specs.Rules.{last_of, require_no_docs}
 use Rattle.parser_state.specs.Represents.{Code, with_used, with_types, with_lists, going, doc_cells, Near, AllNear, Represents}
-use Rattle.parser_state.specs.Refines.{Ends, stack_unchanged, Refines, FailsWith, no_docs_wait, failed, at_entry, doc_at}
+use Rattle.parser_state.specs.Refines.{Ends, stack_unchanged, Refines, no_docs_wait, failed, at_entry, doc_at}
 use Rattle.parser_state.specs.declared.Used.{Used}
 use Rattle.parser_state.proofs.Steps.{as_rule, either, true≢false, left-some, current_represents, represents_less}
 use Rattle.parser_state.proofs.Leaves.{failing_at, at-entry}
@@ -251,11 +252,11 @@ docs_bad tokens s number at g waits at_eof elsewhere = record {
         (λ f. subst (Ends {A = ℕ} tokens (λ n. n ≡ 0) stack_unchanged after R L 0 0 stack) (sym (if_kind_is_no k_eof (λ t. err (at_token 13 0 (last_of d ds)) t) (λ t. err (at_token 14 0 d) t) m (rw kind f)))
         (failing_at _ _ (named 14 d (elsewhere f).0 (ap (λ (k : ℕ). token_of (doc_at s.types k)) (elsewhere f).1 ∙ first-doc s.types front d ds e) near.0) h₀))
 
-pub docs-fail : (tokens : List ℕ) {s s' : Code} (number at : ℕ) (d : Entry) → d ≡ doc_at s.types at → FailsWith (at_entry number 0 (token_of d)) s s' → going s ≡ true → (s.parser.used.docs ≡ 0 → ⊥)
+pub docs-fail : (tokens : List ℕ) {s : Code} {e : Diagnostic} (number at : ℕ) (d : Entry) → d ≡ doc_at s.types at → e ≡ at_entry number 0 (token_of d) → going s ≡ true → (s.parser.used.docs ≡ 0 → ⊥)
     → (eqb s.parser.cur.kind k_eof ≡ true → (number ≡ 13) × (at ≡ length s.types - 3 * s.parser.used.docs)) → (eqb s.parser.cur.kind k_eof ≡ false → (number ≡ 14) × (at ≡ length s.types - 3))
-    → Refines tokens 0 0 no_docs_wait (λ n. n ≡ 0) stack_unchanged 0 0 0 s s'
+    → Refines tokens 0 0 no_docs_wait (λ n. n ≡ 0) stack_unchanged 0 0 0 s (failed s e)
 docs-fail tokens {s} number at d e f g waits at_eof elsewhere =
-    subst (Refines tokens 0 0 no_docs_wait (λ n. n ≡ 0) stack_unchanged 0 0 0 s) (sym (f.0 g ∙ ap (λ (t : Entry). failed s (at_entry number 0 (token_of t))) e))
+    subst (Refines tokens 0 0 no_docs_wait (λ n. n ≡ 0) stack_unchanged 0 0 0 s) (sym (ap (failed s) f ∙ ap (λ (t : Entry). failed s (at_entry number 0 (token_of t))) e))
     (docs_bad tokens s number at g waits at_eof elsewhere)
 
 -- the rule goes on where no docs wait

@@ -11,9 +11,16 @@ use Rattle.tokens.specs.declared.Entry.{Entry}
 use Rattle.tokens.proofs.Records.{tokens-last, tokens_more}
 use Rattle.rules.specs.Tree.{State}
 use Rattle.rules.specs.Combinators.{Rule, rest, advance, at_token}
-use Rattle.parser_state.specs.Represents.{Failed, with_token, Near, Code, going, from, Related, Represents, FailedAt}
-use Rattle.parser_state.specs.Refines.{stack_unchanged, Refines, Refuses, Takes, Lists, FailsWith, fail_at, failed, at_entry}
+use Rattle.parser_state.specs.Represents.{Failed, with_token, with_used, Near, Code, going, from, Related, Represents, FailedAt}
+use Rattle.parser_state.specs.Refines.{stack_unchanged, Refines, Refuses, Takes, Lists, fail_at, failed, at_entry}
+use Rattle.parser_state.specs.declared.Used.{Used}
 use Rattle.parser_state.proofs.Steps.{either, true≢false, some-from, represents_going, represents_less, current_represents}
+
+-- ---- what is used
+
+-- what holds of what was used and of the code, holds of what they are equal to
+pub through_used : (s : Code) (f : Used → Used) (P : Used → Code → Type 0) {u : Used} {t : Code} → u ≡ s.parser.used → t ≡ with_used s (f u) → P s.parser.used (with_used s (f s.parser.used)) → P u t
+through_used s f P {u} e w h = subst (λ (r : Code). P u r) (sym w) (subst (λ (v : Used). P v (with_used s (f v))) (sym e) h)
 
 -- ---- nothing is done
 
@@ -43,17 +50,8 @@ pub no_place : {A : Type 0} {tokens : List ℕ} {x : Rule A} {Q : A → Type 0} 
     → (going s ≡ true → Few → Fits → ⊥) → ((R L : ℕ) (stack : List ℕ) (m : State) → Related tokens s (R + r) (L + l) stack m → Few × Fits) → Refines tokens r l x Q grow 0 r' l' s s
 no_place {s = s} none f = either (going s) (λ g. full (λ R L stack m h. let room = f R L stack m h in none g room.0 room.1)) idle
 
-pub lists_idle : {A : Type 0} {tokens : List ℕ} {x : List (List ℕ) → Rule A} {run : A} {d r' l' mark n : ℕ} {s : Code} → going s ≡ false → Lists tokens x run d r' l' mark n s s
-lists_idle g = record {
-  sticky = λ e. refl;
-  same = refl;
-  monotone = omega arith;
-  progress = λ e. absurd (true≢false e g);
-  simulates = λ R L stack xs m a b few h. absurd (true≢false (represents_going h) g);
-}
-
-pub lists_full : {A : Type 0} {tokens : List ℕ} {x : List (List ℕ) → Rule A} {run : A} {r' l' mark n : ℕ} {s : Code}
-    → ((R L : ℕ) (stack : List ℕ) (xs : List (List ℕ)) (m : State) → length stack ≡ mark → length xs ≡ n → length xs + length m.left ≤ max_bytes + 1 → Related tokens s R L (stack ++ flatten xs) m → ⊥) → Lists tokens x run 0 r' l' mark n s s
+pub lists_full : {A : Type 0} {tokens : List ℕ} {x : List (List ℕ) → Rule A} {Q : A → Type 0} {r' l' mark n : ℕ} {s : Code}
+    → ((R L : ℕ) (stack : List ℕ) (xs : List (List ℕ)) (m : State) → length stack ≡ mark → length xs ≡ n → length xs + length m.left ≤ max_bytes + 1 → Related tokens s R L (stack ++ flatten xs) m → ⊥) → Lists tokens x Q 0 r' l' mark n s s
 lists_full f = record {
   sticky = λ e. refl;
   same = refl;
@@ -159,32 +157,27 @@ failing_at e e' w h = record {
   related = rw append-nil (record { left = h.related.left; here = h.related.here; near = h.related.near; taken = h.related.taken; few = h.related.few; nodes = h.related.nodes; types = h.related.types; lists = h.related.lists; bytes = h.related.bytes; credit = h.related.credit; lent = h.related.lent });
 }
 
-module _ {tokens : List ℕ} {number wanted : ℕ} {s s' : Code} where
-  pub failing : FailsWith (at_entry number wanted (token_of s.parser.cur)) s s' → Refuses tokens number wanted s s'
-  failing f = either (going s)
-      (λ g. subst (Refuses tokens number wanted s) (sym (f.0 g)) (record {
-        sticky = λ z. absurd (true≢false g z);
-        same = refl;
-        monotone = omega arith;
-        fails = refl;
-        simulates = λ R L stack m h.
-            let near : Near (token_of s.parser.cur) = subst Near (sym h.related.here) (h.related.near s.parser.at) in
-            failing_at _ _ (at-entry number wanted (token_of s.parser.cur) near ∙ ap (at_token number wanted) (sym (current_represents h.related))) h;
-      }))
-      (λ g. subst (Refuses tokens number wanted s) (sym (f.1 g))
-      (record { sticky = λ z. refl; same = refl; monotone = omega arith; fails = g; simulates = λ R L stack m h. absurd (true≢false (represents_going h) g) }))
+module _ {tokens : List ℕ} {number wanted : ℕ} {s : Code} {e : Diagnostic} where
+  pub failing : going s ≡ true → e ≡ at_entry number wanted (token_of s.parser.cur) → Refuses tokens number wanted s (failed s e)
+  failing g w = record {
+    sticky = λ z. absurd (true≢false g z);
+    same = refl;
+    monotone = omega arith;
+    fails = refl;
+    simulates = λ R L stack m h.
+        let near : Near (token_of s.parser.cur) = subst Near (sym h.related.here) (h.related.near s.parser.at) in
+        failing_at _ _ (w ∙ at-entry number wanted (token_of s.parser.cur) near ∙ ap (at_token number wanted) (sym (current_represents h.related))) h;
+  }
 
-module _ {A : Type 0} {Q : A → Type 0} {d r' l' : ℕ} {tokens : List ℕ} {s s' : Code} (number i : ℕ) (t : Entry) (named : token_of t ≡ token_at tokens i) where
-  pub failing_before : FailsWith (at_entry number 0 (token_of t)) s s' → Refines {A = A} tokens 0 0 (fail_at number (token_at tokens i)) Q stack_unchanged d r' l' s s'
+module _ {A : Type 0} {Q : A → Type 0} {d r' l' : ℕ} {tokens : List ℕ} {s : Code} {e : Diagnostic} (number i : ℕ) (t : Entry) (named : token_of t ≡ token_at tokens i) where
+  pub failing_before : going s ≡ true → e ≡ at_entry number 0 (token_of t) → Refines {A = A} tokens 0 0 (fail_at number (token_at tokens i)) Q stack_unchanged d r' l' s (failed s e)
   unfolding fail_at
-  failing_before f = either (going s)
-      (λ g. subst (Refines {A = A} tokens 0 0 (fail_at number (token_at tokens i)) Q stack_unchanged d r' l' s) (sym (f.0 g)) (record {
-        sticky = λ z. absurd (true≢false g z);
-        same = refl;
-        monotone = omega arith;
-        progress = λ z. absurd (true≢false z refl);
-        simulates = λ R L stack m h.
-            let near : Near (token_of t) = subst Near (sym named) (h.related.near i) in
-            failing_at _ _ (at-entry number 0 (token_of t) near ∙ ap (at_token number 0) named) (represents_less _ _ (omega arith) (omega arith) h);
-      }))
-      (λ g. subst (Refines {A = A} tokens 0 0 (fail_at number (token_at tokens i)) Q stack_unchanged d r' l' s) (sym (f.1 g)) (idle g))
+  failing_before g w = record {
+    sticky = λ z. absurd (true≢false g z);
+    same = refl;
+    monotone = omega arith;
+    progress = λ z. absurd (true≢false z refl);
+    simulates = λ R L stack m h.
+        let near : Near (token_of t) = subst Near (sym named) (h.related.near i) in
+        failing_at _ _ (w ∙ at-entry number 0 (token_of t) near ∙ ap (at_token number 0) named) (represents_less _ _ (omega arith) (omega arith) h);
+  }

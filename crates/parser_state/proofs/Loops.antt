@@ -5,12 +5,14 @@ use borrow.Author.Tests.{not-true, not-false}
 use Rattle.lex.specs.Kind.{k_eof}
 use Rattle.lex.specs.Answer.{max_bytes}
 use Rattle.lex.specs.declared.diagnostic.Diagnostic.{Diagnostic}
+use Rattle.lex.specs.declared.tok.Token.{Token}
 use Rattle.tokens.specs.Table.{token_of}
 use Rattle.rules.specs.Tree.{State, Result, ok, err}
-use Rattle.rules.specs.Combinators.{Rule, ◌>>=◌, pure, current, if_kind, ControlFlow, continue, break, iterate, loop, members, list_until}
+use Rattle.rules.specs.Combinators.{Rule, ◌>>=◌, ◌>>◌, pure, current, expect, alloc_slice, if_kind, ControlFlow, continue, break, iterate, loop, members, list_until}
 use Rattle.ast.specs.declared.Run.{Run}
 use Rattle.parser_state.specs.Represents.{Reading, Code, going, is_going, ahead, Represents, FailedAt}
 use Rattle.parser_state.specs.Refines.{Ends, stack_unchanged, grown, all_grown, Collected, Refines, ReadsMember, Lists, member_follows, follows_by, closed}
+use Rattle.parser_state.specs.Members.{members_until}
 use Rattle.parser_state.proofs.Steps.{lists-after, either, true≢false, represents_going, represents_less, failed-fails, current_represents, left-some}
 use Rattle.parser_state.proofs.Cells.{flatten_snoc}
 use Rattle.parser_state.proofs.Rounds.{weight, lighter, if_kind_is_yes, if_kind_is_no}
@@ -171,7 +173,27 @@ module _ {tokens : List ℕ} {stop : ℕ} {item : Rule (List ℕ)} {s₀ s : Cod
       go R L stack res (simulates v) = one R L stack v.fuel v.xs v.m res v.comes v.fuelled v.count v.few v.represents
       go R L stack res (lost v) = subst (Ends tokens (Collected tokens n s) all_grown s R L 0 0 stack) (sym v.comes) v.failed_at
 
-module _ {tokens : List ℕ} {stop : ℕ} {item : Rule (List ℕ)} {run : Run} {s₀ s s' : Code} {mark n : ℕ} where
-  pub midway_end : MembersInvariant tokens stop item s₀ s n → member_follows s.parser stop ≡ false → mark ≡ s₀.parser.used.scratch → Lists tokens (closed stop) run 1 1 8 mark n s s' → Refines tokens 0 0 (list_until stop item) (λ a. a ≡ run) stack_unchanged 1 1 8 s₀ s'
+module _ {tokens : List ℕ} {stop : ℕ} {item : Rule (List ℕ)} {Q : Run → Type 0} {s₀ s s' : Code} {mark n : ℕ} where
+  pub midway_end : MembersInvariant tokens stop item s₀ s n → member_follows s.parser stop ≡ false → mark ≡ s₀.parser.used.scratch → Lists tokens (closed stop) Q 1 1 8 mark n s s' → Refines tokens 0 0 (list_until stop item) Q stack_unchanged 1 1 8 s₀ s'
   unfolding list_until closed
   midway_end i w k p = lists-after (closed stop) (members_end i w) p k
+
+-- a list is its members, and then the cells of a list
+pub list_as_members : (stop : ℕ) (item : Rule (List ℕ)) (m : State) → list_until stop item m ≡ (members_until stop item >>= alloc_slice) m
+unfolding list_until members_until ◌>>=◌ ◌>>◌ pure
+list_as_members stop item m = go (members stop item m)
+  where
+    ends : (xs : List (List ℕ)) (res : Result Token) → ◌≡◌ {A = Result Run} (elim res as (λ _. Result Run) [ ok t s ↦ alloc_slice xs s | err e s ↦ err e s ])
+        (elim (elim res as (λ _. Result (List (List ℕ))) [ ok t s ↦ ok xs s | err e s ↦ err e s ]) as (λ _. Result Run) [ ok ys s ↦ alloc_slice ys s | err e s ↦ err e s ])
+    ends xs (ok t s) = refl
+    ends xs (err e s) = refl
+
+    go : (res : Result (List (List ℕ))) → ◌≡◌ {A = Result Run} (elim res as (λ _. Result Run) [ ok xs s ↦ elim (expect stop s) [ ok t r ↦ alloc_slice xs r | err e r ↦ err e r ] | err e s ↦ err e s ])
+        (elim (elim res as (λ _. Result (List (List ℕ))) [ ok xs s ↦ elim (expect stop s) [ ok t r ↦ ok xs r | err e r ↦ err e r ] | err e s ↦ err e s ]) as (λ _. Result Run) [ ok ys s ↦ alloc_slice ys s | err e s ↦ err e s ])
+    go (ok xs s) = ends xs (expect stop s)
+    go (err e s) = refl
+
+-- a member that fails ends the loop
+module _ {tokens : List ℕ} {stop : ℕ} {item : Rule (List ℕ)} {s₀ s s' : Code} {n : ℕ} where
+  pub members_stop : MembersInvariant tokens stop item s₀ s n → member_follows s.parser stop ≡ true → ReadsMember tokens item s s' → going s' ≡ false → Refines tokens 0 0 (members stop item) (Collected tokens ((n + 1) % 2 ^ 32) s') all_grown 0 0 0 s₀ s'
+  members_stop i w p g = members_end (midway_turn i w p refl) (subst (λ (b : Bool). follows_by b (eqb s'.parser.cur.kind k_eof) (eqb s'.parser.cur.kind stop) ≡ false) (sym g) refl)

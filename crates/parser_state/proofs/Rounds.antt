@@ -1,12 +1,13 @@
 -- A loop of the code over a value, as `loop` is. (`postfix`, `infixes`, `collect_docs` and the cases of a match are such loops; `Loops.antt` has the lists of members.)
 use Rattle.std.proofs.Common.{◌≡◌, ℕ, zero, suc, ◌+◌, ◌-◌, ◌<◌, ◌≤◌, Bool, true, false, ◌&&◌, eqb, List, ◌++◌, length, replicate, sym, refl, ap, ◌∙◌, subst, arith, eqb-true}
+use Rattle.std.specs.Prelude as Std
 use Rattle.lex.specs.declared.diagnostic.Diagnostic.{Diagnostic}
 use Rattle.lex.specs.Kind.{k_doc}
 use Rattle.rules.specs.Tree.{State, Result, ok, err}
 use Rattle.rules.specs.Combinators.{Rule, current, by_kind, if_kind, ControlFlow, continue, break, iterate, loop, struck}
-use Rattle.parser_state.specs.Represents.{Reading, Code, going, is_going, ahead, Represents, FailedAt}
+use Rattle.parser_state.specs.Represents.{Failed, Reading, Code, with_error, error_of, going, is_going, ahead, Represents, FailedAt}
 use Rattle.parser_state.specs.Refines.{Ends, stack_unchanged, Refines, doc_follows}
-use Rattle.parser_state.proofs.Steps.{represents_noted, either, true≢false, and_both, represents_going, represents_less, failed-fails, left-some}
+use Rattle.parser_state.proofs.Steps.{Passed, passed_on, represents_noted, either, true≢false, and_both, represents_going, represents_less, failed-fails, left-some}
 
 -- after a turn
 unfoldable pub after : {A : Type 0} → (A → Rule (ControlFlow A)) → ℕ → Result (ControlFlow A) → Result A
@@ -155,6 +156,41 @@ module _ {A : Type 0} {tokens : List ℕ} {f : A → Rule (ControlFlow A)} {grow
       monotone = omega arith;
       flow_value = λ R L stack a m v h. subst (Stopped tokens f grow Q s R L stack) (sym (p R L (grow a stack) a m v h)) (v, h);
     })
+
+  -- a turn that fails is the last
+  module _ {a₀ : A} {Q Q' : A → Type 0} {s₀ s s' : Code} where
+    pub again_stops : LoopInvariant tokens f grow a₀ Q s₀ s → going s ≡ true → Again tokens f grow Q Q' s s' → going s' ≡ false → ((stack : List ℕ) → grow a₀ stack ≡ stack) → Refines tokens 0 0 (loop f a₀) Q' grow 0 0 0 s₀ s'
+    again_stops i g p g' z = round_out (round_again i g p) z (λ R L stack a m q h. absurd (true≢false (represents_going h) g'))
+
+  -- and gives no value: its error is passed on
+  module _ {B : Type 0} {Q Q' Q'' : A → Type 0} {s s' : Code} {e : Diagnostic} (res : Std.Result B Diagnostic) where
+    pub again_fails : Again tokens f grow Q Q' s s' → s'.parser.error ≡ Failed e → Passed e res → Again tokens f grow Q Q'' s (with_error s' (error_of res))
+    again_fails p t k = subst (Again tokens f grow Q Q'' s) (passed_on res t k) (record {
+      same = p.same;
+      monotone = p.monotone;
+      progress = p.progress;
+      flow_value = λ R L stack a m q h. go R L stack (f a m) (p.flow_value R L stack a m q h);
+    })
+      where
+        go : (R L : ℕ) (stack : List ℕ) (r : Result (ControlFlow A)) → Turned tokens f grow Q' s' R L stack r → Turned tokens f grow Q'' s' R L stack r
+        go R L stack (ok (continue b) m) h = absurd (true≢false (represents_going h.1) (ap is_going t))
+        go R L stack (ok (break b) m) h = h
+        go R L stack (err e m) h = h
+
+-- a step that fails ends the loop
+module _ {A : Type 0} {tokens : List ℕ} {a₀ v : A} {P : ControlFlow A → Type 0} {d r' l' : ℕ} {s₀ s s' : Code} (f : A → Rule (ControlFlow A)) where
+  pub loop_stops : LoopInvariant tokens f stack_unchanged a₀ (λ a. a ≡ v) s₀ s → Refines tokens 0 0 (f v) P stack_unchanged d r' l' s s' → going s' ≡ false → Refines tokens 0 0 (loop f a₀) (λ _. Unit {0}) stack_unchanged 0 0 0 s₀ s'
+  loop_stops i p g = round_last i (λ stack. refl) (record {
+    sticky = p.sticky;
+    same = p.same;
+    monotone = p.monotone;
+    flow_value = λ R L stack a m e h.
+        subst (λ (x : A). Stopped tokens f stack_unchanged (λ _. Unit {0}) s' R L stack (f x m)) (sym e) (go R L stack (f v m) (p.simulates R L stack m (represents_less _ _ (omega arith) (omega arith) h)));
+  })
+    where
+      go : (R L : ℕ) (stack : List ℕ) (r : Result (ControlFlow A)) → Ends tokens P stack_unchanged s' R L r' l' stack r → Stopped tokens f stack_unchanged (λ _. Unit {0}) s' R L stack r
+      go R L stack (ok t m) h = absurd (true≢false (represents_going h.1) g)
+      go R L stack (err e m) h = h
 
 -- a turn from what a step of the code meets
 pub again_of : {A : Type 0} {tokens : List ℕ} {v w : A} {r' l' : ℕ} {s s' : Code} (f : A → Rule (ControlFlow A)) → Refines tokens 0 0 (f v) (λ t. t ≡ continue w) stack_unchanged 1 r' l' s s'

@@ -1,6 +1,8 @@
 -- How runs of code are put together as rules are.
 use Rattle.std.proofs.Common.{◌≡◌, ℕ, suc, ◌+◌, ◌-◌, ◌≤◌, Bool, true, false, ◌&&◌, T, eqb, leb, List, [], ◌∷◌, ◌++◌, length, sym, refl, ap, ◌∙◌, subst, append_assoc, append-nil, arith, eq-eqb, ne_eqb, eqb-true, leb-true}
 use mathlib.Core.List.{flatten}
+use Rattle.std.specs.Prelude as Std
+use Rattle.std.specs.Prelude.{Ok, Err, IsErr, IsErrAnd}
 use borrow.Author.Tests.{eqb-false}
 use Rattle.lex.specs.Kind.{k_eof}
 use Rattle.tokens.specs.Table.{token_of, token_at, tokens_from}
@@ -10,7 +12,7 @@ use Rattle.rules.specs.Tree.{Notes, State, Result, ok, err}
 use Rattle.rules.specs.Combinators.{Rule, ◌>>=◌, ◌>>◌, pure, current, cur, by_kind, if_kind, fail_expecting}
 use Rattle.lex.specs.declared.tok.Token.{Token}
 use Rattle.lex.specs.Answer.{max_bytes}
-use Rattle.parser_state.specs.Represents.{Code, going, is_going, from, ahead, Related, Represents, FailedAt}
+use Rattle.parser_state.specs.Represents.{Failed, Code, with_error, error_of, going, is_going, from, ahead, Related, Represents, FailedAt}
 use Rattle.parser_state.specs.Refines.{Ends, stack_unchanged, all_grown, Collected, Refines, Refuses, Pushes, Lists}
 
 -- ---- room that is left over
@@ -167,6 +169,68 @@ refused p = record {
   simulates = λ R L stack m h. p.simulates R L stack m (represents_less _ _ (omega arith) (omega arith) h);
 }
 
+-- a step that fails ends the rule
+module _ {A B : Type 0} {tokens : List ℕ} {x : Rule A} {P : A → Type 0} {grow : A → List ℕ → List ℕ} {r l d r' l' : ℕ} {s s' : Code} where
+  pub stops : (f : A → Rule B) → Refines tokens r l x P grow d r' l' s s' → going s' ≡ false → Refines tokens r l (x >>= f) (λ _. Unit {0}) stack_unchanged 0 0 0 s s'
+  unfolding ◌>>=◌
+  stops f p g = record {
+    sticky = p.sticky;
+    same = p.same;
+    monotone = p.monotone;
+    progress = λ e. absurd (true≢false e g);
+    simulates = λ R L stack m h. go R L stack (x m) (p.simulates R L stack m h);
+  }
+    where
+      go : (R L : ℕ) (stack : List ℕ) (res : Result A) → Ends tokens P grow s' R L r' l' stack res → Ends tokens (λ _. Unit {0}) stack_unchanged s' R L 0 0 stack (elim res [ ok a m ↦ f a m | err e m ↦ err e m ])
+      go R L stack (ok a m) h = absurd (true≢false (represents_going h.1) g)
+      go R L stack (err e m) h = h
+
+  pub stops_then : (y : Rule B) → Refines tokens r l x P grow d r' l' s s' → going s' ≡ false → Refines tokens r l (x >> y) (λ _. Unit {0}) stack_unchanged 0 0 0 s s'
+  unfolding ◌>>◌ ◌>>=◌
+  stops_then y p g = stops (λ _. y) p g
+
+-- what `?` passes on
+abbrev pub Passed : {A : Type 0} → Diagnostic → Std.Result A Diagnostic → Type 0
+Passed e res = IsErr res × IsErrAnd res (λ y. y ≡ e)
+
+pub passed : {A : Type 0} {e : Diagnostic} (res : Std.Result A Diagnostic) → IsErrAnd res (λ y. y ≡ e) → res ≡ Err e
+passed (Ok a) h = absurd h
+passed (Err y) h = ap Err h
+
+pub passed_on : {A : Type 0} {s : Code} {e : Diagnostic} (res : Std.Result A Diagnostic) → s.parser.error ≡ Failed e → Passed e res → s ≡ with_error s (error_of res)
+passed_on {s = s} res f k = ap (with_error s) (f ∙ ap error_of (sym (passed res k.1)))
+
+-- where a step fails, it gives no value, and no token need be taken, nor room be left
+module _ {A : Type 0} {tokens : List ℕ} {x : Rule A} {P Q : A → Type 0} {grow grow' : A → List ℕ → List ℕ} {r l d r' l' d₀ r₀' l₀' : ℕ} {s s' : Code} where
+  pub fails_as : Refines tokens r l x P grow d r' l' s s' → going s' ≡ false → Refines tokens r l x Q grow' d₀ r₀' l₀' s s'
+  fails_as q g = record {
+    sticky = q.sticky;
+    same = q.same;
+    monotone = q.monotone;
+    progress = λ z. absurd (true≢false z g);
+    simulates = λ R L stack m h. go R L stack (x m) (q.simulates R L stack m h);
+  }
+    where
+      go : (R L : ℕ) (stack : List ℕ) (res : Result A) → Ends tokens P grow s' R L r' l' stack res → Ends tokens Q grow' s' R L r₀' l₀' stack res
+      go R L stack (ok a m) h = absurd (true≢false (represents_going h.1) g)
+      go R L stack (err e m) h = h
+
+-- an error that is passed on
+module _ {A B : Type 0} {tokens : List ℕ} {x : Rule A} {P Q : A → Type 0} {grow grow' : A → List ℕ → List ℕ} {r l d r' l' r₀ l₀ d₀ r₀' l₀' : ℕ} {s s' : Code} {e : Diagnostic} (res : Std.Result B Diagnostic) where
+  pub fails : Refines tokens r l x P grow d r' l' s s' → s'.parser.error ≡ Failed e → Passed e res → T (leb r r₀ && leb l l₀) → Refines tokens r₀ l₀ x Q grow' d₀ r₀' l₀' s (with_error s' (error_of res))
+  fails q f k w₀ =
+      let w = and_both (leb r r₀) (leb l l₀) (T_true _ w₀) in
+      let a : r ≤ r₀ = leb-true _ _ w.0 in
+      let b : l ≤ l₀ = leb-true _ _ w.1 in
+      let p : Refines tokens r l x Q grow' d₀ r₀' l₀' s s' = fails_as q (ap is_going f) in
+      subst (Refines tokens r₀ l₀ x Q grow' d₀ r₀' l₀' s) (passed_on res f k) (record {
+        sticky = p.sticky;
+        same = p.same;
+        monotone = p.monotone;
+        progress = p.progress;
+        simulates = λ R L stack m h. p.simulates R L stack m (represents_less _ _ (omega arith) (omega arith) h);
+      })
+
 -- ---- by the token being read
 
 pub current-from : (tokens : List ℕ) (t : Token) (at : ℕ) → current (from tokens t at) ≡ t
@@ -214,11 +278,8 @@ module _ {A : Type 0} {tokens : List ℕ} {k : ℕ} {Q : A → Type 0} {grow : A
 
 -- ---- cells, and lists
 
-pub push_as : {tokens : List ℕ} {l : ℕ} {vs ws : List ℕ} {s s' : Code} → vs ≡ ws → Pushes tokens l vs s s' → Pushes tokens l ws s s'
-push_as {tokens} {l} {s = s} {s'} e p = subst (λ (cells : List ℕ). Pushes tokens l cells s s') e p
-
-module _ {A B : Type 0} {tokens : List ℕ} {x : Rule A} {v : A} {run : B} {d r₁ l₁ d₂ r₂ l₂ mark n : ℕ} {s s₁ s₂ : Code} (y : List (List ℕ) → Rule B) where
-  pub lists_then : Refines tokens 0 0 x (λ a. a ≡ v) stack_unchanged d r₁ l₁ s s₁ → Lists tokens y run d₂ r₂ l₂ mark n s₁ s₂ → Lists tokens (λ xs. x >> y xs) run (d + d₂) (r₁ + r₂) (l₁ + l₂) mark n s s₂
+module _ {A B : Type 0} {tokens : List ℕ} {x : Rule A} {P : A → Type 0} {Q : B → Type 0} {d r₁ l₁ d₂ r₂ l₂ mark n : ℕ} {s s₁ s₂ : Code} (y : List (List ℕ) → Rule B) where
+  pub lists_then : Refines tokens 0 0 x P stack_unchanged d r₁ l₁ s s₁ → Lists tokens y Q d₂ r₂ l₂ mark n s₁ s₂ → Lists tokens (λ xs. x >> y xs) Q (d + d₂) (r₁ + r₂) (l₁ + l₂) mark n s s₂
   unfolding ◌>>◌
   lists_then p q = record {
     sticky = λ e. let e₁ : s₁ ≡ s = p.sticky e in q.sticky (ap going e₁ ∙ e) ∙ e₁;
@@ -230,16 +291,35 @@ module _ {A B : Type 0} {tokens : List ℕ} {x : Rule A} {v : A} {run : B} {d r�
     simulates = λ R L stack xs m a b few h. go R L stack xs a b m (ap length h.related.left) few (x m) (p.simulates R L (stack ++ flatten xs) m (represents_less _ _ (omega arith) (omega arith) h));
   }
     where
-      last : (R L : ℕ) (stack : List ℕ) (res : Result B) → Ends tokens (λ a. a ≡ run) stack_unchanged s₂ (R + r₁) (L + l₁) r₂ l₂ stack res → Ends tokens (λ a. a ≡ run) stack_unchanged s₂ R L (r₁ + r₂) (l₁ + l₂) stack res
+      last : (R L : ℕ) (stack : List ℕ) (res : Result B) → Ends tokens Q stack_unchanged s₂ (R + r₁) (L + l₁) r₂ l₂ stack res → Ends tokens Q stack_unchanged s₂ R L (r₁ + r₂) (l₁ + l₂) stack res
       last R L stack (ok b m) h = (h.0, represents_less _ _ (omega arith) (omega arith) h.1)
       last R L stack (err e m) h = failed_less _ _ (omega arith) (omega arith) h
 
-      go : (R L : ℕ) (stack : List ℕ) (xs : List (List ℕ)) → length stack ≡ mark → length xs ≡ n → (m₀ : State) → length m₀.left ≡ length (ahead tokens s) → length xs + length m₀.left ≤ max_bytes + 1 → (res : Result A) → Ends tokens (λ a. a ≡ v) stack_unchanged s₁ R L r₁ l₁ (stack ++ flatten xs) res
-          → Ends tokens (λ a. a ≡ run) stack_unchanged s₂ R L (r₁ + r₂) (l₁ + l₂) stack (elim res [ ok a m ↦ y xs m | err e m ↦ err e m ])
+      go : (R L : ℕ) (stack : List ℕ) (xs : List (List ℕ)) → length stack ≡ mark → length xs ≡ n → (m₀ : State) → length m₀.left ≡ length (ahead tokens s) → length xs + length m₀.left ≤ max_bytes + 1 → (res : Result A) → Ends tokens P stack_unchanged s₁ R L r₁ l₁ (stack ++ flatten xs) res
+          → Ends tokens Q stack_unchanged s₂ R L (r₁ + r₂) (l₁ + l₂) stack (elim res [ ok a m ↦ y xs m | err e m ↦ err e m ])
       go R L stack xs a b m₀ same few (ok w m) h = last R L stack (y xs m) (q.simulates (R + r₁) (L + l₁) stack xs m a b (omega (arith, p.monotone, ap length h.1.related.left)) h.1)
       go R L stack xs a b m₀ same few (err e m) h =
           subst (λ (t : Code). FailedAt tokens t e R L stack m) (sym (q.sticky (failed-fails h)))
           (record { status = h.status; over = flatten xs ++ h.over; related = rw (← append_assoc stack (flatten xs) h.over) h.related })
+
+-- a step that fails ends the list
+module _ {A B C : Type 0} {tokens : List ℕ} {x : Rule A} {P : A → Type 0} {Q : B → Type 0} {d r₁ l₁ d' r' l' mark n : ℕ} {s s' : Code} {e : Diagnostic} (res : Std.Result C Diagnostic) (y : List (List ℕ) → Rule B) where
+  pub lists_stop : Refines tokens 0 0 x P stack_unchanged d r₁ l₁ s s' → s'.parser.error ≡ Failed e → Passed e res → Lists tokens (λ xs. x >> y xs) Q d' r' l' mark n s (with_error s' (error_of res))
+  unfolding ◌>>◌
+  lists_stop q f k =
+      let g : going s' ≡ false = ap is_going f in
+      subst (Lists tokens (λ xs. x >> y xs) Q d' r' l' mark n s) (passed_on res f k) (record {
+        sticky = q.sticky;
+        same = q.same;
+        monotone = q.monotone;
+        progress = λ z. absurd (true≢false z g);
+        simulates = λ R L stack xs m a b few h. go R L stack xs g (x m) (q.simulates R L (stack ++ flatten xs) m (represents_less _ _ (omega arith) (omega arith) h));
+      })
+    where
+      go : (R L : ℕ) (stack : List ℕ) (xs : List (List ℕ)) → going s' ≡ false → (res : Result A) → Ends tokens P stack_unchanged s' R L r₁ l₁ (stack ++ flatten xs) res
+          → Ends tokens Q stack_unchanged s' R L r' l' stack (elim res [ ok a m ↦ y xs m | err e m ↦ err e m ])
+      go R L stack xs g (ok a m) h = absurd (true≢false (represents_going h.1) g)
+      go R L stack xs g (err e m) h = record { status = h.status; over = flatten xs ++ h.over; related = rw (← append_assoc stack (flatten xs) h.over) h.related }
 
 -- ---- another way to write a rule
 
@@ -252,6 +332,15 @@ module _ {A : Type 0} {tokens : List ℕ} {Q : A → Type 0} {grow : A → List 
     progress = p.progress;
     simulates = λ R L stack m h. subst (Ends tokens Q grow s' R L r' l' stack) (sym (e m)) (p.simulates R L stack m h);
   }
+
+-- a refusal passes over what would come behind
+pub if_kind-bind : {A B : Type 0} (k number wanted : ℕ) (x : Rule A) (f : A → Rule B) (m : State) → if_kind k (x >>= f) (fail_expecting number wanted) m ≡ (if_kind k x (fail_expecting number wanted) >>= f) m
+unfolding if_kind by_kind fail_expecting ◌>>=◌
+if_kind-bind {A} {B} k number wanted x f m = go (eqb (current m.left).kind k)
+  where
+    go : (b : Bool) → (elim b as (λ _. Rule B) [ true ↦ x >>= f | false ↦ fail_expecting number wanted ]) m ≡ ((elim b as (λ _. Rule A) [ true ↦ x | false ↦ fail_expecting number wanted ]) >>= f) m
+    go true = refl
+    go false = refl
 
 bind_assoc : {A B C : Type 0} (x : Rule A) (f : A → Rule B) (g : B → Rule C) (m : State) → (x >>= (λ a. f a >>= g)) m ≡ ((x >>= f) >>= g) m
 unfolding ◌>>=◌
@@ -279,9 +368,9 @@ module _ {A : Type 0} {tokens : List ℕ} {Q : A → Type 0} {grow : A → List 
 -- ---- lists of members
 
 -- members, and then their list
-module _ {A : Type 0} {tokens : List ℕ} {x : Rule (List (List ℕ))} {run : A} {r l d r₁ l₁ d₂ r₂ l₂ mark n : ℕ} {s s₁ s₂ : Code} (y : List (List ℕ) → Rule A) where
-  pub lists-after : Refines tokens r l x (Collected tokens n s₁) all_grown d r₁ l₁ s s₁ → Lists tokens y run d₂ r₂ l₂ mark n s₁ s₂ → mark ≡ s.parser.used.scratch
-      → Refines tokens r l (x >>= y) (λ a. a ≡ run) stack_unchanged (d + d₂) (r₁ + r₂) (l₁ + l₂) s s₂
+module _ {A : Type 0} {tokens : List ℕ} {x : Rule (List (List ℕ))} {Q : A → Type 0} {r l d r₁ l₁ d₂ r₂ l₂ mark n : ℕ} {s s₁ s₂ : Code} (y : List (List ℕ) → Rule A) where
+  pub lists-after : Refines tokens r l x (Collected tokens n s₁) all_grown d r₁ l₁ s s₁ → Lists tokens y Q d₂ r₂ l₂ mark n s₁ s₂ → mark ≡ s.parser.used.scratch
+      → Refines tokens r l (x >>= y) Q stack_unchanged (d + d₂) (r₁ + r₂) (l₁ + l₂) s s₂
   unfolding ◌>>=◌
   lists-after p q k = record {
     sticky = λ e. let e₁ : s₁ ≡ s = p.sticky e in q.sticky (ap going e₁ ∙ e) ∙ e₁;
@@ -293,19 +382,19 @@ module _ {A : Type 0} {tokens : List ℕ} {x : Rule (List (List ℕ))} {run : A}
     simulates = λ R L stack m h. go R L stack (sym (k ∙ h.related.lists.stacked)) (x m) (p.simulates R L stack m h);
   }
     where
-      last : (R L : ℕ) (stack : List ℕ) (res : Result A) → Ends tokens (λ a. a ≡ run) stack_unchanged s₂ (R + r₁) (L + l₁) r₂ l₂ stack res → Ends tokens (λ a. a ≡ run) stack_unchanged s₂ R L (r₁ + r₂) (l₁ + l₂) stack res
+      last : (R L : ℕ) (stack : List ℕ) (res : Result A) → Ends tokens Q stack_unchanged s₂ (R + r₁) (L + l₁) r₂ l₂ stack res → Ends tokens Q stack_unchanged s₂ R L (r₁ + r₂) (l₁ + l₂) stack res
       last R L stack (ok b m) h = (h.0, represents_less _ _ (omega arith) (omega arith) h.1)
       last R L stack (err e m) h = failed_less _ _ (omega arith) (omega arith) h
 
       go : (R L : ℕ) (stack : List ℕ) → length stack ≡ mark → (res : Result (List (List ℕ))) → Ends tokens (Collected tokens n s₁) all_grown s₁ R L r₁ l₁ stack res
-          → Ends tokens (λ a. a ≡ run) stack_unchanged s₂ R L (r₁ + r₂) (l₁ + l₂) stack (elim res [ ok a m ↦ y a m | err e m ↦ err e m ])
+          → Ends tokens Q stack_unchanged s₂ R L (r₁ + r₂) (l₁ + l₂) stack (elim res [ ok a m ↦ y a m | err e m ↦ err e m ])
       go R L stack j (ok xs m) h = last R L stack (y xs m) (q.simulates (R + r₁) (L + l₁) stack xs m j h.0.0 (omega (arith, h.0.1, ap length h.1.related.left)) h.1)
       go R L stack j (err e m) h = subst (λ (t : Code). FailedAt tokens t e R L stack m) (sym (q.sticky (failed-fails h))) h
 
 -- a list, and then what goes on with it
-module _ {A B : Type 0} {tokens : List ℕ} {y : List (List ℕ) → Rule A} {run : A} {v : B} {d r₁ l₁ r₂ l₂ d₂ r₃ l₃ mark n : ℕ} {s s₁ s₂ : Code} (f : A → Rule B) where
-  pub lists_seq : Lists tokens y run d r₁ l₁ mark n s s₁ → Refines tokens r₂ l₂ (f run) (λ b. b ≡ v) stack_unchanged d₂ r₃ l₃ s₁ s₂ → r₂ ≤ r₁ → l₂ ≤ l₁
-      → Lists tokens (λ xs. y xs >>= f) v (d + d₂) (r₃ + (r₁ - r₂)) (l₃ + (l₁ - l₂)) mark n s s₂
+module _ {A B : Type 0} {tokens : List ℕ} {y : List (List ℕ) → Rule A} {run : A} {Q : B → Type 0} {d r₁ l₁ r₂ l₂ d₂ r₃ l₃ mark n : ℕ} {s s₁ s₂ : Code} (f : A → Rule B) where
+  pub lists_seq : Lists tokens y (λ a. a ≡ run) d r₁ l₁ mark n s s₁ → Refines tokens r₂ l₂ (f run) Q stack_unchanged d₂ r₃ l₃ s₁ s₂ → r₂ ≤ r₁ → l₂ ≤ l₁
+      → Lists tokens (λ xs. y xs >>= f) Q (d + d₂) (r₃ + (r₁ - r₂)) (l₃ + (l₁ - l₂)) mark n s s₂
   unfolding ◌>>=◌
   lists_seq p q a b = record {
     sticky = λ e. let e₁ : s₁ ≡ s = p.sticky e in q.sticky (ap going e₁ ∙ e) ∙ e₁;
@@ -317,16 +406,33 @@ module _ {A B : Type 0} {tokens : List ℕ} {y : List (List ℕ) → Rule A} {ru
     simulates = λ R L stack xs m j k few h. go R L stack a b (y xs m) (p.simulates R L stack xs m j k few h);
   }
     where
-      last : (R L : ℕ) (stack : List ℕ) (res : Result B) → Ends tokens (λ b. b ≡ v) stack_unchanged s₂ (R + (r₁ - r₂)) (L + (l₁ - l₂)) r₃ l₃ stack res → Ends tokens (λ b. b ≡ v) stack_unchanged s₂ R L (r₃ + (r₁ - r₂)) (l₃ + (l₁ - l₂)) stack res
+      last : (R L : ℕ) (stack : List ℕ) (res : Result B) → Ends tokens Q stack_unchanged s₂ (R + (r₁ - r₂)) (L + (l₁ - l₂)) r₃ l₃ stack res → Ends tokens Q stack_unchanged s₂ R L (r₃ + (r₁ - r₂)) (l₃ + (l₁ - l₂)) stack res
       last R L stack (ok b m) h = (h.0, represents_less _ _ (omega arith) (omega arith) h.1)
       last R L stack (err e m) h = failed_less _ _ (omega arith) (omega arith) h
 
       go : (R L : ℕ) (stack : List ℕ) → r₂ ≤ r₁ → l₂ ≤ l₁ → (res : Result A) → Ends tokens (λ a. a ≡ run) stack_unchanged s₁ R L r₁ l₁ stack res
-          → Ends tokens (λ b. b ≡ v) stack_unchanged s₂ R L (r₃ + (r₁ - r₂)) (l₃ + (l₁ - l₂)) stack (elim res [ ok a m ↦ f a m | err e m ↦ err e m ])
+          → Ends tokens Q stack_unchanged s₂ R L (r₃ + (r₁ - r₂)) (l₃ + (l₁ - l₂)) stack (elim res [ ok a m ↦ f a m | err e m ↦ err e m ])
       go R L stack a b (ok w m) h = last R L stack (f w m)
-          (subst (λ (x : A). Ends tokens (λ b. b ≡ v) stack_unchanged s₂ (R + (r₁ - r₂)) (L + (l₁ - l₂)) r₃ l₃ stack (f x m)) (sym h.0)
+          (subst (λ (x : A). Ends tokens Q stack_unchanged s₂ (R + (r₁ - r₂)) (L + (l₁ - l₂)) r₃ l₃ stack (f x m)) (sym h.0)
           (q.simulates (R + (r₁ - r₂)) (L + (l₁ - l₂)) stack m (represents_less _ _ (omega arith) (omega arith) h.1)))
       go R L stack a b (err e m) h = subst (λ (x : Code). FailedAt tokens x e R L stack m) (sym (q.sticky (failed-fails h))) h
+
+-- a list that fails ends what goes on with it
+module _ {A B : Type 0} {tokens : List ℕ} {y : List (List ℕ) → Rule A} {P : A → Type 0} {d r₁ l₁ mark n : ℕ} {s s' : Code} (f : A → Rule B) where
+  pub lists_fail : Lists tokens y P d r₁ l₁ mark n s s' → going s' ≡ false → Lists tokens (λ xs. y xs >>= f) (λ _. Unit {0}) 0 0 0 mark n s s'
+  unfolding ◌>>=◌
+  lists_fail p g = record {
+    sticky = p.sticky;
+    same = p.same;
+    monotone = p.monotone;
+    progress = λ z. absurd (true≢false z g);
+    simulates = λ R L stack xs m j k few h. go R L stack (y xs m) (p.simulates R L stack xs m j k few h);
+  }
+    where
+      go : (R L : ℕ) (stack : List ℕ) (res : Result A) → Ends tokens P stack_unchanged s' R L r₁ l₁ stack res
+          → Ends tokens (λ _. Unit {0}) stack_unchanged s' R L 0 0 stack (elim res [ ok a m ↦ f a m | err e m ↦ err e m ])
+      go R L stack (ok a m) h = absurd (true≢false (represents_going h.1) g)
+      go R L stack (err e m) h = h
 
 -- members, and then a step that changes none
 module _ {A : Type 0} {tokens : List ℕ} {x : Rule (List (List ℕ))} {y : Rule A} {v : A} {r l d r₁ l₁ d₂ r₂ l₂ n : ℕ} {s s₁ s₂ : Code} where

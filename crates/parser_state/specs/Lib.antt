@@ -2,3 +2,4 @@
 pub mod Represents
 pub mod Refines
 pub mod Keeps
+pub mod Members

@@ -1,6 +1,9 @@
 -- A run of code from `s` to `s'` does what a rule does.
 use Rattle.std.specs.Prelude.{◌≡◌, ℕ, ◌+◌, ◌%◌, ◌≤◌, Bool, true, false, not, ◌&&◌, List, ◌++◌, length, ◌==◌, slice_index}
 use Rattle.std.proofs.Math.Option.{Option}
+use Rattle.std.specs.Prelude as Std
+use Rattle.std.specs.Prelude.{Ok, Err}
+use Rattle.parser_state.specs.declared.Parser.{Parser}
 use mathlib.Core.List.{flatten}
 use Rattle.lex.specs.Kind.{k_eof, k_doc, k_s}
 use Rattle.lex.specs.Answer.{max_bytes}
@@ -14,7 +17,7 @@ use Rattle.rules.specs.Rules.{readers, stage_one, require_no_docs}
 use Rattle.ast.specs.declared.Run.{Run}
 use Rattle.ast.specs.declared.NodeId.{NodeId}
 use Rattle.ast.specs.declared.TypeExprId.{TypeExprId}
-use Rattle.parser_state.specs.Represents.{Failed, with_error, Reading, Code, going, ahead, Represents, FailedAt, is_going}
+use Rattle.parser_state.specs.Represents.{Failed, with_error, Reading, Code, code_of, code_after, going, ahead, Represents, FailedAt, is_going}
 
 -- a set of rules: the powers of the signs, and the script whose signs they are
 pub record Rules : Type 0 where
@@ -35,6 +38,11 @@ abbrev pub Ends : {A : Type 0} (tokens : List ℕ) (Q : A → Type 0) (grow : A 
 Ends tokens Q grow s' r l r' l' stack (ok a m) = Q a × Represents tokens s' (r + r') (l + l') (grow a stack) m
 Ends tokens Q grow s' r l r' l' stack (err e m) = FailedAt tokens s' e r l stack m
 
+-- the value of a rule is what a call answers
+abbrev pub Gives : {A : Type 0} → Std.Result A Diagnostic → A → Type 0
+Gives (Ok b) a = a ≡ b
+Gives (Err e) a = ⊥
+
 -- what is under construction stays as it is
 abbrev pub stack_unchanged : {A : Type 0} → A → List ℕ → List ℕ
 stack_unchanged a stack = stack
@@ -50,6 +58,11 @@ all_grown xs stack = stack ++ flatten xs
 -- `n` members, each of which took a token
 abbrev pub Collected : List ℕ → ℕ → Code → List (List ℕ) → Type 0
 Collected tokens n s xs = (length xs ≡ n) × (length xs + length (ahead tokens s) ≤ max_bytes + 1)
+
+-- a call has answered how many
+abbrev pub GivesCount : List ℕ → Code → Std.Result ℕ Diagnostic → List (List ℕ) → Type 0
+GivesCount tokens s (Ok n) xs = Collected tokens n s xs
+GivesCount tokens s (Err e) xs = ⊥
 
 -- From `r` records' and `l` list cells' room to `r'` and `l'`, taking `d` tokens or more where it
 -- does not fail.
@@ -67,24 +80,28 @@ abbrev pub Takes : List ℕ → Rule Token → Code → Code → Type 0
 Takes tokens x s s' = Refines tokens 0 0 x (λ t. t ≡ token_of s.parser.cur) stack_unchanged 1 1 8 s s'
 
 -- a type is read
-abbrev pub ReadsType : List ℕ → Rule TypeExprId → Code → Code → TypeExprId → Type 0
-ReadsType tokens x s s' r = Refines tokens 0 0 x (λ t. t ≡ r) stack_unchanged 1 0 8 s s'
+abbrev pub ReadsType : List ℕ → Rule TypeExprId → Parser → Parser → Std.Result TypeExprId Diagnostic → Type 0
+ReadsType tokens x p p' r = Refines tokens 0 0 x (Gives r) stack_unchanged 1 0 8 (code_of p) (code_after p' r)
 
 -- a node is made
-abbrev pub ReadsNode : List ℕ → Rule NodeId → Code → Code → NodeId → Type 0
-ReadsNode tokens x s s' r = Refines tokens 0 0 x (λ n. n ≡ r) stack_unchanged 1 0 8 s s'
+abbrev pub ReadsNode : List ℕ → Rule NodeId → Parser → Parser → Std.Result NodeId Diagnostic → Type 0
+ReadsNode tokens x p p' r = Refines tokens 0 0 x (Gives r) stack_unchanged 1 0 8 (code_of p) (code_after p' r)
 
 -- a step of a loop over a node goes on
-abbrev pub ReadsStep : List ℕ → Rule (ControlFlow NodeId) → Code → Code → NodeId → Type 0
-ReadsStep tokens x s s' r = Refines tokens 0 0 x (λ t. t ≡ continue r) stack_unchanged 1 0 0 s s'
+abbrev pub GivesStep : Std.Result NodeId Diagnostic → ControlFlow NodeId → Type 0
+GivesStep (Ok n) t = t ≡ continue n
+GivesStep (Err e) t = ⊥
+
+abbrev pub ReadsStep : List ℕ → Rule (ControlFlow NodeId) → Parser → Parser → Std.Result NodeId Diagnostic → Type 0
+ReadsStep tokens x p p' r = Refines tokens 0 0 x (GivesStep r) stack_unchanged 1 0 0 (code_of p) (code_after p' r)
 
 -- a loop over a node, which may take nothing
-abbrev pub LoopsNode : List ℕ → Rule NodeId → Code → Code → NodeId → Type 0
-LoopsNode tokens x s s' r = Refines tokens 0 0 x (λ n. n ≡ r) stack_unchanged 0 0 0 s s'
+abbrev pub LoopsNode : List ℕ → Rule NodeId → Parser → Parser → Std.Result NodeId Diagnostic → Type 0
+LoopsNode tokens x p p' r = Refines tokens 0 0 x (Gives r) stack_unchanged 0 0 0 (code_of p) (code_after p' r)
 
 -- a list is read and finished
-abbrev pub ReadsList : List ℕ → Rule Run → Code → Code → Run → Type 0
-ReadsList tokens x s s' r = Refines tokens 0 0 x (λ t. t ≡ r) stack_unchanged 1 1 8 s s'
+abbrev pub ReadsList : List ℕ → Rule Run → Parser → Parser → Std.Result Run Diagnostic → Type 0
+ReadsList tokens x p p' r = Refines tokens 0 0 x (Gives r) stack_unchanged 1 1 8 (code_of p) (code_after p' r)
 
 -- a member of a list is read, and its cells are pushed
 abbrev pub ReadsMember : List ℕ → Rule (List ℕ) → Code → Code → Type 0
@@ -110,12 +127,9 @@ fail_at number t = λ s. err (at_token number 0 t) s
 unfoldable pub no_docs_wait : Rule ℕ
 no_docs_wait = require_no_docs (pure 0)
 
--- the reading fails with an error, unless it has failed before
+-- the reading fails with an error
 abbrev pub failed : Code → Diagnostic → Code
 failed s e = with_error s (Failed e)
-
-abbrev pub FailsWith : Diagnostic → Code → Code → Type 0
-FailsWith e s s' = (going s ≡ true → s' ≡ failed s e) × (going s ≡ false → s' ≡ s)
 
 -- an error at a token that the code has: the start of its span has 32 bits
 unfoldable pub at_entry : ℕ → ℕ → Token → Diagnostic
@@ -145,10 +159,10 @@ unfoldable pub closed : ℕ → List (List ℕ) → Rule Run
 closed stop xs = expect stop >> alloc_slice xs
 
 -- what is pushed above `mark` cells becomes a list of `n` members
-pub record Lists {A : Type 0} (tokens : List ℕ) (x : List (List ℕ) → Rule A) (run : A) (d r' l' : ℕ) (mark n : ℕ) (s s' : Code) : Type 0 where
+pub record Lists {A : Type 0} (tokens : List ℕ) (x : List (List ℕ) → Rule A) (Q : A → Type 0) (d r' l' : ℕ) (mark n : ℕ) (s s' : Code) : Type 0 where
   pub sticky : going s ≡ false → s' ≡ s
   pub same : s'.names ≡ s.names
   pub monotone : length (ahead tokens s') ≤ length (ahead tokens s)
   pub progress : going s' ≡ true → length (ahead tokens s') + d ≤ length (ahead tokens s)
   pub simulates : (R L : ℕ) (stack : List ℕ) (xs : List (List ℕ)) (m : State) → length stack ≡ mark → length xs ≡ n → length xs + length m.left ≤ max_bytes + 1
-      → Represents tokens s R L (stack ++ flatten xs) m → Ends tokens (λ a. a ≡ run) stack_unchanged s' R L r' l' stack (x xs m)
+      → Represents tokens s R L (stack ++ flatten xs) m → Ends tokens Q stack_unchanged s' R L r' l' stack (x xs m)

@@ -1,5 +1,5 @@
 -- The lent arrays and the parser hold a state of the rules.
-use Rattle.std.specs.Prelude.{Option, None, Some, is_none, ◌≡◌, ℕ, suc, ◌+◌, ◌*◌, ◌<◌, ◌≤◌, Bool, true, false, List, [], ◌∷◌, ◌++◌, map, reverse, length, ◌==◌}
+use Rattle.std.specs.Prelude.{Option, None, Some, Result, Ok, Err, is_none, ◌≡◌, ℕ, suc, ◌+◌, ◌*◌, ◌<◌, ◌≤◌, Bool, true, false, List, [], ◌∷◌, ◌++◌, map, reverse, length, ◌==◌}
 use Rattle.std.specs.Borrow.{GName}
 use mathlib.Core.List.{flatten}
 use Rattle.lex.specs.Kind.{k_eof}
@@ -48,7 +48,7 @@ pub record Code : Type 0 where
   pub names : Names
 
 abbrev pub reading : Parser → Reading
-reading p = record { cur = p.cur; at = p.at; used = p.used; error = p.error }
+reading p = record { cur = p.cur; at = p.at; used = p.used; error = Going }
 
 abbrev pub code_of : Parser → Code
 code_of p = record {
@@ -76,6 +76,15 @@ with_types s xs = record s { types = xs }
 
 abbrev pub with_lists : Code → List ℕ → Code
 with_lists s xs = record s { lists = xs }
+
+-- the error that a call has answered, if any
+abbrev pub error_of : {A : Type 0} → Result A Diagnostic → Option Diagnostic
+error_of (Ok a) = Going
+error_of (Err e) = Failed e
+
+-- the code with what a call has answered: an error is the reading's
+abbrev pub code_after : {A : Type 0} → Parser → Result A Diagnostic → Code
+code_after p r = with_error (code_of p) (error_of r)
 
 abbrev pub going : Code → Bool
 going s = is_going s.parser.error

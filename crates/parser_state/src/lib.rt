@@ -2,19 +2,28 @@
 // docs, and fail.
 #![tactic(auto)]
 
-ghost use Rattle.std.specs.Prelude.{◌≡◌, ℕ, suc, ◌+◌, ◌-◌, ◌*◌, ◌%◌, ◌<◌, ◌≤◌, true, false, List, [], ◌∷◌, ◌++◌, reverse, length, take, drop, ◌≢◌};
+ghost use Rattle.std.specs.Prelude.{◌≡◌, ◌≢◌, ℕ, ◌+◌, ◌-◌, ◌*◌, ◌<◌, ◌≤◌, List, [], ◌∷◌, ◌++◌};
+ghost use Rattle.std.specs.Prelude.{reverse, length, take, drop, IfOk};
 ghost use Rattle.std.proofs.Math.Seq.{paste};
 ghost use Rattle.lex.specs.Answer.{max_bytes};
 ghost use Rattle.tokens.specs.Table.{token_of, token_at};
-ghost use Rattle.ast.specs.Layout.{node_width, type_width, padded, node_cells, type_cells, token_cells};
-ghost use Rattle.rules.specs.Combinators.{continue, at_token, advance, expect, expect_ident, reject_kind, push_node, push_node_and, push_type, alloc_slice, keep_doc, collect_docs, take_docs};
+ghost use Rattle.ast.specs.Layout.{node_width, type_width, padded, node_cells, type_cells};
+ghost use Rattle.ast.specs.Layout.{token_cells};
+ghost use Rattle.rules.specs.Combinators.{Rule, continue, advance, expect, expect_ident};
+ghost use Rattle.rules.specs.Combinators.{if_kind, fail_expecting, reject_kind};
+ghost use Rattle.rules.specs.Combinators.{push_node, push_node_and, push_type, alloc_slice};
+ghost use Rattle.rules.specs.Combinators.{list_until, keep_doc, collect_docs, take_docs};
 ghost use Rattle.ast.specs.declared.Node.{Node};
 ghost use Rattle.ast.specs.declared.Node.TheVariants as N;
 ghost use Rattle.ast.specs.declared.TypeExpr.{TypeExpr};
-ghost use Rattle.parser_state.specs.Represents.{code_of, reading, is_going, with_lists, IsPlace};
-ghost use Rattle.parser_state.specs.Keeps.{KeepsAll, KeepsNodesTypes};
-ghost use Rattle.parser_state.specs.Keeps.{KeepsNodesLists, KeepsTypesLists};
-ghost use Rattle.parser_state.specs.Refines.{Refines, stack_unchanged, Takes, Refuses, FailsWith, Pushes, Lists, fail_at, no_docs_wait, at_entry, doc_at, member_follows, doc_follows, closed};
+ghost use Rattle.parser_state.specs.Represents.{code_of, code_after, reading, with_lists, IsPlace};
+ghost use Rattle.parser_state.specs.Keeps.{KeepsAll, KeepsNodes, KeepsTypes};
+ghost use Rattle.parser_state.specs.Keeps.{KeepsNodesTypes, KeepsNodesLists, KeepsTypesLists};
+ghost use Rattle.parser_state.specs.Refines.{Refines, stack_unchanged, all_grown, Takes, Gives};
+ghost use Rattle.parser_state.specs.Refines.{GivesCount, Refuses, Pushes, Lists, ReadsList, failed};
+ghost use Rattle.parser_state.specs.Refines.{fail_at, no_docs_wait, at_entry, doc_at, doc_follows};
+ghost use Rattle.parser_state.specs.Refines.{member_follows, closed};
+ghost use Rattle.parser_state.specs.Members.{members_until, ReadsEach, KeepsEach};
 
 use ast::lent::CELLS_PER_BYTE;
 use ast::{Node, NodeId, NodeKind, Run, TypeExpr, TypeExprId};
@@ -23,7 +32,7 @@ use tokens::{Entry, token_at};
 
 // How much is made: node and type records, value numbers, list cells; the pending docs; and the
 // cells of lists under construction.
-#[derive(Clone, Copy)]
+#[derive(Clone, Copy, Default)]
 pub struct Used {
     pub nodes: u32,
     pub values: u32,
@@ -33,8 +42,11 @@ pub struct Used {
     pub scratch: u32,
 }
 
-// The arrays that are written, the token being read and the number of its record, what is used of
-// the arrays, and the error of a reading that has failed.
+// The arrays that are written, the token being read and the number of its record, and what is used
+// of the arrays. The counts stand beside the arrays since these are lent by the C interface and
+// filled in place, types and lists from both ends. The token table is no field: what reads no token
+// promises for every table. A reader that fails answers its error; only collecting mode goes on
+// behind one.
 #[derive(Drop)]
 pub struct Parser<'a> {
     pub nodes: &'a mut [u32],
@@ -43,7 +55,6 @@ pub struct Parser<'a> {
     pub cur: Entry,
     pub at: u32,
     pub used: Used,
-    pub error: Option<Diagnostic>,
 }
 
 // The most list cells that a reading makes.
@@ -58,6 +69,20 @@ fn put(dst: &mut [u32], at: usize, cells: &[u32])
     ensures { dst.new ≡ paste dst.old at cells.now (length cells.now) }
 {
     dst[at..at + cells.len()].copy_from_slice(cells);
+}
+
+// The cells of a record: those at its head, its fields, and zeros behind them.
+fn record<const H: usize, const N: usize, const W: usize>(
+    head: [u32; H],
+    fields: [u32; N],
+) -> [u32; W]
+    requires { H + N ≤ W }
+    ensures { result ≡ padded W (head.entry ++ fields.entry) }
+{
+    let mut cells = [0; W];
+    put(&mut cells, 0, &head);
+    put(&mut cells, H, &fields);
+    cells
 }
 
 // The last of the `scratch` cells at the far end, which lie in reverse, go to the front as a list.
@@ -84,19 +109,26 @@ fn span_start(t: Entry) -> u32
     }
 }
 
+// An error that names a token.
+#[tactic(auto, unfolding(crate::specs::Refines::at_entry))]
+fn at_token(number: u32, wanted: u32, t: Entry) -> Diagnostic
+    ensures { result ≡ at_entry number wanted (token_of t) }
+{
+    Diagnostic {
+        number,
+        start: span_start(t),
+        len: t.len,
+        wanted,
+        seen: t.kind,
+    }
+}
+
 impl Parser<'_> {
     pub const MAX_BYTES: usize = lex::MAX_BYTES;
 
     pub const MAX_LEVELS: usize = 128;
 
     // ---- tokens
-
-    // The reading has not failed.
-    pub fn going(&self) -> bool
-        ensures { result ≡ is_going self.now.error }
-    {
-        self.error.is_none()
-    }
 
     // The kind of the token being read.
     pub fn kind(&self) -> u32
@@ -111,163 +143,157 @@ impl Parser<'_> {
         ensures reads { Takes tokens.now advance (code_of self.old) (code_of self.new) }
         ensures keeps { KeepsAll self.old self.new }
     {
-        if !self.going() {
-            return;
-        }
         let i = self.at;
         if MAX_BYTES <= i as usize {
             // no script has more tokens
-            self.cur = Entry {
-                kind: Type::EOF,
-                start: 0,
-                len: 3,
-            };
+            self.cur = Entry::EOF;
             return;
         }
         self.cur = token_at(tokens, i as usize + 1);
         self.at = i + 1;
     }
 
-    // The reading fails at a token.
-    fn fail_with(&mut self, number: u32, wanted: u32, t: Entry)
-        ensures reads { FailsWith (at_entry number wanted (token_of t)) (code_of self.old)
-            (code_of self.new) }
+    // The error at the token being read.
+    pub fn fail_expecting(&self, number: u32, wanted: u32) -> Diagnostic
+        ensures { let before = code_of self.now in
+            (tokens : List ℕ) → Refuses tokens number wanted before (failed before result) }
+    {
+        at_token(number, wanted, self.cur)
+    }
+
+    // The error at the token of record `at`.
+    pub fn fail_at(&self, tokens: &[u32], number: u32, at: u32) -> Diagnostic
+        ensures { let before = code_of self.now in
+            Refines tokens.now 0 0 (fail_at {A = ℕ} number (token_at tokens.now at))
+            (λ n. n ≡ 0) stack_unchanged 0 0 0 before (failed before result) }
+    {
+        at_token(number, 0, token_at(tokens, at as usize))
+    }
+
+    // A token of this kind is taken; before another the reading fails with this number.
+    pub fn expect_or(
+        &mut self,
+        tokens: &[u32],
+        kind: u32,
+        number: u32,
+        wanted: u32,
+    ) -> Result<(), Diagnostic>
+        requires { 1 < kind }
+        ensures reads { Takes tokens.now (if_kind kind advance (fail_expecting number wanted))
+            (code_of self.old) (code_after self.new result) }
         ensures keeps { KeepsAll self.old self.new }
     {
-        if self.going() {
-            self.error = Some(Diagnostic {
-                number,
-                start: span_start(t),
-                len: t.len,
-                wanted,
-                seen: t.kind,
-            });
+        if self.kind() == kind {
+            self.advance(tokens);
+            Ok(())
+        } else {
+            Err(self.fail_expecting(number, wanted))
         }
-    }
-
-    // The reading fails at the token being read.
-    pub fn fail_expecting(&mut self, number: u32, wanted: u32)
-        ensures reads { (tokens : List ℕ) →
-            Refuses tokens number wanted (code_of self.old) (code_of self.new) }
-        ensures keeps { KeepsAll self.old self.new }
-    {
-        self.fail_with(number, wanted, self.cur);
-    }
-
-    // The reading fails at the token of record `at`.
-    pub fn fail_at(&mut self, tokens: &[u32], number: u32, at: u32)
-        ensures reads { Refines tokens.now 0 0 (fail_at {A = ℕ} number (token_at tokens.now at))
-            (λ n. n ≡ 0) stack_unchanged 0 0 0 (code_of self.old) (code_of self.new) }
-        ensures keeps { KeepsAll self.old self.new }
-    {
-        let t = token_at(tokens, at as usize);
-        self.fail_with(number, 0, t);
     }
 
     // A token of the wanted kind is taken.
-    pub fn expect(&mut self, tokens: &[u32], wanted: u32)
+    pub fn expect(&mut self, tokens: &[u32], wanted: u32) -> Result<(), Diagnostic>
         requires { 1 < wanted }
-        ensures reads { Takes tokens.now (expect wanted) (code_of self.old) (code_of self.new) }
+        ensures reads { Takes tokens.now (expect wanted) (code_of self.old)
+            (code_after self.new result) }
         ensures keeps { KeepsAll self.old self.new }
     {
-        if self.kind() == wanted {
-            self.advance(tokens);
-        } else {
-            self.fail_expecting(Diagnostic::EXPECTED_TOKEN, wanted);
-        }
+        self.expect_or(tokens, wanted, Diagnostic::EXPECTED_TOKEN, wanted)
     }
 
     // A name is taken.
-    pub fn expect_ident(&mut self, tokens: &[u32])
-        ensures reads { Takes tokens.now expect_ident (code_of self.old) (code_of self.new) }
+    pub fn expect_ident(&mut self, tokens: &[u32]) -> Result<(), Diagnostic>
+        ensures reads { Takes tokens.now expect_ident (code_of self.old)
+            (code_after self.new result) }
         ensures keeps { KeepsAll self.old self.new }
     {
-        if self.kind() == Type::IDENT {
-            self.advance(tokens);
-        } else {
-            self.fail_expecting(Diagnostic::EXPECTED_IDENTIFIER, 0);
-        }
+        self.expect_or(tokens, Type::IDENT, Diagnostic::EXPECTED_IDENTIFIER, 0)
     }
 
     // The reading fails at a token of this kind, with this number.
-    pub fn reject_kind(&mut self, rejected: u32, number: u32)
-        ensures reads { (tokens : List ℕ) →
+    pub fn reject_kind(&self, rejected: u32, number: u32) -> Result<(), Diagnostic>
+        ensures { (tokens : List ℕ) →
             Refines tokens 0 0 (reject_kind rejected number) (λ n. n ≡ 0) stack_unchanged 0 0 0
-            (code_of self.old) (code_of self.new) }
-        ensures keeps { KeepsAll self.old self.new }
+            (code_of self.now) (code_after self.now result) }
     {
         if self.kind() == rejected {
-            self.fail_expecting(number, 0);
+            return Err(self.fail_expecting(number, 0));
         }
+        Ok(())
     }
 
     // Another member of a list follows.
     pub fn member_follows(&self, stop: u32) -> bool
         ensures { result ≡ member_follows (reading self.now) stop }
     {
-        if !self.going() {
-            return false;
-        }
         let k = self.kind();
-        if k == Type::EOF {
-            return false;
-        }
-        k != stop
+        k != Type::EOF && k != stop
     }
 
-    // The reading has not failed, and the token being read is a doc.
+    // The token being read is a doc.
     fn doc_follows(&self) -> bool
         ensures { result ≡ doc_follows (reading self.now) }
     {
-        if !self.going() {
-            return false;
-        }
         self.kind() == Type::DOC
     }
 
     // ---- records
 
-    // Where a record goes that has `made` before it, if the reading has not failed and there is
-    // room among `len` cells.
+    // Where a record goes that has `made` before it, if there is room among `len` cells.
     fn place(&self, made: u32, width: usize, len: usize) -> Option<usize>
         requires { width ≤ node_width }
         ensures { IsPlace (code_of self.now) made width len result }
     {
         let at = width * made as usize;
-        if self.going() && (made as usize) < MAX_BYTES && at + width <= len {
+        if (made as usize) < MAX_BYTES && at + width <= len {
             Some(at)
         } else {
             None
         }
     }
 
-    // The next type, where there is room.
-    pub fn push_type(&mut self, cells: [u32; TypeExpr::WIDTH]) -> TypeExprId
+    // No reading meets that there is no room (`Credit`): number 0, an empty list or no more is what
+    // is answered then, here and below; an Option would be tested by callers that have no error.
+
+    // The next type, where there is room: its kind and its fields, which are seven at most.
+    pub fn push_type<const N: usize>(&mut self, kind: u32, fields: [u32; N]) -> TypeExprId
         ensures reads { (tokens : List ℕ) (t : TypeExpr) →
-            cells ≡ type_cells t
+            padded type_width (kind ∷ fields.entry) ≡ type_cells t
             → Refines tokens 1 0 (push_type t) (λ i. i ≡ result) stack_unchanged 0 0 0
             (code_of self.old) (code_of self.new) }
         ensures keeps { KeepsNodesLists self.old self.new }
     {
+        if TypeExpr::WIDTH - 1 < N {
+            return TypeExprId(0);
+        }
         let n = self.used.types;
         let Some(at) = self.place(n, TypeExpr::WIDTH, self.types.len()) else {
             return TypeExprId(0);
         };
         self.used.types = n + 1;
+        let cells: [u32; TypeExpr::WIDTH] = record([kind], fields);
         put(self.types, at, &cells);
         TypeExprId(n)
     }
 
-    // The next node, where there is room. `more` value numbers go with it that no node has.
-    fn push_node(&mut self, cells: [u32; Node::WIDTH], more: u32) -> NodeId
+    // The next node, where there is room: its kind, its value number and its fields, which are
+    // fourteen at most. `more` value numbers go with it that no node has. Callers list the cells of
+    // tokens and runs: Rust joins no arrays, so a `From<Entry>` for three cells would not help.
+    // Each node has its own function, which promises its rule: a `Node` in between would be built
+    // only to be taken apart.
+    pub fn push_node<const N: usize>(&mut self, kind: u32, fields: [u32; N], more: u32) -> NodeId
         requires { more ≤ max_bytes }
         ensures reads { (tokens : List ℕ) (f : ℕ → Node) (rooms : ℕ) →
+            let id = self.old.used.values in
             1 + more ≤ 40000 * rooms
-            → cells ≡ node_cells (f self.old.used.values)
+            → padded node_width (kind ∷ id ∷ fields.entry) ≡ node_cells (f id)
             → Refines tokens rooms 0 (push_node_and more f) (λ i. i ≡ result) stack_unchanged 0 0 0
             (code_of self.old) (code_of self.new) }
         ensures keeps { KeepsTypesLists self.old self.new }
     {
+        if Node::WIDTH - 2 < N {
+            return NodeId(0);
+        }
         let n = self.used.nodes;
         let Some(at) = self.place(n, Node::WIDTH, self.nodes.len()) else {
             return NodeId(0);
@@ -278,6 +304,7 @@ impl Parser<'_> {
         }
         self.used.nodes = n + 1;
         self.used.values = values + (1 + more);
+        let cells: [u32; Node::WIDTH] = record([kind, values], fields);
         put(self.nodes, at, &cells);
         NodeId(n)
     }
@@ -292,13 +319,7 @@ impl Parser<'_> {
             (code_of self.old) (code_of self.new) }
         ensures keeps { KeepsTypesLists self.old self.new }
     {
-        let id = self.used.values;
-        self.push_node(
-            [
-                kind, id, t.kind, t.start, t.len, a, b, 0, 0, 0, 0, 0, 0, 0, 0, 0,
-            ],
-            0,
-        )
+        self.push_node(kind, [t.kind, t.start, t.len, a, b], 0)
     }
 
     // A call.
@@ -308,28 +329,7 @@ impl Parser<'_> {
             stack_unchanged 0 0 0 (code_of self.old) (code_of self.new) }
         ensures keeps { KeepsTypesLists self.old self.new }
     {
-        let id = self.used.values;
-        self.push_node(
-            [
-                NodeKind::CALL,
-                id,
-                target.0,
-                args.start,
-                args.len,
-                0,
-                0,
-                0,
-                0,
-                0,
-                0,
-                0,
-                0,
-                0,
-                0,
-                0,
-            ],
-            0,
-        )
+        self.push_node(NodeKind::CALL, [target.0, args.start, args.len], 0)
     }
 
     // A field of a node.
@@ -339,28 +339,8 @@ impl Parser<'_> {
             (λ i. i ≡ result) stack_unchanged 0 0 0 (code_of self.old) (code_of self.new) }
         ensures keeps { KeepsTypesLists self.old self.new }
     {
-        let id = self.used.values;
-        self.push_node(
-            [
-                NodeKind::FIELD,
-                id,
-                target.0,
-                name.kind,
-                name.start,
-                name.len,
-                0,
-                0,
-                0,
-                0,
-                0,
-                0,
-                0,
-                0,
-                0,
-                0,
-            ],
-            0,
-        )
+        let fields = [target.0, name.kind, name.start, name.len];
+        self.push_node(NodeKind::FIELD, fields, 0)
     }
 
     // A let.
@@ -370,28 +350,8 @@ impl Parser<'_> {
             (λ i. i ≡ result) stack_unchanged 0 0 0 (code_of self.old) (code_of self.new) }
         ensures keeps { KeepsTypesLists self.old self.new }
     {
-        let id = self.used.values;
-        self.push_node(
-            [
-                NodeKind::LET,
-                id,
-                docs.start,
-                docs.len,
-                name.kind,
-                name.start,
-                name.len,
-                rhs.0,
-                0,
-                0,
-                0,
-                0,
-                0,
-                0,
-                0,
-                0,
-            ],
-            0,
-        )
+        let fields = [docs.start, docs.len, name.kind, name.start, name.len, rhs.0];
+        self.push_node(NodeKind::LET, fields, 0)
     }
 
     // A fn, with a value number more for each argument.
@@ -410,28 +370,19 @@ impl Parser<'_> {
             (λ i. i ≡ result) stack_unchanged 0 0 0 (code_of self.old) (code_of self.new) }
         ensures keeps { KeepsTypesLists self.old self.new }
     {
-        let id = self.used.values;
-        self.push_node(
-            [
-                NodeKind::FN,
-                id,
-                docs.start,
-                docs.len,
-                name.kind,
-                name.start,
-                name.len,
-                args.start,
-                args.len,
-                return_type.0,
-                body.start,
-                body.len,
-                0,
-                0,
-                0,
-                0,
-            ],
+        let fields = [
+            docs.start,
+            docs.len,
+            name.kind,
+            name.start,
+            name.len,
+            args.start,
             args.len,
-        )
+            return_type.0,
+            body.start,
+            body.len,
+        ];
+        self.push_node(NodeKind::FN, fields, args.len)
     }
 
     // A match.
@@ -441,28 +392,16 @@ impl Parser<'_> {
             (λ i. i ≡ result) stack_unchanged 0 0 0 (code_of self.old) (code_of self.new) }
         ensures keeps { KeepsTypesLists self.old self.new }
     {
-        let id = self.used.values;
-        self.push_node(
-            [
-                NodeKind::MATCH,
-                id,
-                cases.start,
-                cases.len,
-                default.kind,
-                default.start,
-                default.len,
-                body.start,
-                body.len,
-                0,
-                0,
-                0,
-                0,
-                0,
-                0,
-                0,
-            ],
-            0,
-        )
+        let fields = [
+            cases.start,
+            cases.len,
+            default.kind,
+            default.start,
+            default.len,
+            body.start,
+            body.len,
+        ];
+        self.push_node(NodeKind::MATCH, fields, 0)
     }
 
     // An extern.
@@ -473,28 +412,11 @@ impl Parser<'_> {
             (λ i. i ≡ result) stack_unchanged 0 0 0 (code_of self.old) (code_of self.new) }
         ensures keeps { KeepsTypesLists self.old self.new }
     {
-        let id = self.used.values;
-        self.push_node(
-            [
-                NodeKind::EXTERN,
-                id,
-                src.kind,
-                src.start,
-                src.len,
-                docs.start,
-                docs.len,
-                name.kind,
-                name.start,
-                name.len,
-                fns.start,
-                fns.len,
-                0,
-                0,
-                0,
-                0,
-            ],
-            0,
-        )
+        let fields = [
+            src.kind, src.start, src.len, docs.start, docs.len, name.kind, name.start, name.len,
+            fns.start, fns.len,
+        ];
+        self.push_node(NodeKind::EXTERN, fields, 0)
     }
 
     // ---- lists
@@ -507,9 +429,6 @@ impl Parser<'_> {
             (code_of self.new) }
         ensures keeps { KeepsNodesTypes self.old self.new }
     {
-        if !self.going() {
-            return;
-        }
         let n = self.used.scratch as usize + cells.len();
         if MAX_LISTS < n {
             return;
@@ -553,15 +472,12 @@ impl Parser<'_> {
     // The cells above the mark become a list.
     pub fn alloc_slice(&mut self, mark: u32, members: u32) -> Run
         ensures reads { ((tokens : List ℕ) →
-            Lists tokens alloc_slice result 0 0 0 mark members (code_of self.old)
+            Lists tokens alloc_slice (λ run. run ≡ result) 0 0 0 mark members (code_of self.old)
             (code_of self.new))
             × (result.len ≤ max_bytes) }
         ensures keeps { KeepsNodesTypes self.old self.new }
     {
-        let none = Run { start: 0, len: 0 };
-        if !self.going() {
-            return none;
-        }
+        let none = Run::default();
         if MAX_BYTES < members as usize {
             return none;
         }
@@ -591,15 +507,70 @@ impl Parser<'_> {
     }
 
     // The end of a list: the closing token, then `alloc_slice`.
-    pub fn close(&mut self, tokens: &[u32], stop: u32, mark: u32, members: u32) -> Run
+    pub fn close(
+        &mut self,
+        tokens: &[u32],
+        stop: u32,
+        mark: u32,
+        members: u32,
+    ) -> Result<Run, Diagnostic>
         requires { 1 < stop }
-        ensures reads { (Lists tokens.now (closed stop) result 1 1 8 mark members (code_of self.old)
-            (code_of self.new))
-            × (result.len ≤ max_bytes) }
+        ensures reads { Lists tokens.now (closed stop) (Gives result) 1 1 8 mark members
+            (code_of self.old) (code_after self.new result) }
+        ensures short { IfOk result (λ run. run.len ≤ max_bytes) }
         ensures keeps { KeepsNodesTypes self.old self.new }
     {
-        self.expect(tokens, stop);
-        self.alloc_slice(mark, members)
+        self.expect(tokens, stop)?;
+        Ok(self.alloc_slice(mark, members))
+    }
+
+    // Members up to a closing token, each of which pushes its cells, and the token: how many.
+    pub fn members_until<F: Fn(&mut Parser) -> Result<(), Diagnostic>>(
+        &mut self,
+        tokens: &[u32],
+        stop: u32,
+        member: F,
+    ) -> Result<u32, Diagnostic>
+        requires stop { 1 < stop }
+        requires callable { F.IsAlwaysCallable member }
+        requires reads { (item : Rule (List ℕ)) × ReadsEach tokens.now item (F.post member) }
+        ensures reads { (item : Rule (List ℕ)) → ReadsEach tokens.now item (F.post member)
+            → Refines tokens.now 0 0 (members_until stop item)
+            (GivesCount tokens.now (code_of self.new) result) all_grown 1 1 8 (code_of self.old)
+            (code_after self.new result) }
+        ensures nodes { KeepsEach KeepsNodes (F.post member) → KeepsNodes self.old self.new }
+        ensures types { KeepsEach KeepsTypes (F.post member) → KeepsTypes self.old self.new }
+    {
+        // counted by hand: `from_fn` over this test and call, then `try_fold`, is the same loop in
+        // more words
+        let mut members: u32 = 0;
+        while self.member_follows(stop) {
+            member(self)?;
+            members = members.wrapping_add(1);
+        }
+        self.expect(tokens, stop)?;
+        Ok(members)
+    }
+
+    // Members up to a closing token, which become a list.
+    pub fn list_until<F: Fn(&mut Parser) -> Result<(), Diagnostic>>(
+        &mut self,
+        tokens: &[u32],
+        stop: u32,
+        member: F,
+    ) -> Result<Run, Diagnostic>
+        requires stop { 1 < stop }
+        requires callable { F.IsAlwaysCallable member }
+        requires reads { (item : Rule (List ℕ)) × ReadsEach tokens.now item (F.post member) }
+        ensures reads { (item : Rule (List ℕ)) → ReadsEach tokens.now item (F.post member)
+            → ReadsList tokens.now (list_until stop item) self.old self.new result }
+        ensures short { IfOk result (λ run. run.len ≤ max_bytes) }
+        ensures nodes { KeepsEach KeepsNodes (F.post member) → KeepsNodes self.old self.new }
+        ensures types { KeepsEach KeepsTypes (F.post member) → KeepsTypes self.old self.new }
+    {
+        let mark = self.used.scratch;
+        let members = self.members_until(tokens, stop, member)?;
+        Ok(self.alloc_slice(mark, members))
     }
 
     // ---- docs
@@ -655,10 +626,7 @@ impl Parser<'_> {
             × (self.new.cur ≡ self.old.cur) }
         ensures keeps { KeepsNodesTypes self.old self.new }
     {
-        let none = Run { start: 0, len: 0 };
-        if !self.going() {
-            return none;
-        }
+        let none = Run::default();
         let docs = self.used.docs;
         let cells = self.used.cells;
         let at = cells as usize;
@@ -698,32 +666,27 @@ impl Parser<'_> {
 
     // The reading fails where there are pending docs: at the last of them where the script ends,
     // else at the first.
-    pub fn require_no_docs(&mut self)
-        ensures reads { (tokens : List ℕ) →
-            Refines tokens 0 0 no_docs_wait (λ n. n ≡ 0) stack_unchanged 0 0 0 (code_of self.old)
-            (code_of self.new) }
-        ensures keeps { KeepsAll self.old self.new }
+    pub fn require_no_docs(&self) -> Result<(), Diagnostic>
+        ensures { (tokens : List ℕ) →
+            Refines tokens 0 0 no_docs_wait (λ n. n ≡ 0) stack_unchanged 0 0 0
+            (code_of self.now) (code_after self.now result) }
     {
-        if !self.going() {
-            return;
-        }
         let docs = self.used.docs;
         if docs == 0 {
-            return;
+            return Ok(());
         }
         if MAX_BYTES < docs as usize {
-            return;
+            return Ok(());
         }
         let n = 3 * docs as usize;
         if self.types.len() < n {
-            return;
+            return Ok(());
         }
         if self.kind() == Type::EOF {
             let last = self.doc_at(self.types.len() - n);
-            self.fail_with(Diagnostic::DOCS_ATTACHED_TO_NOTHING, 0, last);
-            return;
+            return Err(at_token(Diagnostic::DOCS_ATTACHED_TO_NOTHING, 0, last));
         }
         let first = self.doc_at(self.types.len() - 3);
-        self.fail_with(Diagnostic::DOCS_BEFORE_SOMETHING_ELSE, 0, first);
+        Err(at_token(Diagnostic::DOCS_BEFORE_SOMETHING_ELSE, 0, first))
     }
 }

@@ -7,7 +7,7 @@ use native.Mathlib.Omega.{arith}
 use native.Mathlib.Numerals.{add-one}
 use lib.Dec.{leb, ltb}
 use lib.ListN.{length, get_or, set, take, drop, length-append, length-set}
-use lib.Seq.{drop-cons, take-suc, take_all, set_at, length-take-le}
+use lib.Seq.{drop-cons, take-suc, set_at, length-take-le}
 use borrow.Author.Tests.{lt-ltb, le-ltb, ltb-true, ltb-false, lt-leb, le-leb, leb-true, leb-false}
 use Rattle.std.specs.Bool.{MatchBool}
 use Rattle.std.specs.List.Sorted.{IsNonDecreasing}
@@ -111,10 +111,6 @@ module _ (script : List ℕ) (short : length script ≤ max_bytes) where
 -- ---- how the call ends
 
 module _ (script ps places : List ℕ) where
-  pub ends_long : max_bytes < length script → outcome (refused 1) places ≡ line_columns script ps places
-  unfolding line_columns
-  ends_long h = rw (lt-ltb max_bytes (length script) h)
-
   module _ (short : length script ≤ max_bytes) where
     pub ends_cramped : length places < 2 * length ps → outcome (refused 50) places ≡ line_columns script ps places
     unfolding line_columns
@@ -212,8 +208,3 @@ module _ (script ps places places' : List ℕ) (at : ℕ) (place : Place) (i : �
         cells = cells;
         size = length-set (set places' (2 * i) p.line) (2 * i + 1) p.column ∙ length-set places' (2 * i) p.line ∙ r.size;
       }
-
-pub reached-all : (script ps places places' : List ℕ) (at : ℕ) (place : Place) (i : ℕ) → length ps ≤ i → Reached script ps places places' at place i → places' ≡ cells_of script ps ++ drop (length (cells_of script ps)) places
-reached-all script ps places places' at place i h r =
-    let n : 2 * i ≡ length (cells_of script ps) = let k = cells-length script ps in let w = r.within in omega arith in
-    r.cells ∙ ap (λ (t : List ℕ). cells_of script t ++ drop (2 * i) places) (take_all i ps h) ∙ ap (λ (k : ℕ). cells_of script ps ++ drop k places) n

@@ -87,57 +87,79 @@ module _ (b : ℕ) (bs : List ℕ) where
   unfolding since
   since_other n e = rw (ne_eqb b 10 e)
 
--- the place behind a byte
-module _ (p : Place) (b : ℕ) (bs : List ℕ) where
-  onward-feed : b ≡ 10 → onward (record { line = p.line + 1; column = 1 }) bs ≡ onward p (b ∷ bs)
-  unfolding onward
-  onward-feed e =
-      let l : p.line + 1 + feeds bs ≡ p.line + suc (feeds bs) = omega arith in
-      rw (feeds_feed b bs e, since_feed b bs (p.column - 1) e, l)
+-- what is counted after `i` bytes, `n` having been passed since the last line feed before them
+pub record Counted (n : ℕ) (bs : List ℕ) (i f s : ℕ) : Type 0 where
+  pub at : i ≤ length bs
+  pub lines : f ≤ i
+  pub columns : s ≤ n + i
+  pub fed : f + feeds (drop i bs) ≡ feeds bs
+  pub passed : since s (drop i bs) ≡ since n bs
 
-  onward-other : (b ≡ 10 → ⊥) → 1 ≤ p.column → onward (record { line = p.line; column = p.column + columns_of b }) bs ≡ onward p (b ∷ bs)
-  unfolding onward
-  onward-other n h =
-      let l : p.column + columns_of b - 1 ≡ p.column - 1 + columns_of b = omega arith in
-      rw (feeds_other b bs n, since_other b bs (p.column - 1) n, l)
-
--- behind `i` bytes the place is `q`
-pub record Walked (p : Place) (bs : List ℕ) (i : ℕ) (q : Place) : Type 0 where
-  pub one : 1 ≤ q.column
-  pub column : q.column ≤ p.column + i
-  pub line : q.line ≤ p.line + i
-  pub rest : onward q (drop i bs) ≡ onward p bs
-
-pub walked_none : (p : Place) (bs : List ℕ) → 1 ≤ p.column → Walked p bs 0 p
-walked_none p bs h = record { one = h; column = omega arith; line = omega arith; rest = refl }
-
-module _ (p : Place) (bs : List ℕ) (i : ℕ) (q : Place) (h : i < length bs) (w : Walked p bs i q) where
+module _ (n : ℕ) (bs : List ℕ) (i f s : ℕ) (h : i < length bs) (c : Counted n bs i f s) where
   next : drop i bs ≡ get_or bs i 0 ∷ drop (i + 1) bs
   next = rw add-one (drop-cons bs i 0 h)
 
+  pub counted_feed : get_or bs i 0 ≡ 10 → Counted n bs (i + 1) (f + 1) 0
+  counted_feed e =
+      let g : feeds (drop i bs) ≡ suc (feeds (drop (i + 1) bs)) = ap feeds next ∙ feeds_feed (get_or bs i 0) (drop (i + 1) bs) e in
+      let k : f + feeds (drop i bs) ≡ feeds bs = c.fed in
+      record {
+        at = omega arith;
+        lines = omega (arith, c.lines);
+        columns = omega arith;
+        fed = omega arith;
+        passed = sym (since_feed (get_or bs i 0) (drop (i + 1) bs) s e) ∙ ap (since s) (sym next) ∙ c.passed;
+      }
+
+  pub counted_other : (get_or bs i 0 ≡ 10 → ⊥) → Counted n bs (i + 1) f (s + columns_of (get_or bs i 0))
+  counted_other e =
+      let g : feeds (drop i bs) ≡ feeds (drop (i + 1) bs) = ap feeds next ∙ feeds_other (get_or bs i 0) (drop (i + 1) bs) e in
+      let k : f + feeds (drop i bs) ≡ feeds bs = c.fed in
+      record {
+        at = omega arith;
+        lines = omega (arith, c.lines);
+        columns = omega (arith, c.columns, columns_le (get_or bs i 0));
+        fed = omega arith;
+        passed = sym (since_other (get_or bs i 0) (drop (i + 1) bs) s e) ∙ ap (since s) (sym next) ∙ c.passed;
+      }
+
+pub counted-all : (p : Place) (bs : List ℕ) (i f s : ℕ) → length bs ≤ i → Counted (p.column - 1) bs i f s → record { line = p.line + f; column = 1 + s } ≡ onward p bs
+unfolding onward feeds since
+counted-all p bs i f s h c =
+    let d : drop i bs ≡ [] = drop_of_length-le bs h in
+    let k : f ≡ feeds bs = sym (add-zero f) ∙ ap (λ (l : List ℕ). f + feeds l) (sym d) ∙ c.fed in
+    let q : s ≡ since (p.column - 1) bs = ap (since s) (sym d) ∙ c.passed in
+    rw (← k, ← q)
+
+-- behind `i` bytes the place is `q`
+pub record Walked (p : Place) (bs : List ℕ) (i : ℕ) (q : Place) : Type 0 where
+  pub feeds : ℕ
+  pub since : ℕ
+  pub line : q.line ≡ p.line + feeds
+  pub column : q.column ≡ 1 + since
+  pub counted : Counted (p.column - 1) bs i feeds since
+
+module _ (p : Place) (bs : List ℕ) (i : ℕ) (q : Place) (h : i < length bs) (w : Walked p bs i q) where
   pub walked_feed : get_or bs i 0 ≡ 10 → Walked p bs (i + 1) (record { line = q.line + 1; column = 1 })
   walked_feed e = record {
-    one = omega arith;
-    column = omega (arith, w.one, w.column);
+    feeds = w.feeds + 1;
+    since = 0;
     line = omega (arith, w.line);
-    rest = onward-feed q (get_or bs i 0) (drop (i + 1) bs) e ∙ ap (onward q) (sym next) ∙ w.rest;
+    column = refl;
+    counted = counted_feed _ bs i _ _ h w.counted e;
   }
 
   pub walked_other : (get_or bs i 0 ≡ 10 → ⊥) → Walked p bs (i + 1) (record { line = q.line; column = q.column + columns_of (get_or bs i 0) })
   walked_other n = record {
-    one = omega (arith, w.one);
-    column = omega (arith, w.column, columns_le (get_or bs i 0));
-    line = omega (arith, w.line);
-    rest = onward-other q (get_or bs i 0) (drop (i + 1) bs) n w.one ∙ ap (onward q) (sym next) ∙ w.rest;
+    feeds = w.feeds;
+    since = w.since + columns_of (get_or bs i 0);
+    line = w.line;
+    column = omega (arith, w.column);
+    counted = counted_other _ bs i _ _ h w.counted n;
   }
 
 pub walked-all : (p : Place) (bs : List ℕ) (i : ℕ) (q : Place) → length bs ≤ i → Walked p bs i q → q ≡ onward p bs
-unfolding onward feeds since
-walked-all p bs i q h w =
-    let d : drop i bs ≡ [] = drop_of_length-le bs h in
-    let k : 1 + (q.column - 1) ≡ q.column = omega (arith, w.one) in
-    let e : onward q [] ≡ q = rw (add-zero, k) in
-    sym e ∙ ap (onward q) (sym d) ∙ w.rest
+walked-all p bs i q h w = (λ j. record { line = w.line j; column = w.column j }) ∙ counted-all p bs i _ _ h w.counted
 
 -- ---- a place in a script that is not too long
 
@@ -208,9 +230,9 @@ onward-between script from to h =
     onward-append (take from script) (take (to - from) (drop from script))
     ∙ ap place_of (sym (take-add from (to - from) script) ∙ ap (λ (n : ℕ). take n script) sum)
 
-pub onward-start : (before : List ℕ) → onward (record { line = 1; column = 1 }) before ≡ place_of before
+pub onward_start : (before : List ℕ) → onward (record { line = 1; column = 1 }) before ≡ place_of before
 unfolding onward place_of
-onward-start before = refl
+onward_start before = refl
 
 -- when the walk goes on
 pub record Ahead (from : ℕ) (known : Place) (to : ℕ) : Type 0 where

@@ -1,7 +1,7 @@
 // Spans of tokens; the line and column of a position.
 #![tactic(auto)]
 
-ghost use Rattle.std.specs.Prelude.{◌≡◌, true, ◌++◌, ◌≤◌, length, drop};
+ghost use Rattle.std.specs.Prelude.{◌≡◌, ◌++◌, ◌≤◌, length, drop};
 ghost use Rattle.lex.specs.Answer.{max_bytes, answered};
 ghost use Rattle.positions.specs.Span.{token_span};
 ghost use Rattle.positions.specs.Position.{columns_of, onward, max_place, goes_on};
@@ -19,6 +19,7 @@ pub struct Span {
 
 impl Span {
     // The span of a token. A string's starts one byte later.
+    #[tactic(auto, unfolding(crate::specs::Span::token_span, crate::specs::Span::span_of))]
     pub fn from_token(script: &[u8], t: Token) -> Result<Span, Refusal>
         ensures { answered result ≡ token_span script.now t }
     {
@@ -57,6 +58,7 @@ const LAST_CONTINUATION: u8 = 191;
 const MAX_PLACE: u32 = 65537;
 
 // The columns that a byte takes: none if it is a UTF-8 continuation byte.
+#[tactic(auto, unfolding(crate::specs::Position::columns_of, lex::specs::Bytes::between))]
 fn columns_of(b: u8) -> u32
     ensures { result ≡ columns_of b }
 {
@@ -68,7 +70,7 @@ fn columns_of(b: u8) -> u32
 
 impl Place {
     // Where a script starts.
-    const START: Place = Place { line: 1, column: 1 };
+    pub const START: Place = Place { line: 1, column: 1 };
 
     // The place behind some bytes, from the place before them.
     fn after(self, bytes: &[u8]) -> Place
@@ -92,6 +94,7 @@ impl Place {
 }
 
 // The walk to `to` goes on from `known`, the place of `from`.
+#[tactic(auto, unfolding(crate::specs::Position::goes_on))]
 fn goes_on(from: u32, known: Place, to: u32) -> bool
     ensures { result ≡ goes_on from known to }
 {
@@ -100,6 +103,7 @@ fn goes_on(from: u32, known: Place, to: u32) -> bool
 
 // The line and column of the position `to`. Where `known` is the place of `from`, only the bytes
 // between the two are gone through; where `to` lies before `from`, all before `to`.
+#[tactic(auto, using(crate::proofs::Places::onward_start), unfolding(crate::specs::Position::advanced, crate::specs::Position::goes_on))]
 pub fn advance(script: &[u8], from: u32, known: Place, to: u32) -> Result<Place, Refusal>
     ensures { answered result ≡ advanced script.now from known to }
 {
@@ -159,6 +163,7 @@ fn fill(script: &[u8], positions: &[u32], places: &mut [u32])
 
 // The lines and columns of positions that never fall: those of position `i` go into cells `2 * i`
 // and `2 * i + 1` of `places`. All is tested before anything is written.
+#[tactic(auto, unfolding(crate::specs::LineColumns::line_columns))]
 pub fn line_columns(script: &[u8], positions: &[u32], places: &mut [u32]) -> Result<(), Refusal>
     ensures { let left = outcome (answered result) places.new in
         let bytes = script.now in

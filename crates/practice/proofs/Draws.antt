@@ -4,7 +4,7 @@ use Rattle.text.specs.declared.Writer.{Writer}
 use Rattle.text.specs.Text.{bytes, number as decimal}
 use Rattle.text.specs.Emit.{last, Emits, Writes}
 use Rattle.text.specs.Answer.{written, result, refuse}
-use Rattle.text.proofs.EmitLaws.{and_then, writes_by, writes_nothing, whole}
+use Rattle.text.proofs.EmitLaws.{and_then, writes_by, writes_nothing, same_size, whole}
 use Rattle.text.proofs.Plain.{kept, counted}
 use Rattle.practice.specs.Practice.{Drawn, draw, map_drawn, Expr, sum, leaf, sum_of, picked, expression, top_level, expressions, name_text, text, line, lines_from, sheet, promised}
 use Rattle.practice.specs.Drawing.{WritesDrawn}
@@ -93,8 +93,10 @@ pub a_line : (i seed : ℕ) {u v a b c e : Writer} {s : ℕ} → Writes (108 ∷
 unfolding line name_text bytes
 a_line i seed a b c d f = record { writes = and_then a (and_then b (and_then c (and_then d.writes f))); seed = d.seed }
 
--- of a sheet the lines before `i` are written, and `s` is the next seed
+-- of a sheet the lines before `i` are written from the buffer's start, and `s` is the next seed
 pub record Begun (seed lines : ℕ) (before after : Writer) (s i : ℕ) : Type 0 where
+  pub bound : i ≤ lines
+  pub start : before.at ≡ 0
   pub done : List ℕ
   pub writes : Writes done before after
   pub left : done ++ lines_from i (expressions (lines - i) s) ≡ sheet seed lines
@@ -105,9 +107,11 @@ line_and : (i n m s : ℕ) → n ≡ suc m
 unfolding lines_from expressions
 line_and i n m s e = rw e
 
-pub lines_none : {seed lines : ℕ} {u : Writer} → Begun seed lines u u seed 0
+pub lines_none : {seed lines : ℕ} {u : Writer} → u.at ≡ 0 → Begun seed lines u u seed 0
 unfolding sheet
-lines_none {seed} = record {
+lines_none {seed} e = record {
+  bound = omega arith;
+  start = e;
   done = [];
   writes = writes_nothing;
   left = ap (λ (n : ℕ). lines_from 0 (expressions n seed)) (omega arith);
@@ -121,23 +125,24 @@ module _ {seed lines s i : ℕ} {u v : Writer} (b : Begun seed lines u v s i) wh
       let more : lines_from (i + 1) (expressions (lines - (i + 1)) r)
       ≡ lines_from (suc i) (expressions (lines - (i + 1)) e.seed) = rw (f.seed, add-one) refl in
       record {
+        bound = omega arith;
+        start = b.start;
         done = b.done ++ line i e.value;
         writes = and_then b.writes f.writes;
         left = append_assoc b.done (line i e.value) _ ∙ ap (λ l. b.done ++ (line i e.value ++ l)) more
             ∙ ap (λ l. b.done ++ l) (sym (line_and i (lines - i) (lines - (i + 1)) s (omega arith))) ∙ b.left;
       }
 
-  pub lines_all : lines ≤ i → Writes (sheet seed lines) u v
+  -- `x` is lent to the writer, and `y` is what it leaves
+  pub lines_all : {x y : List ℕ} → lines ≤ i → u.out.now ≡ x → y ≡ v.out.now → Emits (sheet seed lines) x 0 y v.at
   unfolding lines_from expressions
-  lines_all h =
+  lines_all h lent left =
       let none : lines - i ≡ 0 = omega arith in
-      writes_by (sym (append-nil b.done) ∙ ap (λ (n : ℕ). b.done ++ lines_from i (expressions n s)) (sym none) ∙ b.left)
-      b.writes
+      let all = sym (append-nil b.done) ∙ ap (λ (n : ℕ). b.done ++ lines_from i (expressions n s)) (sym none) ∙ b.left in
+      rw (left, ← lent, ← b.start) (writes_by all b.writes).emits
 
--- what is left of the buffer that was lent to a writer
-pub left_behind : {t x y : List ℕ} {u v : Writer} → Writes t u v → u.out.now ≡ x → u.at ≡ 0 → y ≡ v.out.now
-    → Emits t x 0 y v.at
-left_behind f a b d = rw (d, ← a, ← b) f.emits
+  pub begun_size : length v.out.now ≡ length u.out.now
+  begun_size = same_size b.writes.emits
 
 -- ---- answers
 

@@ -18,10 +18,10 @@ const MAX_LINES: u32 = 16;
 
 const TOP_LEVEL: u32 = 4;
 
-// The writer and the seed are lent side by side: from a struct of both it was not proved what the
-// buffer behind the writer ends as.
+// The writer and the seed are lent side by side: for a struct of both no proof was found of what
+// the buffer behind the writer ends as.
 
-// A number or a name.
+// A number or a name, by the draw that picks: a number, as the definition `leaf` takes it.
 fn write_leaf(pick: u32, seed: &mut u32, w: &mut Writer)
     ensures { WritesDrawn text (leaf pick seed.old) w.old w.new seed.new }
 {
@@ -35,7 +35,7 @@ fn write_leaf(pick: u32, seed: &mut u32, w: &mut Writer)
     }
 }
 
-// The level falls.
+// An expression of a level. The level falls.
 fn write_expression(level: u32, seed: &mut u32, w: &mut Writer)
     ensures { WritesDrawn text (expression level seed.old) w.old w.new seed.new }
 {

@@ -1,4 +1,5 @@
--- Worked examples of merging, computed: the merged tree is the tree of both scripts joined; and why its conditions stand there.
+-- Worked examples of merging, computed: the merged tree is the tree of both scripts joined; and why
+-- its conditions stand there.
 use mathlib.Core.Path.{◌≡◌, refl}
 use mathlib.Core.Bool.{Bool, true, false}
 use mathlib.Core.List.{[], flatten}

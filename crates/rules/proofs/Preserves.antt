@@ -22,7 +22,8 @@ use Rattle.ast.specs.declared.Node.TheVariants as N
 use Rattle.ast.specs.declared.TypeExpr.{TypeExpr}
 use Rattle.rules.proofs.Results.{Ends, holds, fails}
 
--- a property of the tokens left and of what is made, and the steps that preserve it; docs that wait and notes play no part
+-- a property of the tokens left and of what is made, and the steps that preserve it; docs that wait
+-- and notes play no part
 pub record StepsPreserve (P : List Token → Arena → Type 0) : Type 0 where
   pub token : (l : List Token) (m : Arena) → P l m → P (rest l) m
   pub node : (l : List Token) (m : Arena) (x : Node) (values : ℕ) → P l m → P l (record { nodes = m.nodes ++ (x ∷ []); types = m.types; cells = m.cells; values = values })

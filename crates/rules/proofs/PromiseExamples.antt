@@ -1,4 +1,5 @@
--- Worked examples of what a reading promises, computed: the arrays of docs/LAYOUT.md's example, an error, both refusals.
+-- Worked examples of what a reading promises, computed: the arrays of docs/LAYOUT.md's example, an
+-- error, both refusals.
 use mathlib.Core.Path.{◌≡◌, refl}
 use mathlib.Core.List.{◌∷◌, ◌++◌, flatten}
 use Prim.Native.Nat.{ℕ, ◌+◌, ◌*◌}

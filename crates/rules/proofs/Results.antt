@@ -1,4 +1,5 @@
--- How rules end: a calculus of what holds after `ok` and after `err`, one lemma for each way to put rules together.
+-- How rules end: a calculus of what holds after `ok` and after `err`, one lemma for each way to put
+-- rules together.
 use mathlib.Core.Path.{◌≡◌, refl, sym, ap, ◌∙◌, subst}
 use mathlib.Core.Bool.{Bool, true, false}
 use mathlib.Core.List.{List, [], ◌∷◌}

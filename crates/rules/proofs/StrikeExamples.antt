@@ -1,4 +1,5 @@
--- Worked examples of striking and same shape, computed: pairs of one shape, what is left, what a shape tells that words do not, and why the user's demand 3 has its two conditions.
+-- Worked examples of striking and same shape, computed: pairs of one shape, what is left, what a
+-- shape tells that words do not, and why the user's demand 3 has its two conditions.
 use mathlib.Core.Path.{◌≡◌, refl}
 use mathlib.Core.Bool.{Bool, true, false}
 use mathlib.Core.Option.{Option, none, some}
@@ -130,7 +131,9 @@ pub tells :
 unfolding computed fixed spelled
 tells = (refl, refl, refl, refl, refl, refl, refl, refl, refl)
 
--- ---- why the user has two conditions in demand 3: accepted, of one shape, and striking leaves other words. (01's paragraph does not repeat them; unique reading asks for no Doc right before an Import only)
+-- ---- why the user has two conditions in demand 3: accepted, of one shape, and striking leaves
+-- other words. (01's paragraph does not repeat them; unique reading asks for no Doc right before an
+-- Import only)
 
 -- the first script breaks a condition, the second keeps both
 abbrev pub Apart : String → String → Type 0

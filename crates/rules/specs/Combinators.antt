@@ -1,4 +1,5 @@
--- What the rules are written in: steps that take tokens and make records, one after the other until one fails.
+-- What the rules are written in: steps that take tokens and make records, one after the other until
+-- one fails.
 use Rattle.std.specs.Prelude.{true, false, ℕ, zero, suc, ◌+◌, ◌-◌, eqb, length, replicate}
 use mathlib.Core.List.{List, [], ◌∷◌, ◌++◌, map, flatten}
 use Rattle.lex.specs.Kind.{k_eof, k_s, k_ident, k_doc}
@@ -95,7 +96,8 @@ reject_kind k number = if_kind k (fail number) (pure 0)
 unfoldable pub with_arena : Arena → State → State
 with_arena m s = record { left = s.left; docs = s.docs; arena = m; notes = s.notes }
 
--- a node takes the next number, and the next value number, and with it `more` value numbers that no node has
+-- a node takes the next number, and the next value number, and with it `more` value numbers that no
+-- node has
 unfoldable pub push_node_and : ℕ → (ℕ → Node) → Rule NodeId
 push_node_and more f = λ s. let m = s.arena in
     ok (record { 0 = length m.nodes }) (with_arena (record { nodes = m.nodes ++ (f m.values ∷ []); types = m.types; cells = m.cells; values = m.values + (1 + more) }) s)
@@ -123,7 +125,8 @@ unfoldable pub iterate : {A : Type 0} → ℕ → (A → Rule (ControlFlow A)) �
 iterate zero f a = λ s. ok a s
 iterate (suc n) f a = λ s. elim (f a s) [ ok t s₁ ↦ elim t [ continue b ↦ iterate n f b s₁ | break b ↦ ok b s₁ ] | err e s₁ ↦ err e s₁ ]
 
--- each turn but the last takes a token, or drops docs that wait, so as many turns as tokens are left are enough (proofs/Counting)
+-- each turn but the last takes a token, or drops docs that wait, so as many turns as tokens are
+-- left are enough (proofs/Counting)
 unfoldable pub loop : {A : Type 0} → (A → Rule (ControlFlow A)) → A → Rule A
 loop f a = λ s. iterate (length s.left) f a s
 

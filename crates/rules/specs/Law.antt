@@ -20,7 +20,8 @@ pub data Child : Type 0 where
   a_node : ℕ → Child
   a_type : ℕ → Child
 
--- what the members of a run name, `member` reading the cells of one; none where the run lies outside
+-- what the members of a run name, `member` reading the cells of one; none where the run lies
+-- outside
 unfoldable pub listed : Decoder (List Child) → List ℕ → Run → Option (List Child)
 listed member cells r = list_at member [] ◌++◌ cells r
 

@@ -1,4 +1,5 @@
--- The rules of the language over the lexer's, in the order in which a script meets them; then what is stated of them.
+-- The rules of the language over the lexer's, in the order in which a script meets them; then what
+-- is stated of them.
 pub mod Tree
 pub mod Combinators
 pub mod Rules

@@ -1,4 +1,5 @@
--- Merging two trees: the second one's numbers go on after the first one's, its positions behind the first script and a line feed.
+-- Merging two trees: the second one's numbers go on after the first one's, its positions behind the
+-- first script and a line feed.
 use Rattle.std.specs.Prelude.{Bool, true, false, ◌≡◌, ℕ, zero, suc, ◌+◌, ◌-◌, leb, ltb, length, get_or, take, drop, replicate}
 use Rattle.std.proofs.Math.Option.{Option}
 use mathlib.Core.List.{List, [], ◌∷◌, ◌++◌, map, flatten}
@@ -18,7 +19,8 @@ use Rattle.ast.specs.declared.Node.TheVariants as N
 use Rattle.ast.specs.declared.TypeExpr.{TypeExpr}
 use Rattle.ast.specs.declared.TypeExpr.TheVariants as T
 
--- what stands before the second tree: node and type records, list cells, value numbers, and bytes of the script
+-- what stands before the second tree: node and type records, list cells, value numbers, and bytes
+-- of the script
 pub record Offsets : Type 0 where
   pub nodes : ℕ
   pub types : ℕ
@@ -187,7 +189,8 @@ held_in m = flatten (map (held_by_node m.cells) m.nodes) ++ flatten (map held_by
 unfoldable pub covers : Held → ℕ → Bool
 covers h i = elim (leb h.run.start i) [ true ↦ ltb (i - h.run.start) (length (roles_of h)) | false ↦ false ]
 
--- what a cell says: as the list that it belongs to has it; all others are node numbers, as in bodies, also in that of a default which a later one replaced, and which no record holds
+-- what a cell says: as the list that it belongs to has it; all others are node numbers, as in
+-- bodies, also in that of a default which a later one replaced, and which no record holds
 unfoldable pub role_in : List Held → ℕ → Role
 role_in [] i = node_number
 role_in (h ∷ hs) i = elim (covers h i) [ true ↦ get_or (roles_of h) (i - h.run.start) node_number | false ↦ role_in hs i ]
@@ -227,7 +230,8 @@ module _ (power : ℕ → Option ℕ) where
   unfoldable pub docs_at_end : List ℕ → List Token
   docs_at_end script = elim (parse_roots power script (begin script)) [ ok roots s ↦ s.docs | err e s ↦ s.docs ]
 
-  -- what is asked of two scripts that strict mode accepts: the first has no lexer error and no docs waiting at its end, the second has no token or begins with let, fn, import, extern or match
+  -- what is asked of two scripts that strict mode accepts: the first has no lexer error and no docs
+  -- waiting at its end, the second has no token or begins with let, fn, import, extern or match
   pub record Joinable (s₁ s₂ : List ℕ) : Type 0 where
     pub faultless : faults_of 0 (cut s₁) ≡ []
     pub no_docs : docs_at_end s₁ ≡ []

@@ -1,4 +1,5 @@
--- The same on the cells of the arrays: which offset each cell of a record is moved by, and where records name lists.
+-- The same on the cells of the arrays: which offset each cell of a record is moved by, and where
+-- records name lists.
 use mathlib.Core.List.{List, [], ◌∷◌, ◌++◌, map, flatten}
 use Rattle.std.specs.Prelude.{ℕ, zero, suc, ◌+◌, ◌-◌, length, get_or, take, drop, replicate}
 use Rattle.ast.specs.Layout.{node_width, type_width}
@@ -27,7 +28,8 @@ moved_records o roles width (suc n) cs = moved_by o (get_or roles (cell_at cs 0)
 
 -- ---- lists
 
--- where a record names a list, with the cells of its members; the fns of an extern name lists in turn
+-- where a record names a list, with the cells of its members; the fns of an extern name lists in
+-- turn
 pub data Names : Type 0 where
   list : List Role → ℕ → Names
   fns : ℕ → Names

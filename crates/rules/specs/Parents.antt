@@ -1,4 +1,5 @@
--- Each node names its parent: what that is, and records of 17 cells, which hold it, beside those of 16.
+-- Each node names its parent: what that is, and records of 17 cells, which hold it, beside those of
+-- 16.
 use Rattle.std.specs.Prelude.{Bool, true, false, List, [], ◌∷◌, ◌++◌, ℕ, zero, suc, eqb, leb, length, get_or, take, drop}
 use Rattle.std.proofs.Math.Option.{Option, none, some}
 use Rattle.rules.specs.Tree.{Arena, Tree}
@@ -17,7 +18,8 @@ unfoldable pub parent_from : List ℕ → Child → ℕ → ℕ → List Node �
 parent_from cells c other k [] = other
 parent_from cells c other k (x ∷ xs) = elim (is_among c (children_of cells x)) [ true ↦ k | false ↦ parent_from cells c other (suc k) xs ]
 
--- the number of the node that has node `i` for a child; a root, and the top of orphans, names itself
+-- the number of the node that has node `i` for a child; a root, and the top of orphans, names
+-- itself
 unfoldable pub parent_of : Arena → ℕ → ℕ
 parent_of m i = parent_from m.cells (a_node i) i 0 m.nodes
 
@@ -47,7 +49,8 @@ unfoldable pub is_some : {A : Type 0} → Option A → Bool
 is_some none = false
 is_some (some a) = true
 
--- every record is well formed, orphans included, as a comparison asks it of those that the roots reach; and every root is a node
+-- every record is well formed, orphans included, as a comparison asks it of those that the roots
+-- reach; and every root is a node
 unfoldable pub sound : List ℕ → Tree → Bool
 sound script t =
     let m = t.arena in

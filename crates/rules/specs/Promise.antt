@@ -1,4 +1,5 @@
--- What the two readings promise: for every script and all lent arrays, the answer and what the arrays hold.
+-- What the two readings promise: for every script and all lent arrays, the answer and what the
+-- arrays hold.
 use Rattle.std.specs.Prelude.{Bool, true, false, ℕ, ◌*◌, ltb, length}
 use mathlib.Core.List.{List, map, flatten}
 use Rattle.lex.specs.Answer.{max_bytes}

@@ -1,4 +1,5 @@
--- Same shape: what is left of a tree without positions, node numbers, value numbers and a case's own token.
+-- Same shape: what is left of a tree without positions, node numbers, value numbers and a case's
+-- own token.
 use Rattle.std.specs.Prelude.{true, false, List, [], ◌∷◌, ℕ, take, drop}
 use Rattle.std.proofs.Math.Option.{Option, none, some}
 use Rattle.lex.specs.Spelling.{has_spelling, spelling_start, well_formed}

@@ -23,7 +23,8 @@ no_doc_before_import (t ∷ (u ∷ ts)) = elim (eqb t.kind k_doc) [
   | false ↦ no_doc_before_import (u ∷ ts)
 ]
 
--- the user's condition on docs: no Doc stands right before an Import or Eof. Of an accepted script it says no more (`no-doc-same`)
+-- the user's condition on docs: no Doc stands right before an Import or Eof. Of an accepted script
+-- it says no more (`no-doc-same`)
 unfoldable pub no_doc_before_import_or_eof : List Token → Bool
 no_doc_before_import_or_eof [] = true
 no_doc_before_import_or_eof (t ∷ []) = true
@@ -42,7 +43,8 @@ module _ (power : ℕ → Option ℕ) where
   unfoldable pub strike : List ℕ → List Word
   strike script = keep (notes_of script).marks (map (word_of script) (tokens_of (cut script)))
 
-  -- strict mode accepts the script with this tree, no Doc stands right before an Import, and each match has one default, written last
+  -- strict mode accepts the script with this tree, no Doc stands right before an Import, and each
+  -- match has one default, written last
   pub record Plain (script : List ℕ) (tree : Tree) : Type 0 where
     pub accepted : parse power script ≡ read tree []
     pub docs : no_doc_before_import (tokens_of (cut script)) ≡ true

@@ -5,7 +5,8 @@ use Rattle.lex.specs.declared.tok.Token.{Token}
 use Rattle.ast.specs.declared.Node.{Node}
 use Rattle.ast.specs.declared.TypeExpr.{TypeExpr}
 
--- what a reading makes: node and type records, the cells of the lists that they name by runs, and how many value numbers are given out
+-- what a reading makes: node and type records, the cells of the lists that they name by runs, and
+-- how many value numbers are given out
 pub record Arena : Type 0 where
   pub nodes : List Node
   pub types : List TypeExpr
@@ -15,7 +16,8 @@ pub record Arena : Type 0 where
 abbrev pub empty_arena : Arena
 empty_arena = record { nodes = []; types = []; cells = []; values = 0 }
 
--- what unique reading asks of a script, which no array holds: for each token taken whether it is kept, and how many blocks of a match follow its default
+-- what unique reading asks of a script, which no array holds: for each token taken whether it is
+-- kept, and how many blocks of a match follow its default
 pub record Notes : Type 0 where
   pub marks : List Bool
   pub after_default : ℕ

@@ -20,10 +20,8 @@ use Rattle.lex.specs.declared.diagnostic.Refusal.{Refusal}
 use Rattle.lex.specs.declared.diagnostic.Refusal.TheVariants.{TooLong, SheetTooShort}
 use Rattle.lex.specs.Refusals.{number}
 use Rattle.std.specs.Prelude.{Result, Ok, Err}
-use Rattle.ast.specs.Decode.{diagnostic_at}
 use Rattle.sheet.specs.Sheet.{entry, error_at, join_to, continue, up_to, sheet_of, printed, in_lines}
 use Rattle.sheet.specs.Count.{sized, counted_of, text_in, each}
-use Rattle.sheet.proofs.Taking.{Ahead, Next, goes_on, next_ahead, taken, all_taken}
 use Rattle.sheet.proofs.Entries.{entry_lines, few_lines}
 use Rattle.sheet.proofs.Rows.{InLines, no_lines, lines_append, lines_plain, counted_lines}
 
@@ -158,67 +156,55 @@ module _ (script cells buffer : List ℕ) where
 
 -- ---- the loops
 
--- the errors before those ahead are counted
-pub record Counting (script cells rest : List ℕ) (lines : ℕ) : Type 0 where
-  pub i : ℕ
-  pub ahead : Ahead cells rest i
+-- the errors before `i` are counted
+pub record Counting (script cells : List ℕ) (i lines : ℕ) : Type 0 where
   pub size : sized (up_to (λ k. entry script (error_at cells k)) i) ≡ answer (73 * lines)
   pub few : lines ≤ 3 * i
 
-module _ {script cells rest : List ℕ} where
-  pub counting_none : Ahead cells rest 0 → Counting script cells rest 0
-  counting_none a = record { i = 0; ahead = a; size = up_to-none (λ k. entry script (error_at cells k)); few = omega arith }
+module _ {script cells : List ℕ} where
+  pub counting_none : Counting script cells 0 0
+  counting_none = record { size = up_to-none (λ k. entry script (error_at cells k)); few = omega arith }
 
-  pub counting_all : {lines : ℕ} → Counting script cells rest lines → length rest < 5 → counted_of (Ok lines) ≡ sized (up_to (λ j. entry script (error_at cells j)) (length cells / 5))
+  pub counting_all : {i lines : ℕ} → Counting script cells i lines → i ≡ length cells / 5 → counted_of (Ok lines) ≡ sized (up_to (λ j. entry script (error_at cells j)) (length cells / 5))
   unfolding counted_of
-  counting_all m h = sym m.size ∙ ap (λ (k : ℕ). sized (up_to (λ j. entry script (error_at cells j)) k)) (all_taken m.ahead h)
+  counting_all m e = sym m.size ∙ ap (λ (k : ℕ). sized (up_to (λ j. entry script (error_at cells j)) k)) e
 
-  module _ {lines : ℕ} (m : Counting script cells rest lines) {x more : List ℕ} (n : Next rest x more) {e : Diagnostic} (is : e ≡ diagnostic_at x 0)
-      (r : Result ℕ Refusal) (told : counted_of r ≡ sized (entry script e)) where
-    told_here : counted_of r ≡ sized (entry script (error_at cells m.i))
-    told_here = told ∙ ap (λ (d : Diagnostic). sized (entry script d)) (is ∙ taken m.ahead n)
+  module _ {i lines : ℕ} (m : Counting script cells i lines) {e : Diagnostic} (is : e ≡ error_at cells i) (r : Result ℕ Refusal) (told : counted_of r ≡ sized (entry script e)) where
+    told_here : counted_of r ≡ sized (entry script (error_at cells i))
+    told_here = told ∙ ap (λ (d : Diagnostic). sized (entry script d)) is
 
     module _ {k : ℕ} (p : r ≡ Ok k) where
-      size_here : answer (73 * k) ≡ sized (entry script (error_at cells m.i))
+      size_here : answer (73 * k) ≡ sized (entry script (error_at cells i))
       unfolding counted_of
       size_here = sym (ap counted_of p) ∙ told_here
 
-      pub few-here : length script ≤ max_bytes → lines + k ≤ 3 * (m.i + 1)
-      few-here small = let f = few_lines script (error_at cells m.i) k small size_here in let g = m.few in omega arith
+      pub few-here : length script ≤ max_bytes → lines + k ≤ 3 * (i + 1)
+      few-here small = let f = few_lines script (error_at cells i) k small size_here in let g = m.few in omega arith
 
-      pub counting_next : length script ≤ max_bytes → Counting script cells more (lines + k)
+      pub counting_next : length script ≤ max_bytes → Counting script cells (i + 1) (lines + k)
       counting_next small =
           let sum : 73 * lines + 73 * k ≡ 73 * (lines + k) = omega arith in
-          record {
-            i = m.i + 1;
-            ahead = next_ahead m.ahead n;
-            size = up_to-next (λ k. entry script (error_at cells k)) m.i m.size (sym size_here) ∙ ap answer sum;
-            few = few-here small;
-          }
+          record { size = up_to-next (λ k. entry script (error_at cells k)) i m.size (sym size_here) ∙ ap answer sum; few = few-here small }
 
       -- so many lines can be counted
-      pub sum-fits : length script ≤ max_bytes → 5 * lines + 5 * k ≤ 3 * length cells
-      sum-fits small = let f = few-here small in let g = goes_on m.ahead n in omega arith
+      pub sum-fits : i < length cells / 5 → length script ≤ max_bytes → 5 * lines + 5 * k ≤ 3 * length cells
+      sum-fits h small = let f = few-here small in omega arith
 
-    pub counting_stop : {q : Refusal} → r ≡ Err q → counted_of (Err q) ≡ sized (up_to (λ j. entry script (error_at cells j)) (length cells / 5))
+    pub counting_stop : {q : Refusal} → i < length cells / 5 → r ≡ Err q → counted_of (Err q) ≡ sized (up_to (λ j. entry script (error_at cells j)) (length cells / 5))
     unfolding counted_of
-    counting_stop {q} p =
-        sym (ap sized (up_to_stop (λ j. entry script (error_at cells j)) m.i (length cells / 5) (goes_on m.ahead n) m.size (sym (sym (ap counted_of p) ∙ told_here))))
+    counting_stop {q} h p =
+        sym (ap sized (up_to_stop (λ j. entry script (error_at cells j)) i (length cells / 5) h m.size (sym (sym (ap counted_of p) ∙ told_here))))
 
--- the lines of the errors before those ahead are written
-pub record Writing (script cells rest : List ℕ) (before after : Writer) : Type 0 where
-  pub i : ℕ
-  pub ahead : Ahead cells rest i
-  pub writes : Writes (each (λ k. text_in (entry script (error_at cells k))) i) before after
+-- the lines of the errors before `i` are written
+abbrev pub Writing : List ℕ → List ℕ → ℕ → Writer → Writer → Type 0
+Writing script cells i u v = Writes (each (λ k. text_in (entry script (error_at cells k))) i) u v
 
-pub writing-none : {script cells rest : List ℕ} {u : Writer} → Ahead cells rest 0 → Writing script cells rest u u
-unfolding each
-writing-none a = record { i = 0; ahead = a; writes = writes_nothing }
-
-module _ {script cells rest : List ℕ} {u v : Writer} where
-  pub writing-next : Writing script cells rest u v → {x more : List ℕ} {e : Diagnostic} {w : Writer} → Next rest x more → e ≡ diagnostic_at x 0
-      → Writes (text_in (entry script e)) v w → Writing script cells more u w
+module _ (script cells : List ℕ) where
+  pub writing-none : {u : Writer} → Writing script cells 0 u u
   unfolding each
-  writing-next m n is f =
-      let same = ap (λ (d : Diagnostic). text_in (entry script d)) (is ∙ taken m.ahead n) in
-      record { i = m.i + 1; ahead = next_ahead m.ahead n; writes = rw add-one (and_then m.writes (writes_by same f)) }
+  writing-none = writes_nothing
+
+  pub writing-next : (i : ℕ) {u v w : Writer} {e : Diagnostic} → Writing script cells i u v → e ≡ error_at cells i
+      → Writes (text_in (entry script e)) v w → Writing script cells (i + 1) u w
+  unfolding each
+  writing-next i m is f = rw add-one (and_then m (writes_by (ap (λ (d : Diagnostic). text_in (entry script d)) is) f))

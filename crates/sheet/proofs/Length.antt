@@ -3,8 +3,9 @@
 use mathlib.Core.Path.{◌≡◌, refl, sym, ◌∙◌, ap}
 use mathlib.Core.Bool.{Bool, true, false}
 use mathlib.Core.List.{List, [], ◌∷◌, ◌++◌}
-use Prim.Native.Nat.{ℕ, zero, suc, ◌+◌, ◌-◌, ◌*◌, ◌/◌, ◌%◌, ◌<◌, ◌≤◌}
+use Prim.Native.Nat.{ℕ, zero, suc, ◌+◌, ◌-◌, ◌*◌, ◌/◌, ◌%◌, ◌^◌, ◌<◌, ◌≤◌, max}
 use native.Mathlib.Omega.{arith}
+use Rattle.std.proofs.Math.Nat.{pow-succ'}
 use lib.Dec.{leb, ltb, eqb}
 use lib.ListN.{length, take, drop, length-append, length-take, length-drop, length-replicate}
 use borrow.Author.Tests.{leb-true, leb-false, ltb-true, ltb-false, ne_eqb}
@@ -21,48 +22,30 @@ digits_one n h = ap length (sym (one_digit n h))
 digits_more : (n : ℕ) → 10 ≤ n → length (number n) ≡ length (number (n / 10)) + 1
 digits_more n h = ap length (sym (more_digits n h)) ∙ length-append (number (n / 10)) ((48 + n % 10) ∷ [])
 
-module _ (n : ℕ) where
-  pub digits_two : 10 ≤ n → n < 100 → length (number n) ≡ 2
-  digits_two l h = digits_more n l ∙ ap (λ (k : ℕ). k + 1) (digits_one (n / 10) (omega arith))
+pub digits_two : (n : ℕ) → 10 ≤ n → n < 100 → length (number n) ≡ 2
+digits_two n l h = digits_more n l ∙ ap (λ (k : ℕ). k + 1) (digits_one (n / 10) (omega arith))
 
-module _ (n : ℕ) where
-  pub digits_three : 100 ≤ n → n < 1000 → length (number n) ≡ 3
-  digits_three l h = digits_more n (omega arith) ∙ ap (λ (k : ℕ). k + 1) (digits_two (n / 10) (omega arith) (omega arith))
+some-power : (k : ℕ) → 1 ≤ 10 ^ k
+some-power zero = omega arith
+some-power (suc k) = omega (arith, pow-succ' 10 k, some-power k)
 
-module _ (n : ℕ) where
-  pub digits_four : 1000 ≤ n → n < 10000 → length (number n) ≡ 4
-  digits_four l h = digits_more n (omega arith) ∙ ap (λ (k : ℕ). k + 1) (digits_three (n / 10) (omega arith) (omega arith))
+-- one more than the logarithm to the base ten
+pub digits_log : (k n : ℕ) → 10 ^ k ≤ max n 1 → max n 1 < 10 * 10 ^ k → length (number n) ≡ suc k
+digits_log zero n l h = digits_one n (omega arith)
+digits_log (suc k) n l h =
+    let p = pow-succ' 10 k in
+    let q = some-power k in
+    let front = digits_log k (n / 10) (omega (arith, p, q)) (omega (arith, p, q)) in
+    digits_more n (omega (arith, p, q)) ∙ omega (arith, front)
 
-module _ (n : ℕ) where
-  pub digits_five : 10000 ≤ n → n < 100000 → length (number n) ≡ 5
-  digits_five l h = digits_more n (omega arith) ∙ ap (λ (k : ℕ). k + 1) (digits_four (n / 10) (omega arith) (omega arith))
-
-some-digits : (n : ℕ) → 1 ≤ length (number n)
-some-digits n = go (ltb n 10) refl
+few-digits : (k n : ℕ) → n < 10 * 10 ^ k → length (number n) ≤ suc k
+few-digits k n h = go k n (ltb n 10) refl h
   where
-    go : (t : Bool) → ltb n 10 ≡ t → 1 ≤ length (number n)
-    go true e = let h : length (number n) ≡ 1 = digits_one n (ltb-true n 10 e) in omega arith
-    go false e = let h : length (number n) ≡ length (number (n / 10)) + 1 = digits_more n (ltb-false n 10 e) in omega arith
-
--- a number from 10000 on has no blanks before it in five places
-pub digits_many : (n : ℕ) → 10000 ≤ n → 5 ≤ length (number n)
-digits_many n l =
-    let a : length (number n) ≡ length (number (n / 10)) + 1 = digits_more n (omega arith) in
-    let b : length (number (n / 10)) ≡ length (number (n / 10 / 10)) + 1 = digits_more (n / 10) (omega arith) in
-    let c : length (number (n / 10 / 10)) ≡ length (number (n / 10 / 10 / 10)) + 1 = digits_more (n / 10 / 10) (omega arith) in
-    let d : length (number (n / 10 / 10 / 10)) ≡ length (number (n / 10 / 10 / 10 / 10)) + 1 = digits_more (n / 10 / 10 / 10) (omega arith) in
-    let e : 1 ≤ length (number (n / 10 / 10 / 10 / 10)) = some-digits (n / 10 / 10 / 10 / 10) in
-    omega arith
-
-few-digits : (n : ℕ) → n < 100000 → length (number n) ≤ 5
-few-digits n h = go (ltb n 10) (ltb n 100) (ltb n 1000) (ltb n 10000) refl refl refl refl
-  where
-    go : (t u v w : Bool) → ltb n 10 ≡ t → ltb n 100 ≡ u → ltb n 1000 ≡ v → ltb n 10000 ≡ w → length (number n) ≤ 5
-    go true u v w a b c d = let k : length (number n) ≡ 1 = digits_one n (ltb-true n 10 a) in omega arith
-    go false true v w a b c d = let k : length (number n) ≡ 2 = digits_two n (ltb-false n 10 a) (ltb-true n 100 b) in omega arith
-    go false false true w a b c d = let k : length (number n) ≡ 3 = digits_three n (ltb-false n 100 b) (ltb-true n 1000 c) in omega arith
-    go false false false true a b c d = let k : length (number n) ≡ 4 = digits_four n (ltb-false n 1000 c) (ltb-true n 10000 d) in omega arith
-    go false false false false a b c d = let k : length (number n) ≡ 5 = digits_five n (ltb-false n 10000 d) h in omega arith
+    go : (k n : ℕ) (t : Bool) → ltb n 10 ≡ t → n < 10 * 10 ^ k → length (number n) ≤ suc k
+    go k n true e h = omega (arith, digits_one n (ltb-true n 10 e))
+    go zero n false e h = absurd (omega (arith, ltb-false n 10 e))
+    go (suc k) n false e h =
+        omega (arith, digits_more n (ltb-false n 10 e), go k (n / 10) (ltb (n / 10) 10) refl (omega (arith, pow-succ' 10 k)))
 
 -- ---- a heading
 
@@ -71,7 +54,7 @@ unfolding right
 right-length n h =
     let a = length-append (blanks (5 - length (number n))) (number n) in
     let b : length (blanks (5 - length (number n))) ≡ 5 - length (number n) = length-replicate (5 - length (number n)) 32 in
-    let c = few-digits n h in
+    let c = few-digits 4 n h in
     omega arith
 
 pub heading-length : (p : Place) (n : ℕ) → p.line < 100000 → p.column < 100000 → 10 ≤ n → n < 100 → length (heading p n) ≡ 15

@@ -1,9 +1,10 @@
 -- The correction sheet: the errors of a paper by line and column, in words. A line has 72 bytes and
 -- a line feed.
-use Rattle.std.specs.Prelude.{Bool, true, false, ◌&&◌, List, [], ◌∷◌, ◌++◌, ℕ, zero, suc, ◌+◌, ◌-◌, ◌*◌, ◌/◌, leb, ltb, eqb, length, get_or, take, drop, replicate}
+use Rattle.std.specs.Prelude.{Bool, true, false, ◌&&◌, List, [], ◌∷◌, ◌++◌, ℕ, zero, suc, ◌-◌, ◌*◌, ◌/◌, leb, ltb, eqb, length, get_or, take, drop, replicate}
 use Rattle.std.proofs.Math.Option.{Option, none, some}
 use Rattle.lex.specs.declared.diagnostic.Diagnostic.{Diagnostic}
 use Rattle.lex.specs.Answer.{max_bytes, Answer, refused, answer}
+use Rattle.lex.specs.Cells.{diagnostic_at}
 use Rattle.ast.specs.Layout.{diagnostic_width}
 use Rattle.lex.specs.Refusals.{r_too_long, r_no_words, r_sheet_too_short}
 use Rattle.positions.specs.Position.{place_at}
@@ -61,14 +62,7 @@ entry script e =
 
 -- error `i` of a list of records, five numbers each
 abbrev pub error_at : List ℕ → ℕ → Diagnostic
-error_at cells i =
-    record {
-      number = get_or cells (diagnostic_width * i) 0;
-      start = get_or cells (diagnostic_width * i + 1) 0;
-      len = get_or cells (diagnostic_width * i + 2) 0;
-      wanted = get_or cells (diagnostic_width * i + 3) 0;
-      seen = get_or cells (diagnostic_width * i + 4) 0;
-    }
+error_at cells i = diagnostic_at cells (diagnostic_width * i)
 
 abbrev pub join_to : List ℕ → Answer (List ℕ) → Answer (List ℕ)
 join_to t (refused n) = refused n

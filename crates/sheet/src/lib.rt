@@ -11,8 +11,6 @@ ghost use Rattle.sheet.specs.Sheet.{entry, entries, printed};
 ghost use Rattle.sheet.specs.Count.{sized, counted_of, lines_at, text_in};
 ghost use Rattle.sheet.specs.Count.{texts_of, Reached};
 
-use ast::DIAGNOSTIC_WIDTH;
-use ast::decode::diagnostic_at;
 use lex::{Diagnostic, MAX_BYTES, Refusal};
 use positions::{Place, advance};
 use text::{Writer, Writing};
@@ -25,13 +23,14 @@ pub(crate) struct Progress {
     pub place: Place,
 }
 
-// The bytes of a line, with its line feed.
-const LINE_BYTES: usize = 73;
+// The places of a line before its words.
+const MARGIN: usize = 15;
 
 // The places that the words take in a line.
 const PIECE: usize = 57;
 
-const MARGIN: usize = 15;
+// The bytes of a line, with its line feed.
+const LINE_BYTES: usize = MARGIN + PIECE + 1;
 
 fn write_blanks(n: usize, w: &mut Writer)
     ensures { Writes (blanks n) w.old w.new }
@@ -45,15 +44,10 @@ fn write_blanks(n: usize, w: &mut Writer)
 fn blanks_before(n: u32) -> usize
     ensures { result ≡ 5 - length (number_of n) }
 {
-    match n {
-        ..=9 => 4,
-        10..=99 => 3,
-        100..=999 => 2,
-        1000..=9999 => 1,
-        _ => 0,
-    }
+    4usize.saturating_sub(n.max(1).ilog10() as usize)
 }
 
+// A number at the right of five places, by hand for the reason at `Writer`.
 fn write_right(n: u32, w: &mut Writer)
     ensures { Writes (right (number_of n)) w.old w.new }
 {
@@ -73,7 +67,8 @@ fn write_heading(p: Place, number: u32, w: &mut Writer)
     write_blanks(1, w);
 }
 
-// The words in pieces, each but the last followed by a line feed and a margin.
+// The words in pieces, each but the last followed by a line feed and a margin. `chunks` gives no
+// piece of empty words, which take a line of blanks.
 fn write_body(words: &[u8], w: &mut Writer)
     ensures { Writes (body words.now) w.old w.new }
 {
@@ -138,8 +133,8 @@ fn count_all(script: &[u8], errors: &[u32]) -> Result<usize, Refusal>
     ensures { counted_of result ≡ sized (entries script.now errors.now) }
 {
     let mut lines = 0;
-    for cells in errors.chunks_exact(DIAGNOSTIC_WIDTH) {
-        lines += count_lines(script, diagnostic_at(cells, 0))?;
+    for cells in errors.as_chunks().0 {
+        lines += count_lines(script, Diagnostic::from(cells))?;
     }
     Ok(lines)
 }
@@ -152,10 +147,10 @@ fn write_all(script: &[u8], errors: &[u32], out: &mut [u8]) -> usize
     let mut w = Writer { out, at: 0 };
     let mut known = Progress {
         start: 0,
-        place: Place { line: 1, column: 1 },
+        place: Place::START,
     };
-    for cells in errors.chunks_exact(DIAGNOSTIC_WIDTH) {
-        known = write_entry(script, diagnostic_at(cells, 0), known, &mut w);
+    for cells in errors.as_chunks().0 {
+        known = write_entry(script, Diagnostic::from(cells), known, &mut w);
     }
     w.at
 }

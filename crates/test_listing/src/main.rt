@@ -1,30 +1,25 @@
 // Lists arrays that hold trees of the fixed list, and the answers without a tree; what it writes is
-// the Rust's text.
+// the Rust's text. A function for each tree of the list: each has arrays of lengths of its own.
 #![tactic(auto)]
 
-use ast::{Counts, ReadError};
+use ast::Counts;
 use lex::Diagnostic;
-use listing::Arrays;
+use listing::{Arrays, Failure};
 use std::io;
 
 fn sign(rt: &impl Print) -> io::Result<()> {
     let arrays = Arrays {
-        nodes: &[
+        roots: &[0, 2],
+        ..with_nodes(&[
             2, 0, 25, 0, 1, 0, 0, 0, 0, 0, 0, 0, 0, 0, 0, 0, 2, 1, 25, 3, 1, 0, 0, 0, 0, 0, 0, 0,
             0, 0, 0, 0, 4, 2, 5, 2, 1, 1, 0, 0, 0, 0, 0, 0, 0, 0, 0, 0,
-        ],
-        types: &[0],
-        lists: &[0],
-        roots: &[0, 2],
-        diagnostics: &[0],
+        ])
     };
     let counts = Counts {
         nodes: 3,
-        types: 0,
-        cells: 0,
         roots: 2,
         values: 3,
-        diagnostics: 0,
+        ..Counts::default()
     };
     list_script::print(rt, Ok(counts), &arrays)
 }
@@ -49,7 +44,7 @@ fn foreign(rt: &impl Print) -> io::Result<()> {
         cells: 12,
         roots: 2,
         values: 2,
-        diagnostics: 0,
+        ..Counts::default()
     };
     list_script::print(rt, Ok(counts), &arrays)
 }
@@ -69,11 +64,11 @@ fn arms(rt: &impl Print) -> io::Result<()> {
     };
     let counts = Counts {
         nodes: 5,
-        types: 0,
         cells: 6,
         roots: 1,
         values: 5,
         diagnostics: 1,
+        ..Counts::default()
     };
     list_script::print(rt, Ok(counts), &arrays)
 }
@@ -112,8 +107,10 @@ fn with_nodes(nodes: &[u32]) -> Arrays<'_> {
     }
 }
 
-fn print_error(rt: &impl Print, e: Diagnostic) -> io::Result<()> {
-    list_script::print(rt, Err(ReadError::Script(e)), &with_nodes(&[0]))
+// An error by its five numbers.
+fn print_error(rt: &impl Print, numbers: &[u32; 5]) -> io::Result<()> {
+    let failure = Failure::Script(Diagnostic::from(numbers));
+    list_script::print(rt, Err(failure), &with_nodes(&[0]))
 }
 
 // The same counts with a kind that there is not, and with a node more than the array has.
@@ -121,11 +118,8 @@ fn broken(rt: &impl Print, kind: u32, n: u32) -> io::Result<()> {
     let nodes = [2, 0, kind, 0, 1, 0, 0, 0, 0, 0, 0, 0, 0, 0, 0, 0];
     let counts = Counts {
         nodes: n,
-        types: 0,
-        cells: 0,
-        roots: 0,
         values: 1,
-        diagnostics: 0,
+        ..Counts::default()
     };
     list_script::print(rt, Ok(counts), &with_nodes(&nodes))
 }
@@ -135,26 +129,8 @@ fn main(rt: HostRuntime) -> io::Result<()> {
     foreign(&rt)?;
     arms(&rt)?;
     docs(&rt)?;
-    print_error(
-        &rt,
-        Diagnostic {
-            number: 19,
-            start: 2,
-            len: 2,
-            wanted: 0,
-            seen: 14,
-        },
-    )?;
-    print_error(
-        &rt,
-        Diagnostic {
-            number: 10,
-            start: 127,
-            len: 1,
-            wanted: 0,
-            seen: 25,
-        },
-    )?;
+    print_error(&rt, &[19, 2, 2, 0, 14])?;
+    print_error(&rt, &[10, 127, 1, 0, 25])?;
     broken(&rt, 25, 1)?;
     broken(&rt, 44, 1)?;
     broken(&rt, 25, 2)

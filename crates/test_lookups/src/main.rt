@@ -3,10 +3,12 @@
 // gives a line: its name and the answer. proofs/Examples.antt has what the definitions say.
 #![tactic(auto)]
 
+ghost use Rattle.std.specs.Prelude.{◌≤◌, length, IfOk};
+
 use ast::{Counts, NodeId, Tree, TypeExprId};
 use compare::same_shape;
-use console::frames::{ReadError, each_case, read_frame, read_script, read_up_to};
-use console::output::print_answer;
+use console::frames::{ReadError, each_case, print_name, read_script, read_up_to};
+use console::output::{print_answer, print_start};
 use lex::Token;
 use lookups::{node_start, type_token};
 use positions::{Span, line_column};
@@ -23,6 +25,27 @@ fn read_cell(input: &mut impl Read) -> io::Result<u32> {
     Ok(read_up_to(input, 4294967295)? as u32)
 }
 
+// What a case asks for.
+enum Lookup {
+    NodeStart,
+    TypeToken,
+    Span,
+    Place,
+    Comparison,
+}
+
+// By the numbers that tools/cases writes.
+fn read_lookup(input: &mut impl Read) -> io::Result<Option<Lookup>> {
+    Ok(match read_cell(input)? {
+        1 => Some(Lookup::NodeStart),
+        2 => Some(Lookup::TypeToken),
+        3 => Some(Lookup::Span),
+        4 => Some(Lookup::Place),
+        5 => Some(Lookup::Comparison),
+        _ => None,
+    })
+}
+
 // A script; what is not given of it is what it held.
 fn read_bytes<'a>(input: &mut impl Read, script: &'a mut [u8]) -> io::Result<&'a [u8]> {
     let n = read_script(input, script)?;
@@ -30,7 +53,9 @@ fn read_bytes<'a>(input: &mut impl Read, script: &'a mut [u8]) -> io::Result<&'a
 }
 
 // An array: how many cells are lent, how many of them are given, and these. The others are zero.
-fn read_cells<'a>(input: &mut impl Read, cells: &'a mut [u32]) -> io::Result<&'a [u32]> {
+fn read_cells<'a>(input: &mut impl Read, cells: &'a mut [u32]) -> io::Result<&'a [u32]>
+    ensures { IfOk result (λ lent. length lent.now ≤ length cells.old) }
+{
     let n = read_up_to(input, cells.len())?;
     let given = read_up_to(input, n)?;
     for cell in cells[..given].iter_mut() {
@@ -45,12 +70,12 @@ fn read_counts(input: &mut impl Read) -> io::Result<Counts> {
         types: read_cell(input)?,
         cells: read_cell(input)?,
         roots: read_cell(input)?,
-        values: 0,
-        diagnostics: 0,
+        ..Counts::default()
     })
 }
 
-// Room for the tree of a script of 16 bytes, and for a script that is too long.
+// Room for the tree of a script of 16 bytes, and for a script that is too long. No `Default`: it
+// fills the script with zeros, and there are cases that give only the length of a script of blanks.
 #[derive(Drop)]
 struct Room {
     script: [u8; ROOM],
@@ -94,10 +119,7 @@ fn start(rt: &impl Print, input: &mut impl Read) -> io::Result<()> {
     let id = NodeId(read_cell(input)?);
     let mut room = Room::EMPTY;
     let tree = room.read_tree(input)?;
-    print_answer(rt, node_start(&tree, id), |start| match start {
-        Some(at) => print!(rt; "{at}"),
-        None => print!(rt; "none"),
-    })
+    print_start(rt, node_start(&tree, id))
 }
 
 fn token_of_type(rt: &impl Print, input: &mut impl Read) -> io::Result<()> {
@@ -152,24 +174,21 @@ fn comparison(rt: &impl Print, input: &mut impl Read) -> io::Result<()> {
 }
 
 fn answer(rt: &impl Print, input: &mut impl Read) -> io::Result<()> {
-    match read_cell(input)? {
-        1 => start(rt, input),
-        2 => token_of_type(rt, input),
-        3 => span(rt, input),
-        4 => place(rt, input),
-        5 => comparison(rt, input),
-        _ => Ok(()),
+    match read_lookup(input)? {
+        Some(Lookup::NodeStart) => start(rt, input),
+        Some(Lookup::TypeToken) => token_of_type(rt, input),
+        Some(Lookup::Span) => span(rt, input),
+        Some(Lookup::Place) => place(rt, input),
+        Some(Lookup::Comparison) => comparison(rt, input),
+        None => Ok(()),
     }
 }
 
 // The next case. Answers whether there was one.
 fn next_case(rt: &impl Print, input: &mut impl Read) -> Result<bool, ReadError> {
-    let mut name = [0u8; 4096];
-    let Some(n) = read_frame(input, &mut name)? else {
+    if !print_name(rt, input)? {
         return Ok(false);
-    };
-    rt.write_all(&name[..n])?;
-    print!(rt; ": ")?;
+    }
     answer(rt, input)?;
     println!(rt;)?;
     Ok(true)

@@ -4,7 +4,7 @@
 #![tactic(auto)]
 
 use console::frames::{ReadError, each_case, read_number, read_up_to};
-use console::output::print_answer;
+use console::output::print_left;
 use practice::write_sheet;
 use std::io;
 use std::io::Read;
@@ -12,19 +12,7 @@ use std::io::Read;
 const ROOM: usize = 2048;
 
 // The greatest seed and the greatest number of lines.
-const MOST: usize = 4294967295;
-
-// What is answered, and what the buffer then holds.
-fn show(rt: &impl Print, seed: u32, lines: u32, out: &mut [u8]) -> io::Result<()> {
-    print_answer(
-        rt,
-        write_sheet(seed, lines, out),
-        |n| print!(rt; "written {n}"),
-    )?;
-    println!(rt;)?;
-    rt.write_all(out)?;
-    println!(rt;)
-}
+const MOST: usize = u32::MAX as usize;
 
 // The next case. Answers whether there was one.
 fn next_case(rt: &impl Print, input: &mut impl Read) -> Result<bool, ReadError> {
@@ -34,7 +22,8 @@ fn next_case(rt: &impl Print, input: &mut impl Read) -> Result<bool, ReadError> 
     let lines = read_up_to(input, MOST)?;
     let n = read_up_to(input, ROOM)?;
     let mut out = [b'.'; ROOM];
-    show(rt, seed as u32, lines as u32, &mut out[..n])?;
+    let answer = write_sheet(seed as u32, lines as u32, &mut out[..n]);
+    print_left(rt, answer, &out[..n])?;
     Ok(true)
 }
 

@@ -6,10 +6,13 @@
 
 ghost use Rattle.std.specs.Prelude.{◌≤◌, length};
 
-use ast::{Parsed, ReadError};
-use console::frames::{ReadError as CaseError, each_case, read_frame, read_script, read_up_to};
+use ast::lent::CELLS_PER_BYTE;
+use ast::{DIAGNOSTIC_WIDTH, Node, Parsed, ReadError, TypeExpr};
+use console::frames::{ReadError as CaseError, each_case, print_name, read_script, read_up_to};
+use parser::{parse, parse_collect};
 use std::io;
 use std::io::Read;
+use tokens::{ERROR_WIDTH, TOKEN_WIDTH};
 
 // One more than a script may have.
 const ROOM: usize = 65537;
@@ -57,43 +60,55 @@ fn print_cells(rt: &impl Print, name: &str, cells: &[u32]) -> io::Result<()> {
     println!(rt; ", zeros {}", cells.len() - n)
 }
 
-fn read(
-    rt: &impl Print,
-    collecting: bool,
-    script: &[u8],
-    nodes: &mut [u32],
-    types: &mut [u32],
-    lists: &mut [u32],
-    roots: &mut [u32],
-    diagnostics: &mut [u32],
-) -> io::Result<()> {
-    // room for scripts of 128 bytes
-    let mut tokens = [RUBBISH; 516];
-    let mut errors = [RUBBISH; 768];
-    let read = if collecting {
-        parser::parse_collect(
-            script,
-            &mut tokens,
-            &mut errors,
-            nodes,
-            types,
-            lists,
-            roots,
-            diagnostics,
-        )
-    } else {
-        parser::parse(
-            script,
-            &mut tokens,
-            &mut errors,
-            nodes,
-            types,
-            lists,
-            roots,
-            diagnostics,
-        )
-    };
-    print_parsed(rt, read)?;
+// As many cells as the case says.
+fn lend<'a>(input: &mut impl Read, cells: &'a mut [u32]) -> io::Result<&'a mut [u32]> {
+    let n = read_up_to(input, cells.len())?;
+    Ok(&mut cells[..n])
+}
+
+// The cases' scripts have at most so many bytes, and one of `ROOM` is refused.
+const BYTES: usize = 128;
+
+// A reading by `read`, which is one of the entry points of the parser.
+fn reading<R>(rt: &impl Print, input: &mut impl Read, read: R) -> io::Result<()>
+where
+    R: FnOnce(
+        &[u8],
+        &mut [u32],
+        &mut [u32],
+        &mut [u32],
+        &mut [u32],
+        &mut [u32],
+        &mut [u32],
+        &mut [u32],
+    ) -> Parsed,
+    requires { R.IsAlwaysCallable read }
+{
+    let mut script = [b' '; ROOM];
+    let mut tokens = [RUBBISH; TOKEN_WIDTH * (BYTES + 1)];
+    let mut errors = [RUBBISH; ERROR_WIDTH * BYTES];
+    let mut nodes = [RUBBISH; Node::WIDTH * BYTES];
+    let mut types = [RUBBISH; TypeExpr::WIDTH * BYTES];
+    let mut lists = [RUBBISH; CELLS_PER_BYTE * BYTES];
+    let mut roots = [RUBBISH; BYTES];
+    let mut diagnostics = [RUBBISH; DIAGNOSTIC_WIDTH * BYTES];
+    let nodes = lend(input, &mut nodes)?;
+    let types = lend(input, &mut types)?;
+    let lists = lend(input, &mut lists)?;
+    let roots = lend(input, &mut roots)?;
+    let diagnostics = lend(input, &mut diagnostics)?;
+    let n = read_script(input, &mut script)?;
+    let parsed = read(
+        &script[..n],
+        &mut tokens,
+        &mut errors,
+        nodes,
+        types,
+        lists,
+        roots,
+        diagnostics,
+    );
+    print_parsed(rt, parsed)?;
     print_cells(rt, "nodes", nodes)?;
     print_cells(rt, "types", types)?;
     print_cells(rt, "lists", lists)?;
@@ -101,48 +116,17 @@ fn read(
     print_cells(rt, "diagnostics", diagnostics)
 }
 
-// As many cells as the case says.
-fn lend<'a>(input: &mut impl Read, cells: &'a mut [u32]) -> io::Result<&'a mut [u32]> {
-    let n = read_up_to(input, cells.len())?;
-    Ok(&mut cells[..n])
-}
-
-// Arrays for scripts of 128 bytes.
-fn reading(rt: &impl Print, input: &mut impl Read) -> io::Result<()> {
-    let mut script = [b' '; ROOM];
-    let mut nodes = [RUBBISH; 2048];
-    let mut types = [RUBBISH; 1024];
-    let mut lists = [RUBBISH; 1024];
-    let mut roots = [RUBBISH; 128];
-    let mut diagnostics = [RUBBISH; 640];
-    let collecting = read_up_to(input, 1)? == 1;
-    let nodes = lend(input, &mut nodes)?;
-    let types = lend(input, &mut types)?;
-    let lists = lend(input, &mut lists)?;
-    let roots = lend(input, &mut roots)?;
-    let diagnostics = lend(input, &mut diagnostics)?;
-    let n = read_script(input, &mut script)?;
-    read(
-        rt,
-        collecting,
-        &script[..n],
-        nodes,
-        types,
-        lists,
-        roots,
-        diagnostics,
-    )
-}
-
 // The next case. Answers whether there was one.
 fn next_case(rt: &impl Print, input: &mut impl Read) -> Result<bool, CaseError> {
-    let mut name = [0u8; 4096];
-    let Some(n) = read_frame(input, &mut name)? else {
+    if !print_name(rt, input)? {
         return Ok(false);
-    };
-    rt.write_all(&name[..n])?;
-    print!(rt; ": ")?;
-    reading(rt, input)?;
+    }
+    let collecting = read_up_to(input, 1)? == 1;
+    if collecting {
+        reading(rt, input, parse_collect)?;
+    } else {
+        reading(rt, input, parse)?;
+    }
     Ok(true)
 }
 

@@ -2,7 +2,7 @@
 // output. `stdout` is written from the table in docs/WORDS.md by tools/test_sheet.
 #![tactic(auto)]
 
-use console::output::print_answer;
+use console::output::{print_left, print_text};
 use lex::Diagnostic;
 use sheet::print_sheet;
 use std::io;
@@ -11,50 +11,34 @@ use words::describe;
 fn diagnostic(number: u32, wanted: u32, seen: u32) -> Diagnostic {
     Diagnostic {
         number,
-        start: 0,
-        len: 0,
         wanted,
         seen,
+        ..Diagnostic::default()
     }
 }
 
-// The words of an error, on a line.
+// The words of an error, on a line. This and test_words have a function each: `console` is not over
+// `words`, and test_words prints the numbers too.
 fn show(rt: &impl Print, number: u32, wanted: u32, seen: u32) -> io::Result<()> {
     let mut line = [b'.'; 160];
     let answer = describe(diagnostic(number, wanted, seen), &mut line);
-    print_answer(rt, answer, |n| match line.get(..n) {
-        Some(words) => rt.write_all(words),
-        None => Ok(()),
-    })?;
+    print_text(rt, answer, &line)?;
     println!(rt;)
 }
 
 // A buffer of 159 bytes, and what it holds then.
 fn show_short(rt: &impl Print) -> io::Result<()> {
     let mut line = [b'.'; 159];
-    print_answer(
-        rt,
-        describe(diagnostic(31, 0, 0), &mut line),
-        |_| print!(rt; "written"),
-    )?;
-    println!(rt;)?;
-    rt.write_all(&line)?;
-    println!(rt;)
+    let answer = describe(diagnostic(31, 0, 0), &mut line);
+    print_left(rt, answer, &line)
 }
 
 // The answer to a sheet in the first `room` bytes of a buffer, and what the buffer holds then.
 fn show_sheet(rt: &impl Print, script: &[u8], errors: &[u32], room: usize) -> io::Result<()> {
     let mut buffer = [b'.'; 256];
-    if let Some(sheet) = buffer.get_mut(..room) {
-        print_answer(
-            rt,
-            print_sheet(script, errors, sheet),
-            |n| print!(rt; "written {n}"),
-        )?;
-        println!(rt;)?;
-    }
-    rt.write_all(&buffer)?;
-    println!(rt;)
+    let room = room.min(buffer.len());
+    let answer = print_sheet(script, errors, &mut buffer[..room]);
+    print_left(rt, answer, &buffer)
 }
 
 fn main(rt: HostRuntime) -> io::Result<()> {

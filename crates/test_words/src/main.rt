@@ -2,27 +2,24 @@
 // is refused. `tools/words` holds the file `stdout` to the tables of docs/WORDS.md.
 #![tactic(auto)]
 
-use console::output::print_answer;
+use console::output::{print_left, print_text};
 use lex::Diagnostic;
 use std::io;
 use words::describe;
 
-// An error with its number, wanted and seen before its words, on a line.
+// An error with its number, wanted and seen before its words, on a line. This and test_sheet have
+// a function each: `console` is not over `words`, and test_sheet prints the words alone.
 fn show(rt: &impl Print, number: u32, wanted: u32, seen: u32) -> io::Result<()> {
     let error = Diagnostic {
         number,
-        start: 0,
-        len: 0,
         wanted,
         seen,
+        ..Diagnostic::default()
     };
     let mut line = [b'.'; 160];
-    print!(rt; "{number} {wanted} {seen} ")?;
     let answer = describe(error, &mut line);
-    print_answer(rt, answer, |n| match line.get(..n) {
-        Some(words) => rt.write_all(words),
-        None => Ok(()),
-    })?;
+    print!(rt; "{number} {wanted} {seen} ")?;
+    print_text(rt, answer, &line)?;
     println!(rt;)
 }
 
@@ -40,13 +37,10 @@ fn show_buffer(rt: &impl Print, number: u32, line: &mut [u8]) -> io::Result<()> 
         number,
         start: u32::MAX,
         len: u32::MAX,
-        wanted: 0,
-        seen: 0,
+        ..Diagnostic::default()
     };
-    print_answer(rt, describe(error, line), |n| print!(rt; "written {n}"))?;
-    println!(rt;)?;
-    rt.write_all(line)?;
-    println!(rt;)
+    let answer = describe(error, line);
+    print_left(rt, answer, line)
 }
 
 fn main(rt: HostRuntime) -> io::Result<()> {
@@ -67,16 +61,16 @@ fn main(rt: HostRuntime) -> io::Result<()> {
     for (number, wanted, seen) in [
         (267, 9, 24),
         (65547, 9, 24),
-        (4294967295, 0, 24),
+        (u32::MAX, 0, 24),
         (11, 265, 24),
-        (11, 4294967295, 24),
+        (11, u32::MAX, 24),
         (11, 9, 280),
-        (12, 0, 4294967295),
+        (12, 0, u32::MAX),
         (12, 256, 24),
         (31, 256, 0),
         (31, 0, 256),
         (33, 0, 292),
-        (33, 0, 4294967295),
+        (33, 0, u32::MAX),
     ] {
         show(&rt, number, wanted, seen)?;
     }

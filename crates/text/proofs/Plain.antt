@@ -4,11 +4,11 @@ use mathlib.Core.Path.{◌≡◌, refl, ◌∙◌, ap}
 use mathlib.Core.Bool.{Bool, true, false}
 use mathlib.Core.List.{List, [], ◌∷◌, ◌++◌}
 use Prim.Native.Nat.{ℕ, zero, suc, ◌+◌, ◌/◌, ◌%◌, ◌≤◌}
-use native.Mathlib.Nat.{suc-ne-zero}
 use native.Mathlib.Omega.{arith}
 use lib.Dec.{ltb}
 use lib.ListN.{length}
 use borrow.Author.Tests.{lt-ltb}
+use Rattle.std.proofs.lemmas.List.{nil_from_length}
 use Rattle.text.specs.Text.{digits, number}
 use Rattle.text.specs.Emit.{Output, last, Emits, plain}
 use Rattle.text.proofs.EmitLaws.{and_left, and_right, same_size, bytes_count}
@@ -43,14 +43,10 @@ number-plain n = digits-plain n n
 
 -- ---- counted on no buffer
 
-nil : (y : List ℕ) → length y ≡ 0 → y ≡ []
-nil [] e = refl
-nil (b ∷ y) e = absurd (suc-ne-zero (length y) e)
-
 module _ {text y : List ℕ} {n : ℕ} (measured : Emits text [] 0 y n) where
   -- lending no part of a buffer leaves it
   pub kept : (x : List ℕ) → y ++ x ≡ x
-  kept x = ap (λ (l : List ℕ). l ++ x) (nil y (same_size measured))
+  kept x = ap (λ (l : List ℕ). l ++ x) (nil_from_length y (same_size measured))
 
   -- the count is the text's length
   pub counted : plain text ≡ true → length text ≤ last → n ≡ length text

@@ -11,10 +11,14 @@ use lex::Refusal;
 // How a call ends that writes a text into a lent buffer: with the text's length in bytes.
 pub type Writing = Result<usize, Refusal>;
 
-// The last position: counting stops there.
+// The last position. A text that reaches it is counted no further, and is taken for too long. A
+// limit and no Option: a method that writes cannot fail.
 pub const LAST: usize = usize::MAX;
 
-// A lent buffer, and where the next byte goes.
+// A lent buffer, and where the next byte goes. It is written by its methods: `write!` promises the
+// text of a `Display` only where it answers Ok, and never that it does, and nothing here may fail.
+// A trait of what can be written would have an impl in place of each method.
+// Made by its literal: of one that a function makes no proof has what its buffer ends as.
 #[derive(Drop)]
 pub struct Writer<'a> {
     pub out: &'a mut [u8],
@@ -40,7 +44,8 @@ impl<'a> Writer<'a> {
         }
     }
 
-    // A number in decimal.
+    // A number in decimal, by hand and without `write!` for the reason above. `itoa` has its
+    // text by the library's `decimal`, which no law here joins with `number`.
     pub fn write_number(&mut self, n: usize)
         ensures { Writes (number n) self.old self.new }
     {

@@ -1,4 +1,5 @@
 -- Laws of the token and error tables.
+pub mod Chunks
 pub mod Arrays
 pub mod Progress
 pub mod Records

@@ -1,14 +1,16 @@
 -- What cutting leaves is what is promised.
 -- Assumes nothing.
-use mathlib.Core.Path.{◌≡◌, ◌∙◌, sym, ap}
+use mathlib.Core.Path.{◌≡◌, refl, ◌∙◌, sym, ap}
 use mathlib.Core.Bool.{Bool, true, false}
 use mathlib.Core.List.{List, ◌++◌, flatten, append-nil}
 use Prim.Native.Nat.{ℕ, ◌+◌, ◌*◌, ◌-◌, ◌≤◌, ◌<◌}
 use native.Mathlib.Omega.{arith}
 use lib.ListN.{length, take}
-use borrow.Author.Tests.{lt-ltb, le-ltb}
+use lib.Dec.{ltb}
+use borrow.Author.Tests.{lt-ltb, le-ltb, ltb-false}
 use Rattle.lex.specs.Bytes.{or}
 use Rattle.lex.specs.Lex.{cut_at, cut, tokens_of, faults_of}
+use Rattle.lex.proofs.Laws.{false-true}
 use Rattle.lex.proofs.Steps.{cut_le}
 use Rattle.tokens.specs.declared.Stop.{Stop}
 use Rattle.tokens.specs.declared.TableCounts.{TableCounts}
@@ -16,7 +18,7 @@ use Rattle.std.specs.Prelude.{Option, None}
 use Rattle.tokens.specs.Filling.{tokens_left, errors_left, Stops}
 use Rattle.lex.specs.Answer as A
 use Rattle.lex.specs.Cells.{zeros}
-use Rattle.tokens.specs.Tables.{token_records, error_records, token_table, error_table, counts_of, tabled, too_short, promised}
+use Rattle.tokens.specs.Tables.{token_records, error_records, token_table, error_table, counts_of, tabled, too_short, limits, Outcome, promised, is_cut}
 use Rattle.tokens.proofs.Progress.{token-records-length, error-records-length, some-token, made-left, met-left}
 
 module _ (script ts es : List ℕ) where
@@ -24,21 +26,65 @@ module _ (script ts es : List ℕ) where
   unfolding promised
   too_long h = rw (lt-ltb 65536 (length script) h, promised)
 
-  pub short-tokens : length ts < 4 * length script + 4 → too_short script ts es ≡ true
+  pub wide : too_short script ts es ≡ false → (4 * length script + 4 ≤ length ts) × (6 * length script ≤ length es)
   unfolding too_short or
-  short-tokens h = rw (lt-ltb (length ts) (4 * length script + 4) h, or)
-
-  pub short-errors : 4 * length script + 4 ≤ length ts → length es < 6 * length script → too_short script ts es ≡ true
-  unfolding too_short or
-  short-errors k h = rw (le-ltb (length ts) (4 * length script + 4) k, or) (lt-ltb (length es) (6 * length script) h)
+  wide = go (ltb (length ts) (4 * length script + 4)) refl
+    where
+      go : (t : Bool) → ltb (length ts) (4 * length script + 4) ≡ t → or t (ltb (length es) (6 * length script)) ≡ false → (4 * length script + 4 ≤ length ts) × (6 * length script ≤ length es)
+      go true q e = false-true (sym e)
+      go false q e = (ltb-false (length ts) (4 * length script + 4) q, ltb-false (length es) (6 * length script) e)
 
   pub long_enough : 4 * length script + 4 ≤ length ts → 6 * length script ≤ length es → too_short script ts es ≡ false
   unfolding too_short or
   long_enough k h = rw (le-ltb (length ts) (4 * length script + 4) k, or) (le-ltb (length es) (6 * length script) h)
 
+  -- no limit is passed
+  pub record Room : Type 0 where
+    pub short : length script ≤ 65536
+    pub tokens : 4 * length script + 4 ≤ length ts
+    pub errors : 6 * length script ≤ length es
+
   pub too_short_lem : length script ≤ 65536 → too_short script ts es ≡ true → promised script ts es ≡ record { answer = A.refused 2; tokens = ts; errors = es }
   unfolding promised
   too_short_lem h e = rw (le-ltb 65536 (length script) h, promised) (rw (e, promised))
+
+  -- and no limit is passed where nothing is refused
+  pub has_room : {u : Unit {0}} → A.answer u ≡ limits script ts es → Room
+  unfolding limits
+  has_room {u} = go (ltb 65536 (length script)) refl (too_short script ts es) refl
+    where
+      no : {n : ℕ} {X : Type 0} → ◌≡◌ {A = A.Answer (Unit {0})} (A.answer u) (A.refused n) → X
+      no e = let z : ◌≡◌ {A = ℕ} 0 1 = cc in absurd (omega arith)
+
+      go : (l : Bool) → ltb 65536 (length script) ≡ l → (s : Bool) → too_short script ts es ≡ s
+          → A.answer u ≡ elim l as (λ (_ : Bool). A.Answer (Unit {0})) [ true ↦ A.refused 1 | false ↦ elim s as (λ (_ : Bool). A.Answer (Unit {0})) [ true ↦ A.refused 2 | false ↦ A.answer tt ] ] → Room
+      go true p s q e = no e
+      go false p true q e = no e
+      go false p false q e =
+          let w = wide q in
+          record { short = ltb-false 65536 (length script) p; tokens = w.0; errors = w.1 }
+
+  -- what is refused leaves both arrays
+  pub refused_left : {n : ℕ} → A.refused n ≡ limits script ts es → promised script ts es ≡ record { answer = A.refused n; tokens = ts; errors = es }
+  unfolding limits promised
+  refused_left {n} = go (ltb 65536 (length script)) (too_short script ts es)
+    where
+      go : (l s : Bool) → A.refused n ≡ elim l as (λ (_ : Bool). A.Answer (Unit {0})) [ true ↦ A.refused 1 | false ↦ elim s as (λ (_ : Bool). A.Answer (Unit {0})) [ true ↦ A.refused 2 | false ↦ A.answer tt ] ]
+          → elim l as (λ (_ : Bool). Outcome) [ true ↦ record { answer = A.refused 1; tokens = ts; errors = es } | false ↦ elim s as (λ (_ : Bool). Outcome) [ true ↦ record { answer = A.refused 2; tokens = ts; errors = es } | false ↦ tabled script ts es ] ]
+          ≡ record { answer = A.refused n; tokens = ts; errors = es }
+      go true s e = let z : 1 ≡ n = cc in λ i. record { answer = A.refused (z i); tokens = ts; errors = es }
+      go false true e = let z : 2 ≡ n = cc in λ i. record { answer = A.refused (z i); tokens = ts; errors = es }
+      go false false e = let z : ◌≡◌ {A = ℕ} 0 1 = cc in absurd (omega arith)
+
+  pub refused_uncut : {n : ℕ} → A.refused n ≡ limits script ts es → is_cut script ts es ≡ false
+  unfolding limits is_cut
+  refused_uncut {n} = go _ (ltb 65536 (length script)) (too_short script ts es)
+    where
+      go : (w l s : Bool) → A.refused n ≡ elim l as (λ (_ : Bool). A.Answer (Unit {0})) [ true ↦ A.refused 1 | false ↦ elim s as (λ (_ : Bool). A.Answer (Unit {0})) [ true ↦ A.refused 2 | false ↦ A.answer tt ] ]
+          → elim l as (λ (_ : Bool). Bool) [ true ↦ false | false ↦ elim s as (λ (_ : Bool). Bool) [ true ↦ false | false ↦ w ] ] ≡ false
+      go w true s e = refl
+      go w false true e = refl
+      go w false false e = let z : ◌≡◌ {A = ℕ} 0 1 = cc in absurd (omega arith)
 
   pub taken : length script ≤ 65536 → too_short script ts es ≡ false → promised script ts es ≡ tabled script ts es
   unfolding promised

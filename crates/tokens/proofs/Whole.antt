@@ -16,7 +16,7 @@ use Rattle.lex.specs.Answer.{max_bytes}
 use Rattle.lex.specs.Cells.{zeros, padded}
 use Rattle.tokens.specs.Tables.{token_table, error_table, counts_of, tabled, too_short, promised, is_cut}
 use Rattle.tokens.proofs.Arrays.{zeros-length}
-use Rattle.tokens.proofs.Promised.{counts_fit, taken}
+use Rattle.tokens.proofs.Promised.{wide, counts_fit, taken}
 
 same_eq : (xs ys : List ℕ) → same_bytes xs ys ≡ true → xs ≡ ys
 unfolding same_bytes
@@ -76,14 +76,6 @@ padded-length n table h = omega (arith, length-append table (zeros (n - length t
 
 padded-same : (n : ℕ) (table : List ℕ) → length table ≤ n → same_bytes (padded n table) (padded (length (padded n table)) table) ≡ true
 padded-same n table h = ap (λ (k : ℕ). same_bytes (padded n table) (padded k table)) (padded-length n table h) ∙ same_refl (padded n table)
-
-wide : (script ts es : List ℕ) → too_short script ts es ≡ false → (4 * length script + 4 ≤ length ts) × (6 * length script ≤ length es)
-unfolding too_short or
-wide script ts es = go (ltb (length ts) (4 * length script + 4)) refl
-  where
-    go : (t : Bool) → ltb (length ts) (4 * length script + 4) ≡ t → or t (ltb (length es) (6 * length script)) ≡ false → (4 * length script + 4 ≤ length ts) × (6 * length script ≤ length es)
-    go true q e = false-true (sym e)
-    go false q e = (ltb-false (length ts) (4 * length script + 4) q, ltb-false (length es) (6 * length script) e)
 
 same-short : (script ts es ts' es' : List ℕ) → length ts' ≡ length ts → length es' ≡ length es → too_short script ts' es' ≡ too_short script ts es
 unfolding too_short

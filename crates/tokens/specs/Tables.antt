@@ -1,10 +1,10 @@
 -- The token and error tables of a script, and what cutting promises of both lent arrays.
-use Rattle.std.specs.Prelude.{Bool, true, false, ◌&&◌, ℕ, ◌+◌, ◌*◌, ltb, length}
-use mathlib.Core.List.{List, [], ◌∷◌, map, flatten}
+use Rattle.std.specs.Prelude.{Bool, true, false, ◌&&◌, ℕ, ◌+◌, ◌*◌, ◌-◌, ltb, length, take}
+use mathlib.Core.List.{List, [], ◌∷◌, ◌++◌, map, flatten}
 use Rattle.lex.specs.Answer.{max_bytes, Answer}
 use Rattle.lex.specs.Answer as A
 use Rattle.lex.specs.Bytes.{or}
-use Rattle.lex.specs.Cells.{padded}
+use Rattle.lex.specs.Cells.{zeros, padded}
 use Rattle.lex.specs.Kind.{same_bytes}
 use Rattle.lex.specs.Lex.{cut, tokens_of, Occurrence, faults_of}
 use Rattle.lex.specs.Refusals.{r_too_long, r_too_short}
@@ -19,8 +19,8 @@ token_width = 4
 abbrev pub error_width : ℕ
 error_width = 6
 
--- a token: its kind, where it starts, how long its spelling is and where it begins; a fixed spelling
--- begins at the token's start
+-- a token: its kind, where it starts, how long its spelling is and where it begins; a fixed
+-- spelling begins at the token's start
 unfoldable pub token_record : List ℕ → Token → List ℕ
 token_record script t = t.kind ∷ t.start ∷ t.len ∷ spelling_start script t ∷ []
 
@@ -50,6 +50,10 @@ counts_of script = record { tokens = length (tokens_of (cut script)); errors = l
 
 -- ---- what is promised
 
+-- an array with zeros behind its first `n` cells
+abbrev pub behind : ℕ → List ℕ → List ℕ
+behind n a = take n a ++ zeros (length a - n)
+
 -- an answer, and both arrays as it leaves them
 pub record Outcome : Type 0 where
   pub answer : Answer TableCounts
@@ -68,7 +72,18 @@ tabled script tokens errors = record {
 unfoldable pub too_short : List ℕ → List ℕ → List ℕ → Bool
 too_short script tokens errors = or (ltb (length tokens) (token_width * length script + token_width)) (ltb (length errors) (error_width * length script))
 
--- 1 is tested first, then 2; neither changes an array
+-- 1 is tested first, then 2
+unfoldable pub limits : List ℕ → List ℕ → List ℕ → Answer Unit
+limits script tokens errors =
+    elim (ltb max_bytes (length script)) [
+      | true ↦ A.refused r_too_long
+      | false ↦ elim (too_short script tokens errors) [
+        | true ↦ A.refused r_too_short
+        | false ↦ A.answer tt
+      ]
+    ]
+
+-- neither changes an array
 unfoldable pub promised : List ℕ → List ℕ → List ℕ → Outcome
 promised script tokens errors =
     elim (ltb max_bytes (length script)) [

@@ -1,14 +1,14 @@
 // Cutting a script into a lent table of tokens and a lent table of the lexer's errors.
 #![tactic(auto)]
 
-ghost use Rattle.std.specs.Prelude.{◌≡◌, true, ◌&&◌, ◌==◌, fold, ◌++◌, ℕ};
-ghost use Rattle.std.specs.Prelude.{◌+◌, ◌*◌, ◌-◌, ◌≤◌, length, take, drop};
+ghost use Rattle.std.specs.Prelude.{◌≡◌, true, ◌&&◌, ◌==◌, fold, ◌++◌};
+ghost use Rattle.std.specs.Prelude.{◌+◌, ◌*◌, ◌≤◌, length, take, drop};
 ghost use Rattle.lex.specs.Answer.{max_bytes, answered};
-ghost use Rattle.lex.specs.Cells.{zeros, padded};
+ghost use Rattle.lex.specs.Cells.{padded};
 ghost use Rattle.lex.specs.Kind.{same_bytes};
 ghost use Rattle.lex.specs.Lex.{cut_at, tokens_of, diagnostic_of};
 ghost use Rattle.tokens.specs.Tables.{token_width, error_width, token_record, error_record};
-ghost use Rattle.tokens.specs.Tables.{token_table, error_table, promised, is_cut};
+ghost use Rattle.tokens.specs.Tables.{token_table, error_table, behind, limits, promised, is_cut};
 ghost use Rattle.tokens.specs.Table.{token_at, token_of, error_at, occurrence_of};
 ghost use Rattle.tokens.specs.Filling.{Stops};
 
@@ -30,7 +30,9 @@ pub const ERROR_WIDTH: usize = 6;
 
 // ---- records
 
-// Token record `n`.
+// Token record `n`. Cell by cell, as errors are: `copy_from_slice` tests whether what it copies
+// overlaps, by which cutting takes 3 % more instructions; of `tokens[at..].first_chunk_mut()` the
+// proof has no name for what `writes_back` says, so that the cells behind are not shown.
 fn put_token(script: &[u8], tokens: &mut [u32], n: usize, t: Token)
     requires { (token_width * n + token_width ≤ length tokens.old)
         × (length script.now ≤ max_bytes)
@@ -70,7 +72,8 @@ fn put_error(errors: &mut [u32], n: usize, e: Fault, after: usize)
     errors[at + 5] = after as u32;
 }
 
-// What record `n` says of a token.
+// What record `n` says of a token. No `Token`, whose numbers are `usize`: the parser stores these
+// in cells of 32 bits, and would have to show of each that it fits.
 #[derive(Clone, Copy)]
 pub struct Entry {
     pub kind: u32,
@@ -78,23 +81,25 @@ pub struct Entry {
     pub len: u32,
 }
 
-// The token of record `i`; past the last whole record Eof.
-pub fn token_at(tokens: &[u32], i: usize) -> Entry
-    ensures { token_of result ≡ token_at tokens.now i }
-{
-    if i < tokens.len() / TOKEN_WIDTH {
-        let at = TOKEN_WIDTH * i;
-        return Entry {
-            kind: tokens[at],
-            start: tokens[at + 1],
-            len: tokens[at + 2],
-        };
-    }
-    Entry {
+impl Entry {
+    // Eof, where a table has no more records.
+    pub const EOF: Entry = Entry {
         kind: Type::EOF,
         start: 0,
         len: 3,
-    }
+    };
+}
+
+// The token of record `i`; past the last whole record Eof.
+// Eof and no Option: to the parser tokens end with Eof, in the table or behind it.
+pub fn token_at(tokens: &[u32], i: usize) -> Entry
+    ensures { token_of result ≡ token_at tokens.now i }
+{
+    let Some(record) = tokens.as_chunks::<TOKEN_WIDTH>().0.get(i) else {
+        return Entry::EOF;
+    };
+    let [kind, start, len, _] = *record;
+    Entry { kind, start, len }
 }
 
 // What record `n` says of an error, and how many tokens were cut before it.
@@ -104,35 +109,40 @@ pub struct ErrorEntry {
     pub after: u32,
 }
 
-// The error of record `i`; past the last whole record zeros.
+// The error of record `i`; past the last whole record zeros. No Option: behind its errors a table
+// has zeros too, so that a reader ends at either by one test.
 pub fn error_at(errors: &[u32], i: usize) -> ErrorEntry
     ensures { occurrence_of result ≡ error_at errors.now i }
 {
-    if i < errors.len() / ERROR_WIDTH {
-        let at = ERROR_WIDTH * i;
-        return ErrorEntry {
-            error: Diagnostic {
-                number: errors[at],
-                start: errors[at + 1],
-                len: errors[at + 2],
-                wanted: errors[at + 3],
-                seen: errors[at + 4],
-            },
-            after: errors[at + 5],
-        };
+    let Some(record) = errors.as_chunks::<ERROR_WIDTH>().0.get(i) else {
+        return ErrorEntry::default();
+    };
+    // By name: `split_first_chunk` has five of six cells in an Option, though it is never None.
+    let [number, start, len, wanted, seen, after] = *record;
+    ErrorEntry {
+        error: Diagnostic {
+            number,
+            start,
+            len,
+            wanted,
+            seen,
+        },
+        after,
     }
-    ErrorEntry::default()
 }
 
 // ---- the tables
 
-// From a place on an array is cleared.
-fn clear_from(a: &mut [u32], from: usize)
-    requires { from ≤ length a.old }
-    ensures { a.new ≡ take from a.old ++ zeros (length a.old - from) }
+// From a place on an array is cleared; as it is where the place lies past its end.
+pub fn clear_from(a: &mut [u32], from: usize)
+    ensures { a.new ≡ behind from a.old }
 {
-    a[from..].fill(0);
+    if from < a.len() {
+        a[from..].fill(0);
+    }
 }
+
+// Each table is a parameter: C lends them apart, and a step fills one while it leaves the other.
 
 // Where filling stopped: how many records it made, and where it would go on if the script has not
 // ended.
@@ -144,7 +154,10 @@ struct Stop {
 }
 
 // The records from a position on, which has so many tokens before it, at the front of both arrays,
-// as far as there is room. It is the only loop over the lexer: so the lexer is compiled into it.
+// as far as there is room. It is this crate's only loop over the lexer, compiled into it.
+// Records are counted by hand: a step fills one of two arrays or none, and of the parts that
+// `as_chunks_mut` lends a proof knows no cell afterwards.
+#[tactic(auto, using(crate::proofs::Progress::less_token, crate::proofs::Progress::less_fault))]
 fn fill(
     classes: &Classes,
     script: &[u8],
@@ -165,11 +178,7 @@ fn fill(
         match step_with(classes, script, pos) {
             Step::Token { token, next } => {
                 if tokens.len() < TOKEN_WIDTH * n + TOKEN_WIDTH {
-                    return Stop {
-                        tokens: n,
-                        errors: m,
-                        next: Some(pos),
-                    };
+                    break;
                 }
                 put_token(script, tokens, n, token);
                 n += 1;
@@ -177,11 +186,7 @@ fn fill(
             }
             Step::Fault { fault, next } => {
                 if errors.len() < ERROR_WIDTH * m + ERROR_WIDTH {
-                    return Stop {
-                        tokens: n,
-                        errors: m,
-                        next: Some(pos),
-                    };
+                    break;
                 }
                 put_error(errors, m, fault, before + n);
                 m += 1;
@@ -189,18 +194,9 @@ fn fill(
             }
             Step::End { at } => {
                 if tokens.len() < TOKEN_WIDTH * n + TOKEN_WIDTH {
-                    return Stop {
-                        tokens: n,
-                        errors: m,
-                        next: Some(pos),
-                    };
+                    break;
                 }
-                let eof = Token {
-                    kind: Type::EOF,
-                    start: at,
-                    len: 3,
-                };
-                put_token(script, tokens, n, eof);
+                put_token(script, tokens, n, Token::eof(at));
                 return Stop {
                     tokens: n + 1,
                     errors: m,
@@ -209,24 +205,35 @@ fn fill(
             }
         }
     }
+    Stop {
+        tokens: n,
+        errors: m,
+        next: Some(pos),
+    }
 }
 
-// Cuts a script into both tables, with zeros behind them. Refused, with nothing changed: 1 where the
-// script has more than 65,536 bytes, then 2 where `tokens` has fewer cells than 4 for each byte and
-// 4 more, or `errors` than 6 for each byte.
+// Refused where the script is too long, and then where an array is too short for it: `tokens` for a
+// record for each byte and one for Eof, or `errors` for a record for each byte.
+#[tactic(auto, unfolding(crate::specs::Tables::limits, crate::specs::Tables::too_short, lex::specs::Bytes::or))]
+fn refusal(script: &[u8], tokens: &[u32], errors: &[u32]) -> Result<(), Refusal>
+    ensures { answered result ≡ limits script.now tokens.now errors.now }
+{
+    let n = script.len();
+    if MAX_BYTES < n {
+        return Err(Refusal::TooLong);
+    }
+    if tokens.len() < TOKEN_WIDTH * n + TOKEN_WIDTH || errors.len() < ERROR_WIDTH * n {
+        return Err(Refusal::TooShort);
+    }
+    Ok(())
+}
+
+// Cuts a script into both tables, with zeros behind them. Nothing changes where it is refused.
 pub fn cut(script: &[u8], tokens: &mut [u32], errors: &mut [u32]) -> Result<TableCounts, Refusal>
     ensures { promised script.now tokens.old errors.old
         ≡ record { answer = answered result; tokens = tokens.new; errors = errors.new } }
 {
-    if MAX_BYTES < script.len() {
-        return Err(Refusal::TooLong);
-    }
-    if tokens.len() < TOKEN_WIDTH * script.len() + TOKEN_WIDTH {
-        return Err(Refusal::TooShort);
-    }
-    if errors.len() < ERROR_WIDTH * script.len() {
-        return Err(Refusal::TooShort);
-    }
+    refusal(script, tokens, errors)?;
     let s = fill(&Classes::new(), script, 0, 0, tokens, errors);
     clear_from(tokens, TOKEN_WIDTH * s.tokens);
     clear_from(errors, ERROR_WIDTH * s.errors);
@@ -239,6 +246,7 @@ pub fn cut(script: &[u8], tokens: &mut [u32], errors: &mut [u32]) -> Result<Tabl
 // ---- whether two arrays are these tables
 
 // Whether the first `n` cells of `a` stand in `b` from a place on.
+// By place and length: so that the part has `n` cells is shown here, once for both tables.
 fn same_cells(a: &[u32], n: usize, b: &[u32], at: usize) -> bool
     requires { (n ≤ length a.now) × (at + n ≤ length b.now) }
     ensures { result ≡ same_bytes (take n (drop at b.now)) (take n a.now) }
@@ -246,17 +254,18 @@ fn same_cells(a: &[u32], n: usize, b: &[u32], at: usize) -> bool
     b[at..at + n] == a[..n]
 }
 
-// Whether an array is zero from a place on. There is no early exit: so the compiled code compares
-// many cells in one step.
-fn is_zero_from(a: &[u32], from: usize) -> bool
-    requires { from ≤ length a.now }
-    ensures { result ≡ fold (λ all cell. all && (cell == 0)) true (drop from a.now) }
+// Whether all cells are zero. There is no early exit: so the compiled code compares many cells in
+// one step.
+fn is_zero(cells: &[u32]) -> bool
+    ensures { result ≡ fold (λ all cell. all && (cell == 0)) true cells.now }
 {
-    a[from..].iter().fold(true, |all, cell| all & (*cell == 0))
+    cells.iter().fold(true, |all, cell| all & (*cell == 0))
 }
 
 // Whether both arrays hold their tables and zeros behind: a part of the script is cut into `t` and
-// `e`, and compared, one part after the other.
+// `e`, and compared, one part after the other. No iterator of parts: its items would be lent from
+// `t` and `e`, which the next part overwrites. Six parameters for the reason at `fill`.
+#[tactic(auto, using(crate::proofs::Same::part_room))]
 fn agrees(
     classes: &Classes,
     t: &mut [u32],
@@ -288,30 +297,29 @@ fn agrees(
         n += s.tokens;
         m += s.errors;
         let Some(next) = s.next else {
-            if !is_zero_from(tokens, TOKEN_WIDTH * n) {
+            if !is_zero(&tokens[TOKEN_WIDTH * n..]) {
                 return false;
             }
-            return is_zero_from(errors, ERROR_WIDTH * m);
+            return is_zero(&errors[ERROR_WIDTH * m..]);
         };
         pos = next;
     }
 }
 
-// Whether both arrays are exactly what cutting this script leaves in them, zeros behind included. No
-// where cutting is refused.
+// So many records of each table are cut and compared at a time.
+const PART_TOKENS: usize = 64;
+
+const PART_ERRORS: usize = 32;
+
+// Whether both arrays are exactly what cutting this script leaves in them, zeros behind included.
+// No where cutting is refused.
 pub fn is_cut(script: &[u8], tokens: &[u32], errors: &[u32]) -> bool
     ensures { result ≡ is_cut script.now tokens.now errors.now }
 {
-    if MAX_BYTES < script.len() {
+    let Ok(()) = refusal(script, tokens, errors) else {
         return false;
-    }
-    if tokens.len() < TOKEN_WIDTH * script.len() + TOKEN_WIDTH {
-        return false;
-    }
-    if errors.len() < ERROR_WIDTH * script.len() {
-        return false;
-    }
-    let mut t = [0; 256];
-    let mut e = [0; 192];
+    };
+    let mut t = [0; TOKEN_WIDTH * PART_TOKENS];
+    let mut e = [0; ERROR_WIDTH * PART_ERRORS];
     agrees(&Classes::new(), &mut t, &mut e, script, tokens, errors)
 }

@@ -81,6 +81,21 @@ script-error_two_digits n h = go (leb 10 n) (leb 31 n) refl refl
     go false true e f = let k : 31 ≤ n = leb-true 31 n f in omega arith
     go false false e f = absurd (false≢true (sym (rw (e, f)) ∙ h))
 
+either : (a b c d : Bool) → ((a && b) || (c && d)) ≡ true → (a ≡ true → b ≡ true → ⊥) → (c ≡ true → d ≡ true → ⊥) → ⊥
+either true true c d h f g = f refl refl
+either true false true true h f g = g refl refl
+either true false true false h f g = false≢true h
+either true false false d h f g = false≢true h
+either false b true true h f g = g refl refl
+either false b true false h f g = false≢true h
+either false b false d h f g = false≢true h
+
+pub script-error-between : (n : ℕ) → is_script_error n ≡ true → (10 ≤ n → n ≤ 23 → ⊥) → (31 ≤ n → n ≤ 34 → ⊥) → ⊥
+unfolding is_script_error
+script-error-between n h front back =
+    either (leb 10 n) (leb n 23) (leb 31 n) (leb n 34) h (λ a b. front (leb-true 10 n a) (leb-true n 23 b))
+    (λ a b. back (leb-true 31 n a) (leb-true n 34 b))
+
 pub kind-small : (k : ℕ) → is_kind k ≡ true → k < 44
 unfolding is_kind
 kind-small k h = let l : k ≤ 43 = leb-true k 43 (and_right (leb 1 k) (leb k 43) h) in omega arith

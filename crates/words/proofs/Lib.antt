@@ -1,6 +1,7 @@
 -- What holds of all lines, the laws that the functions' proofs cite, and that every error of a
 -- reading has words.
 pub mod Tables
+mod Bounds
 pub mod Forms
 pub mod Lines
 pub mod Apart

@@ -1,23 +1,47 @@
 -- Laws that the functions' proofs cite: the tables, the parts of a line, the answers.
 -- Assumes nothing.
-use mathlib.Core.Path.{◌≡◌, refl}
-use mathlib.Core.Bool.{true, false, ◌&&◌}
+use mathlib.Core.Path.{◌≡◌, refl, sym, ap}
+use mathlib.Core.Bool.{Bool, true, false, not, ◌&&◌}
 use mathlib.Core.Option.{some}
 use mathlib.Core.List.{List, [], ◌∷◌, ◌++◌}
-use Prim.Native.Nat.{ℕ, ◌<◌, ◌≤◌}
+use Prim.Native.Nat.{ℕ, zero, suc, ◌<◌, ◌≤◌}
 use native.Mathlib.Omega.{arith}
-use lib.Dec.{leb, eqb}
+use lib.Dec.{leb, ltb, eqb}
 use lib.ListN.{length, get_or}
-use borrow.Author.Tests.{eq-eqb, ne_eqb, lt-ltb, le-ltb, le-leb, leb-true}
+use borrow.Author.Tests.{eq-eqb, ne_eqb, lt-ltb, le-ltb, le-leb, leb-true, ltb-true, ltb-false}
+use Rattle.std.proofs.lemmas.List.{get_or_past}
 use Rattle.lex.proofs.Laws.{table, table_at}
 use Rattle.lex.specs.declared.diagnostic.Diagnostic.{Diagnostic}
 use Rattle.lex.specs.declared.diagnostic.Refusal.TheVariants.{LineTooShort, NoWords}
 use Rattle.std.specs.Prelude.{Ok, Err}
+use Rattle.text.specs.Text.{bytes}
 use Rattle.text.specs.Emit.{Emits, plain}
 use Rattle.text.specs.Answer.{result, answer_of}
 use Rattle.text.proofs.EmitLaws.{whole, and_left, and_right}
-use Rattle.words.specs.Words.{kind_name, hex_digit, but_found, details, line, is_kind, is_wanted, is_seen, has_words, words, printable, described}
+use Rattle.words.specs.Words.{phrases, phrase, kind_names, kind_name, is_script_error, hex_digit, but_found, details, line, is_kind, is_wanted, is_seen, has_words, words, printable, described}
+use Rattle.words.proofs.Tables.{at_those}
+use Rattle.words.proofs.Forms.{script-error-between}
 use Rattle.words.proofs.Lines.{is_line}
+
+-- ---- the tables
+
+module _ (n : ℕ) where
+  pub no-phrase : (10 ≤ n → n ≤ 23 → ⊥) → (31 ≤ n → n ≤ 34 → ⊥) → [] ≡ phrase n
+  unfolding phrase phrases bytes is_script_error
+  no-phrase front back = go (ltb n 35) (is_script_error n) refl refl
+    where
+      go : (t u : Bool) → ltb n 35 ≡ t → is_script_error n ≡ u → [] ≡ phrase n
+      go false u e f = sym (get_or_past phrases n [] (ltb-false n 35 e))
+      go true true e f = absurd (script-error-between n f front back)
+      go true false e f = sym (at_those (λ x. not (is_script_error x)) phrase (λ x. []) [] 35 n refl (ltb-true n 35 e) (ap not f))
+
+  pub no_name_lem : (1 ≤ n → n ≤ 43 → ⊥) → [] ≡ kind_name n
+  unfolding kind_name kind_names bytes
+  no_name_lem inside = go n inside
+    where
+      go : (k : ℕ) → (1 ≤ k → k ≤ 43 → ⊥) → [] ≡ kind_name k
+      go zero h = refl
+      go (suc k) h = sym (get_or_past kind_names (suc k) [] (omega (arith, h)))
 
 -- ---- digits
 

@@ -1,22 +1,11 @@
--- Tables of texts: none behind it; which entry a text begins with.
+-- Tables of texts: which entry a text begins with; tests that antt computes.
 -- Assumes nothing.
-use mathlib.Core.Path.{◌≡◌, refl}
+use mathlib.Core.Path.{◌≡◌}
 use mathlib.Core.Bool.{Bool, true, false}
 use mathlib.Core.List.{List, [], ◌∷◌}
-use Prim.Native.Nat.{ℕ, zero, suc, ◌<◌, ◌≤◌}
-use native.Mathlib.Nat.{le_of_suc-le-suc, not-suc-le-zero}
+use Prim.Native.Nat.{ℕ, suc, ◌<◌}
 use lib.Dec.{eqb}
-use lib.ListN.{length}
-use Rattle.std.specs.Borrow.{Bor}
 use Rattle.lex.proofs.Laws.{table, agree}
-use Rattle.lex.specs.Kind.{text_at}
-
--- ---- behind a table
-
-pub text_behind : (xs : List (Bor (List ℕ))) (n : ℕ) → length xs ≤ n → [] ≡ text_at xs n
-text_behind [] n h = refl
-text_behind (x ∷ xs) zero h = absurd (not-suc-le-zero h)
-text_behind (x ∷ xs) (suc n) h = text_behind xs n (le_of_suc-le-suc h)
 
 -- ---- which entry a text begins with
 

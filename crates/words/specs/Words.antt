@@ -5,6 +5,7 @@ use Rattle.std.proofs.Math.Option.{Option, none, some}
 use Rattle.lex.specs.Kind.{k_eof, k_record}
 use Rattle.lex.specs.Errors.{e_too_deep, e_expected_token, e_bad_type}
 use Rattle.lex.specs.Errors.{e_unterminated_string, e_unknown_character, e_invalid_number}
+use Rattle.lex.specs.Cells.{diagnostic_at}
 use Rattle.lex.specs.declared.diagnostic.Diagnostic.{Diagnostic}
 use Rattle.lex.specs.Refusals.{r_line_too_short, r_no_words}
 use Rattle.text.specs.Text.{bytes}
@@ -119,13 +120,7 @@ has_words e =
 
 -- an error's five numbers, in the order of 01
 abbrev pub error_of : List ℕ → Diagnostic
-error_of cells = record {
-  number = get_or cells 0 0;
-  start = get_or cells 1 0;
-  len = get_or cells 2 0;
-  wanted = get_or cells 3 0;
-  seen = get_or cells 4 0;
-}
+error_of cells = diagnostic_at cells 0
 
 unfoldable pub words : Diagnostic → Option (List ℕ)
 words e = elim (has_words e) [ true ↦ some (line e) | false ↦ none ]

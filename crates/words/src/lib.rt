@@ -4,7 +4,6 @@
 ghost use Rattle.std.specs.Prelude.{◌≡◌, ◌<◌};
 ghost use Rattle.text.specs.Answer.{result as result_of, answer_of};
 ghost use Rattle.text.specs.Emit.{Writes};
-ghost use Rattle.lex.specs.Kind.{text_at};
 ghost use Rattle.words.specs.Words.{phrase, kind_name, hex_digit, hex, details, line, is_kind};
 ghost use Rattle.words.specs.Words.{is_script_error, is_wanted, is_seen, has_words, described};
 
@@ -14,114 +13,92 @@ use text::{Writer, Writing};
 // The most bytes of a line, and the fewest of a buffer.
 pub const MAX_LINE: usize = 160;
 
-// The phrase of each error number, from 0 on.
-const PHRASES: [&str; 35] = [
-    "",
-    "",
-    "",
-    "",
-    "",
-    "",
-    "",
-    "",
-    "",
-    "",
-    "more than 128 levels inside one another are not allowed; level 129 would begin at ",
-    "expected ",
-    "a name must stand here, not ",
-    "a #! comment describes the let, fn or extern after it, but the script ends after ",
-    "a #! comment describes the let, fn or extern after it, but something else comes after ",
-    "an import path must be a string, not ",
-    "extern must be followed by a string, not ",
-    "an extern cannot stand inside another extern, but here is ",
-    "a match needs a default, a block without a condition; this match opens with ",
-    "an expression must stand here, not ",
-    "Foreign< must be followed by a name, not ",
-    "Option< must be followed by a type, not ",
-    "Array< must be followed by a type, not ",
-    "a type must stand here, not ",
-    "",
-    "",
-    "",
-    "",
-    "",
-    "",
-    "",
-    "this string has no closing quote",
-    "this text has bytes that form no character; it must be valid UTF-8",
-    "this character is not part of the language; its byte in hexadecimal is ",
-    "a number can have only one dot, and this one has more",
-];
-
-// The name of each kind, from 0 on.
-const KIND_NAMES: [&str; 44] = [
-    "",
-    "the end of the script",
-    "'('",
-    "')'",
-    "'+'",
-    "'-'",
-    "'*'",
-    "'/'",
-    "'%'",
-    "'='",
-    "'=='",
-    "'<'",
-    "'>'",
-    "'!'",
-    "'!='",
-    "'?'",
-    "':'",
-    "'.'",
-    "'['",
-    "']'",
-    "'{'",
-    "'}'",
-    "a string",
-    "a number with a dot",
-    "a whole number",
-    "a name",
-    "a #! comment",
-    "the word 'import'",
-    "the word 'extern'",
-    "the word 'let'",
-    "the word 'fn'",
-    "the word 'match'",
-    "the word 'as'",
-    "the word 'true'",
-    "the word 'false'",
-    "the word 'Str'",
-    "the word 'Int'",
-    "the word 'Double'",
-    "the word 'Bool'",
-    "the word 'Void'",
-    "the word 'Option'",
-    "the word 'Array'",
-    "the word 'Foreign'",
-    "the word 'Record'",
-];
-
-// The entry at a number; nothing where the table has none.
-fn write_entry(table: &[&str], n: u32, w: &mut Writer)
-    ensures { Writes (text_at table.now n) w.old w.new }
+// What the rule is that an error breaks; no text for another number, which `has_words` keeps out.
+#[tactic(auto, unfolding(crate::specs::Words::phrase, crate::specs::Words::phrases, text::specs::Text::bytes))]
+fn phrase(number: u32) -> &'static str
+    ensures { result.now ≡ phrase number }
 {
-    if let Some(text) = table.get(n as usize) {
-        w.write_text(text.as_bytes());
+    match number {
+        Diagnostic::TOO_DEEP =>
+            "more than 128 levels inside one another are not allowed; level 129 would begin at ",
+        Diagnostic::EXPECTED_TOKEN => "expected ",
+        Diagnostic::EXPECTED_IDENTIFIER => "a name must stand here, not ",
+        Diagnostic::DOCS_ATTACHED_TO_NOTHING =>
+            "a #! comment describes the let, fn or extern after it, but the script ends after ",
+        Diagnostic::DOCS_BEFORE_SOMETHING_ELSE =>
+            "a #! comment describes the let, fn or extern after it, but something else \
+             comes after ",
+        Diagnostic::IMPORT_PATH_NOT_A_STRING => "an import path must be a string, not ",
+        Diagnostic::EXTERN_WITHOUT_A_STRING => "extern must be followed by a string, not ",
+        Diagnostic::NESTED_EXTERN => "an extern cannot stand inside another extern, but here is ",
+        Diagnostic::MATCH_WITHOUT_A_DEFAULT =>
+            "a match needs a default, a block without a condition; this match opens with ",
+        Diagnostic::EXPECTED_EXPRESSION => "an expression must stand here, not ",
+        Diagnostic::EMPTY_FOREIGN => "Foreign< must be followed by a name, not ",
+        Diagnostic::EMPTY_OPTION => "Option< must be followed by a type, not ",
+        Diagnostic::EMPTY_ARRAY => "Array< must be followed by a type, not ",
+        Diagnostic::BAD_TYPE => "a type must stand here, not ",
+        Diagnostic::UNTERMINATED_STRING => "this string has no closing quote",
+        Diagnostic::INVALID_UTF8 =>
+            "this text has bytes that form no character; it must be valid UTF-8",
+        Diagnostic::UNKNOWN_CHARACTER =>
+            "this character is not part of the language; its byte in hexadecimal is ",
+        Diagnostic::INVALID_NUMBER => "a number can have only one dot, and this one has more",
+        _ => "",
     }
 }
 
-#[tactic(auto, unfolding(crate::specs::Words::phrase, crate::specs::Words::phrases, text::specs::Text::bytes))]
-fn write_phrase(number: u32, w: &mut Writer)
-    ensures { Writes (phrase number) w.old w.new }
-{
-    write_entry(&PHRASES, number, w);
-}
-
+// What a kind of token is called. No text for another number, as at `phrase`.
 #[tactic(auto, unfolding(crate::specs::Words::kind_name, crate::specs::Words::kind_names, text::specs::Text::bytes))]
-fn write_kind(kind: u32, w: &mut Writer)
-    ensures { Writes (kind_name kind) w.old w.new }
+fn kind_name(kind: u32) -> &'static str
+    ensures { result.now ≡ kind_name kind }
 {
-    write_entry(&KIND_NAMES, kind, w);
+    match kind {
+        Type::EOF => "the end of the script",
+        Type::BRACE_LEFT => "'('",
+        Type::BRACE_RIGHT => "')'",
+        Type::PLUS => "'+'",
+        Type::MINUS => "'-'",
+        Type::ASTERIKS => "'*'",
+        Type::SLASH => "'/'",
+        Type::PERCENT => "'%'",
+        Type::EQUAL => "'='",
+        Type::DOUBLE_EQUAL => "'=='",
+        Type::LESS_THAN => "'<'",
+        Type::GREATER_THAN => "'>'",
+        Type::EXCLAIM => "'!'",
+        Type::NOT_EQUAL => "'!='",
+        Type::QUESTION => "'?'",
+        Type::COLON => "':'",
+        Type::DOT => "'.'",
+        Type::BRAKET_LEFT => "'['",
+        Type::BRAKET_RIGHT => "']'",
+        Type::CURLY_LEFT => "'{'",
+        Type::CURLY_RIGHT => "'}'",
+        Type::S => "a string",
+        Type::D => "a number with a dot",
+        Type::I => "a whole number",
+        Type::IDENT => "a name",
+        Type::DOC => "a #! comment",
+        Type::IMPORT => "the word 'import'",
+        Type::EXTERN => "the word 'extern'",
+        Type::LET => "the word 'let'",
+        Type::FN => "the word 'fn'",
+        Type::MATCH => "the word 'match'",
+        Type::AS => "the word 'as'",
+        Type::TRUE => "the word 'true'",
+        Type::FALSE => "the word 'false'",
+        Type::STR => "the word 'Str'",
+        Type::INT => "the word 'Int'",
+        Type::DOUBLE => "the word 'Double'",
+        Type::BOOL => "the word 'Bool'",
+        Type::VOID => "the word 'Void'",
+        Type::OPTION => "the word 'Option'",
+        Type::ARRAY => "the word 'Array'",
+        Type::FOREIGN => "the word 'Foreign'",
+        Type::RECORD => "the word 'Record'",
+        _ => "",
+    }
 }
 
 fn hex_digit(d: u32) -> u8
@@ -131,7 +108,7 @@ fn hex_digit(d: u32) -> u8
     b"0123456789ABCDEF"[d as usize]
 }
 
-// Two hexadecimal digits.
+// Two hexadecimal digits, without `write!` for the reason at `Writer`.
 fn write_hex(b: u32, w: &mut Writer)
     ensures { Writes (hex b) w.old w.new }
 {
@@ -146,11 +123,11 @@ fn write_details(e: Diagnostic, w: &mut Writer)
 {
     match e.number {
         Diagnostic::EXPECTED_TOKEN => {
-            write_kind(e.wanted, w);
+            w.write_text(kind_name(e.wanted).as_bytes());
             w.write_text(b", but found ");
-            write_kind(e.seen, w);
+            w.write_text(kind_name(e.seen).as_bytes());
         }
-        ..=Diagnostic::BAD_TYPE => write_kind(e.seen, w),
+        ..=Diagnostic::BAD_TYPE => w.write_text(kind_name(e.seen).as_bytes()),
         Diagnostic::UNKNOWN_CHARACTER => write_hex(e.seen, w),
         _ => {}
     }
@@ -159,7 +136,7 @@ fn write_details(e: Diagnostic, w: &mut Writer)
 fn write_line(e: Diagnostic, w: &mut Writer)
     ensures { Writes (line e) w.old w.new }
 {
-    write_phrase(e.number, w);
+    w.write_text(phrase(e.number).as_bytes());
     write_details(e, w);
 }
 
@@ -203,7 +180,7 @@ fn is_seen(number: u32, seen: u32) -> bool
     }
 }
 
-// NoWords is for errors that have no words.
+// Whether an error is one of a script, with the kinds or the byte that such an error has.
 #[tactic(auto, unfolding(crate::specs::Words::has_words))]
 fn has_words(e: Diagnostic) -> bool
     ensures { result ≡ has_words e }
@@ -211,7 +188,8 @@ fn has_words(e: Diagnostic) -> bool
     is_script_error(e.number) && is_wanted(e.number, e.wanted) && is_seen(e.number, e.seen)
 }
 
-// The words of an error into the buffer `line`, with what it held behind them.
+// The words of an error into the buffer `line`, with what it held behind them. An error that has
+// none is refused.
 pub fn describe(e: Diagnostic, line: &mut [u8]) -> Writing
     ensures { result_of (answer_of result) line.new ≡ described e line.old }
 {

@@ -34,11 +34,11 @@ overflow_sub-result-then-is_utf8 c = omega (arith, c.leading_space-space.ensures
 pub overflow_add-result-then-is_utf8 : goal.overflow_add-result-then-is_utf8
 overflow_add-result-then-is_utf8 c = omega (arith, c.line_end-n.ensures, before_le 10 c.args.rest.now)
 
-pub overflow_add-result-else-is_utf8 : goal.overflow_add-result-else-is_utf8
-overflow_add-result-else-is_utf8 c = omega (arith, c.line_end-n.ensures, before_le 10 c.args.rest.now)
+pub overflow_add-n : goal.overflow_add-n
+overflow_add-n c = omega (arith, c.line_end-n.ensures, before_le 10 c.args.rest.now)
 
-pub overflow_add-result-else-is_utf8-2 : goal.overflow_add-result-else-is_utf8-2
-overflow_add-result-else-is_utf8-2 c = omega (arith, c.line_end-n.ensures, before_le 10 c.args.rest.now)
+pub overflow_add-n-else-is_utf8 : goal.overflow_add-n-else-is_utf8
+overflow_add-n-else-is_utf8 c = omega (arith, c.line_end-n.ensures, before_le 10 c.args.rest.now)
 
 pub returns-then-is_utf8 : goal.returns-then-is_utf8
 unfolding doc doc_in
@@ -46,4 +46,4 @@ returns-then-is_utf8 c = rw (← c.line_end-n.ensures) (rw (← c.leading_space-
 
 pub returns-else-is_utf8 : goal.returns-else-is_utf8
 unfolding doc doc_in
-returns-else-is_utf8 c = rw (← c.line_end-n.ensures) (rw (← c.leading_space-space.ensures, rw part_to_end at (sym c.is_utf8.ensures ∙ c.if-is_utf8.false), doc_in))
+returns-else-is_utf8 c = rw (← c.line_end-n.ensures) (rw (← c.leading_space-space.ensures, rw part_to_end at (sym c.is_utf8.ensures ∙ c.if-is_utf8.false), doc_in) c.invalid_utf8.ensures)

@@ -19,4 +19,4 @@ loop-token-preserved c = sym (next_step c.args.script.now c.loop-token.p (sym c.
 
 pub returns-in-End : goal.returns-in-End
 unfolding next_of
-returns-in-End c = sym (next_step c.args.script.now c.loop-token.p (sym c.step.ensures ∙ c.in-End.is)) ∙ c.loop-token.invariant
+returns-in-End c = rw c.eof.ensures (sym (next_step c.args.script.now c.loop-token.p (sym c.step.ensures ∙ c.in-End.is)) ∙ c.loop-token.invariant)

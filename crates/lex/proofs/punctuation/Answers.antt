@@ -1,22 +1,23 @@
 -- `punctuation` meets its contract.
 -- Assumes nothing.
+use native.Mathlib.Omega.{arith}
 use borrow.Author.Tests.{eq-eqb, ne_eqb}
 use Rattle.lex.specs.Lex.{punctuation}
 use Rattle.lex.proofs.Signs.{sign}
 use Rattle.lex.proofs.punctuation.Goals as goal
 
-pub returns-then-next-ne61 : goal.returns-then-next-ne61
+pub returns-in-61-eq61 : goal.returns-in-61-eq61
 unfolding punctuation
-returns-then-next-ne61 c = rw (ne_eqb _ _ c.if-next-ne61.true, punctuation) (sign _ _ c.requires.same c.requires.some)
+returns-in-61-eq61 c = rw (eq-eqb _ _ c.in-61-eq61.is-0, eq-eqb _ _ c.in-61-eq61.is-1, punctuation)
 
-pub returns-then-b-eq61 : goal.returns-then-b-eq61
+pub returns-in-61-eq33 : goal.returns-in-61-eq33
 unfolding punctuation
-returns-then-b-eq61 c = rw (eq-eqb _ _ c.if-next-ne61.false, eq-eqb _ _ c.if-b-eq61.true, punctuation)
+returns-in-61-eq33 c = rw (eq-eqb c.args.next 61 (omega arith), ne_eqb c.args.b 61 (λ e. omega (arith, e)), eq-eqb c.args.b 33 (omega arith), punctuation)
 
-pub returns-then-b-eq33 : goal.returns-then-b-eq33
+pub returns-in_default : goal.returns-in_default
 unfolding punctuation
-returns-then-b-eq33 c = rw (eq-eqb _ _ c.if-next-ne61.false, ne_eqb _ _ c.if-b-eq61.false, eq-eqb _ _ c.if-b-eq33.true, punctuation)
+returns-in_default c = rw (eq-eqb c.args.next 61 (omega arith), ne_eqb c.args.b 61 (λ e. omega (arith, e)), ne_eqb c.args.b 33 (λ e. omega (arith, e)), punctuation) (sign _ _ c.requires.same c.requires.some)
 
-pub returns : goal.returns
+pub returns-in_default-2 : goal.returns-in_default-2
 unfolding punctuation
-returns c = rw (eq-eqb _ _ c.if-next-ne61.false, ne_eqb _ _ c.if-b-eq61.false, ne_eqb _ _ c.if-b-eq33.false, punctuation) (sign _ _ c.requires.same c.requires.some)
+returns-in_default-2 c = rw (ne_eqb c.args.next 61 (λ e. omega (arith, e)), punctuation) (sign _ _ c.requires.same c.requires.some)

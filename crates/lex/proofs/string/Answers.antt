@@ -27,11 +27,11 @@ slice_bounds-is_utf8-end c = sym (length-take-le _ c.args.rest.now (omega (arith
 pub overflow_add-result-then-is_utf8 : goal.overflow_add-result-then-is_utf8
 overflow_add-result-then-is_utf8 c = omega (arith, (found _ c.args.rest.now _ (sym c.find_byte.ensures ∙ c.in-Some.is)).1)
 
-pub overflow_add-result-else-is_utf8 : goal.overflow_add-result-else-is_utf8
-overflow_add-result-else-is_utf8 c = omega (arith, (found _ c.args.rest.now _ (sym c.find_byte.ensures ∙ c.in-Some.is)).1)
+pub overflow_add-n : goal.overflow_add-n
+overflow_add-n c = omega (arith, (found _ c.args.rest.now _ (sym c.find_byte.ensures ∙ c.in-Some.is)).1)
 
-pub overflow_add-result-else-is_utf8-2 : goal.overflow_add-result-else-is_utf8-2
-overflow_add-result-else-is_utf8-2 c = omega (arith, (found _ c.args.rest.now _ (sym c.find_byte.ensures ∙ c.in-Some.is)).1)
+pub overflow_add-n-else-is_utf8 : goal.overflow_add-n-else-is_utf8
+overflow_add-n-else-is_utf8 c = omega (arith, (found _ c.args.rest.now _ (sym c.find_byte.ensures ∙ c.in-Some.is)).1)
 
 pub returns-then-is_utf8 : goal.returns-then-is_utf8
 unfolding string
@@ -39,4 +39,4 @@ returns-then-is_utf8 c = rw (sym c.find_byte.ensures ∙ c.in-Some.is, sym c.is_
 
 pub returns-else-is_utf8 : goal.returns-else-is_utf8
 unfolding string
-returns-else-is_utf8 c = rw (sym c.find_byte.ensures ∙ c.in-Some.is, sym c.is_utf8.ensures ∙ c.if-is_utf8.false, string)
+returns-else-is_utf8 c = rw (sym c.find_byte.ensures ∙ c.in-Some.is, sym c.is_utf8.ensures ∙ c.if-is_utf8.false, string) c.invalid_utf8.ensures

@@ -1,10 +1,11 @@
-use Rattle.std.proofs.Common.{◌≡◌, ◌+◌, ◌-◌, ◌≤◌, length}
+use Rattle.std.proofs.Common.{◌≡◌, ◌+◌, ◌≤◌, length}
 use Rattle.lex.specs.Lex.{tokens_from}
 use Rattle.list_tokens.proofs.count.Given as goal
 
--- each turn takes the first of the tokens that are left
-abbrev pub invariant-loop-x : goal.invariant-loop-x
-invariant-loop-x l = (l.n ≤ l.p) × (l.p ≤ length l.script) × (l.n + length (tokens_from l.script l.p) ≡ length (tokens_from l.script 0))
-
-abbrev pub decreases-loop-x : goal.decreases-loop-x
-decreases-loop-x l = length l.script - l.p
+-- the tokens that are counted and those that are left are all, and no more than the bytes
+abbrev pub invariant-loop-piece : goal.invariant-loop-piece
+invariant-loop-piece l =
+    (l.piece-iterator.input.now ≡ l.script)
+    × (l.n ≤ l.piece-iterator.pos)
+    × (l.piece-iterator.pos ≤ length l.script)
+    × (l.n + length (tokens_from l.script l.piece-iterator.pos) ≡ length (tokens_from l.script 0))

@@ -1,8 +1,8 @@
 -- `parser::drop_docs` meets its contract.
-use Rattle.std.proofs.Common.{refl, sym, ◌∙◌}
+use Rattle.std.proofs.Common.{refl}
 use Rattle.parser_state.specs.Represents.{code_of}
 use Rattle.parser.proofs.Roots.{dropping}
 use Rattle.parser.proofs.drop_docs.Goals as goal
 
-pub returns-then-going : goal.returns-then-going
-returns-then-going c = (λ tokens. dropping tokens (code_of c.args.p.now) (sym c.going.ensures ∙ c.if-going.true), refl, refl)
+pub returns : goal.returns
+returns c = (λ tokens. dropping tokens (code_of c.args.p.now) refl, refl, refl)

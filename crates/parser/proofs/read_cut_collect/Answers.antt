@@ -1,39 +1,17 @@
 -- `parser::read_cut_collect` meets its contract.
-use Rattle.std.proofs.Common.{◌≡◌, ◌*◌, length, rules, refl, arith}
-use Rattle.lex.specs.Cells.{zeros}
-use Rattle.ast.specs.Layout.{node_width, type_width}
-use Rattle.parser_state.specs.Represents.{code_of}
-use Rattle.parser.specs.Whole.{behind}
-use Rattle.parser.specs.Collect.{collected}
-use Rattle.parser.proofs.Promised.{collect_tree, collect_error}
+use Rattle.std.proofs.Common.{◌≡◌, length, rules, refl, arith}
+use Rattle.parser.specs.Collect.{gathered}
+use Rattle.parser.proofs.Promised.{nothing_used, collect_outcome, left_as}
 use Rattle.parser.proofs.read_cut_collect.Goals as goal
 
-pub parse_roots_collect-c-requires : goal.parse_roots_collect-c-requires
-parse_roots_collect-c-requires c = (c.requires.0, record { cur = c.token_at.ensures; at = refl; used = refl; error = refl }, c.requires.1, c.requires.2)
-
-pub returns-in-Some : goal.returns-in-Some
-returns-in-Some c =
-    let args = c.args in
-    let roots = c.parse_roots_collect-c in
-    let nodes : length roots.new.p.nodes.now ≡ length args.nodes.now = search rules in
-    let types : length roots.new.p.types.now ≡ length args.types.now = search rules in
-    let lists : length roots.new.p.lists.now ≡ length args.lists.now = search rules in
-    let cleared = c.clear_all.ensures in
-    let nodes₂ : c.clear_all.new.nodes ≡ zeros (length roots.new.p.nodes.now) = search rules in
-    let types₂ : c.clear_all.new.types ≡ zeros (length roots.new.p.types.now) = search rules in
-    let lists₂ : c.clear_all.new.lists ≡ zeros (length roots.new.p.lists.now) = search rules in
-    collect_error args.script.now args.nodes.now args.types.now args.lists.now args.roots.now args.diagnostics.now _ _ (collected (code_of roots.new.p) roots.result) roots.ensures.0 nodes types lists (omega (arith, roots.auto.roots)) (omega (arith, roots.auto.diagnostics)) _ _ _ _ _ c.in-Some.is nodes₂ types₂ lists₂ cleared.3 cleared.4
+pub parse_roots_collect-read-requires : goal.parse_roots_collect-read-requires
+parse_roots_collect-read-requires c = (c.requires.0, record { cur = c.token_at.ensures; at = refl; used = nothing_used _ c.default.ensures; error = refl }, c.requires.1, c.requires.2)
 
 pub returns : goal.returns
 returns c =
     let args = c.args in
-    let roots = c.parse_roots_collect-c in
+    let roots = c.parse_roots_collect-read in
     let nodes : length roots.new.p.nodes.now ≡ length args.nodes.now = search rules in
     let types : length roots.new.p.types.now ≡ length args.types.now = search rules in
     let lists : length roots.new.p.lists.now ≡ length args.lists.now = search rules in
-    let cleared = c.clear_behind.ensures in
-    let used = roots.new.p.used in
-    let nodes₂ : c.clear_behind.new.nodes ≡ behind (node_width * used.nodes) roots.new.p.nodes.now = search rules in
-    let types₂ : c.clear_behind.new.types ≡ behind (type_width * used.types) roots.new.p.types.now = search rules in
-    let lists₂ : c.clear_behind.new.lists ≡ behind used.cells roots.new.p.lists.now = search rules in
-    collect_tree args.script.now args.nodes.now args.types.now args.lists.now args.roots.now args.diagnostics.now _ _ (collected (code_of roots.new.p) roots.result) roots.ensures.0 nodes types lists (omega (arith, roots.auto.roots)) (omega (arith, roots.auto.diagnostics)) _ _ _ _ _ c.in_default.is nodes₂ types₂ lists₂ cleared.3 c.clear_from.ensures
+    left_as (collect_outcome args.script.now args.nodes.now args.types.now args.lists.now args.roots.now args.diagnostics.now _ _ (gathered roots.new.p roots.result) roots.ensures.0 nodes types lists (omega (arith, roots.auto.roots)) (omega (arith, roots.auto.diagnostics))) c.finish.ensures.ends (search rules) (search rules) (search rules)

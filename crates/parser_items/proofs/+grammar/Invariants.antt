@@ -2,38 +2,39 @@
 -- each level that is left, and more for what stands higher in the grammar.
 use Rattle.std.proofs.Common.{◌≡◌, [], ◌+◌, ◌*◌}
 use mathlib.Core.Option.{none}
-use Rattle.lex.specs.Kind.{k_curly_right, k_braket_right}
-use Rattle.rules.specs.Rules.{node_member, next_case, field, postfix_step, infix_step, stage_one}
+use Rattle.rules.specs.Rules.{next_case, postfix_step, infix_step, stage_one}
 use Rattle.parser_state.specs.Represents.{code_of}
 use Rattle.parser_state.specs.Refines.{stack_unchanged, rules_of, deeper}
-use Rattle.parser_state.proofs.Loops.{MembersInvariant}
 use Rattle.parser_state.proofs.Rounds.{LoopInvariant, weight}
 use Rattle.parser_operators.specs.Matches.{cases_grown, CasesAre}
 use Rattle.parser_items.proofs.+grammar.Given as goal
 
 abbrev pub decreases-array_literal : goal.decreases-array_literal
-decreases-array_literal l = 16 * l.levels + 2
+decreases-array_literal l = 16 * l.levels + 3
 
 abbrev pub decreases-binary : goal.decreases-binary
 decreases-binary l = 16 * l.levels + 1
 
 abbrev pub decreases-call : goal.decreases-call
-decreases-call l = 16 * l.levels + 3
+decreases-call l = 16 * l.levels + 4
 
 abbrev pub decreases-next_case : goal.decreases-next_case
-decreases-next_case l = 16 * l.levels + 5
+decreases-next_case l = 16 * l.levels + 6
 
 abbrev pub decreases-cases : goal.decreases-cases
-decreases-cases l = 16 * l.levels + 6
+decreases-cases l = 16 * l.levels + 7
 
 abbrev pub decreases-infix_step : goal.decreases-infix_step
 decreases-infix_step l = 16 * l.levels + 2
 
 abbrev pub decreases-condition : goal.decreases-condition
-decreases-condition l = 16 * l.levels + 4
+decreases-condition l = 16 * l.levels + 5
 
 abbrev pub decreases-elems : goal.decreases-elems
-decreases-elems l = 16 * l.levels + 1
+decreases-elems l = 16 * l.levels + 2
+
+abbrev pub decreases-elems-list_until : goal.decreases-elems-list_until
+decreases-elems-list_until l = 16 * l.levels + 1
 
 abbrev pub decreases-parse_expr : goal.decreases-parse_expr
 decreases-parse_expr l = 16 * l.levels
@@ -48,60 +49,59 @@ abbrev pub decreases-field : goal.decreases-field
 decreases-field l = 16 * l.levels + 1
 
 abbrev pub decreases-inits : goal.decreases-inits
-decreases-inits l = 16 * l.levels + 2
+decreases-inits l = 16 * l.levels + 3
+
+abbrev pub decreases-inits-list_until : goal.decreases-inits-list_until
+decreases-inits-list_until l = 16 * l.levels + 2
 
 abbrev pub decreases-item : goal.decreases-item
-decreases-item l = 16 * l.levels + 8
+decreases-item l = 16 * l.levels + 9
 
 abbrev pub decreases-items : goal.decreases-items
-decreases-items l = 16 * l.levels + 2
+decreases-items l = 16 * l.levels + 3
+
+abbrev pub decreases-items-list_until : goal.decreases-items-list_until
+decreases-items-list_until l = 16 * l.levels + 2
 
 abbrev pub decreases-member : goal.decreases-member
 decreases-member l = 16 * l.levels + 1
 
 abbrev pub decreases-operand : goal.decreases-operand
-decreases-operand l = 16 * l.levels + 4
+decreases-operand l = 16 * l.levels + 5
 
 abbrev pub decreases-parse_body : goal.decreases-parse_body
-decreases-parse_body l = 16 * l.levels + 3
+decreases-parse_body l = 16 * l.levels + 4
 
 abbrev pub decreases-parse_fn : goal.decreases-parse_fn
-decreases-parse_fn l = 16 * l.levels + 4
+decreases-parse_fn l = 16 * l.levels + 5
 
 abbrev pub decreases-parse_let : goal.decreases-parse_let
 decreases-parse_let l = 16 * l.levels + 1
 
 abbrev pub decreases-parse_match : goal.decreases-parse_match
-decreases-parse_match l = 16 * l.levels + 7
+decreases-parse_match l = 16 * l.levels + 8
 
 abbrev pub decreases-parse_prefix : goal.decreases-parse_prefix
 decreases-parse_prefix l = 16 * l.levels
 
 abbrev pub decreases-postfix_step : goal.decreases-postfix_step
-decreases-postfix_step l = 16 * l.levels + 4
+decreases-postfix_step l = 16 * l.levels + 5
 
 abbrev pub decreases-postfix : goal.decreases-postfix
-decreases-postfix l = 16 * l.levels + 5
+decreases-postfix l = 16 * l.levels + 6
 
 abbrev pub decreases-record_literal : goal.decreases-record_literal
-decreases-record_literal l = 16 * l.levels + 3
+decreases-record_literal l = 16 * l.levels + 4
 
 abbrev pub decreases-unary : goal.decreases-unary
 decreases-unary l = 16 * l.levels + 1
 
 abbrev pub invariant-cases-loop-p : goal.invariant-cases-loop-p
 invariant-cases-loop-p l =
-    LoopInvariant l.source.tokens.now (next_case (deeper (rules_of l.source.script.now) l.levels)) cases_grown (record { cases = []; default = none }) (CasesAre l.source.tokens.now l.d l.members (code_of l.p)) (code_of l.fn.p) (code_of l.p)
+    LoopInvariant l.source.tokens.now (next_case (deeper (rules_of l.source.script.now) l.levels)) cases_grown (record { cases = []; default = none }) (CasesAre l.source.tokens.now l.so_far.default l.so_far.members (code_of l.p)) (code_of l.fn.p) (code_of l.p)
 
 abbrev pub decreases-cases-loop-p : goal.decreases-cases-loop-p
 decreases-cases-loop-p l = weight l.source.tokens.now (code_of l.p)
-
-abbrev pub invariant-elems-loop-p : goal.invariant-elems-loop-p
-invariant-elems-loop-p l =
-    MembersInvariant l.source.tokens.now k_braket_right (node_member ((deeper (rules_of l.source.script.now) l.levels).expr 0)) (code_of l.fn.p) (code_of l.p) l.members
-
-abbrev pub decreases-elems-loop-p : goal.decreases-elems-loop-p
-decreases-elems-loop-p l = weight l.source.tokens.now (code_of l.p)
 
 abbrev pub invariant-infixes-loop-p : goal.invariant-infixes-loop-p
 invariant-infixes-loop-p l =
@@ -109,20 +109,6 @@ invariant-infixes-loop-p l =
 
 abbrev pub decreases-infixes-loop-p : goal.decreases-infixes-loop-p
 decreases-infixes-loop-p l = weight l.source.tokens.now (code_of l.p)
-
-abbrev pub invariant-inits-loop-p : goal.invariant-inits-loop-p
-invariant-inits-loop-p l =
-    MembersInvariant l.source.tokens.now k_curly_right (field (deeper (rules_of l.source.script.now) l.levels)) (code_of l.fn.p) (code_of l.p) l.members
-
-abbrev pub decreases-inits-loop-p : goal.decreases-inits-loop-p
-decreases-inits-loop-p l = weight l.source.tokens.now (code_of l.p)
-
-abbrev pub invariant-items-loop-p : goal.invariant-items-loop-p
-invariant-items-loop-p l =
-    MembersInvariant l.source.tokens.now l.stop (node_member (deeper (rules_of l.source.script.now) l.levels).prefix) (code_of l.fn.p) (code_of l.p) l.members
-
-abbrev pub decreases-items-loop-p : goal.decreases-items-loop-p
-decreases-items-loop-p l = weight l.source.tokens.now (code_of l.p)
 
 abbrev pub invariant-postfix-loop-p : goal.invariant-postfix-loop-p
 invariant-postfix-loop-p l =

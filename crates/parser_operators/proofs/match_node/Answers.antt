@@ -7,7 +7,7 @@ use Rattle.parser_operators.proofs.match_node.Goals as goal
 
 pub returns-in-None-clause-reads : goal.returns-in-None-clause-reads
 unfolding match_node fail_at
-returns-in-None-clause-reads c = rw (c.in-None.is, match_node) (enough (fail_any _ _ c.fail_at.ensures.reads) tt)
+returns-in-None-clause-reads c = rw (c.in-None.is, match_node) (enough (fail_any _ _ c.fail_at.ensures) tt)
 
 pub returns-in-Some-clause-reads : goal.returns-in-Some-clause-reads
 unfolding match_node

@@ -1,13 +1,13 @@
 -- `parser_types::import_path` meets its contract.
-use Rattle.std.proofs.Common.{sym, ◌∙◌, refl}
-use Rattle.parser_state.proofs.Steps.{if_kind-yes, if_kind-no, read, refused, enough}
+use Rattle.std.proofs.Common.{refl}
+use Rattle.parser_state.proofs.Steps.{as_rule, if_kind-bind, read, enough, fails, stops}
 use Rattle.rules.specs.Rules.{import_path}
 use Rattle.parser_types.proofs.import_path.Goals as goal
 
-pub returns-then-kind-eq-S-clause-reads : goal.returns-then-kind-eq-S-clause-reads
+pub returns-in_err-expect_or-clause-reads : goal.returns-in_err-expect_or-clause-reads
 unfolding import_path
-returns-then-kind-eq-S-clause-reads c = if_kind-yes _ _ (enough (read _ c.advance.ensures.reads refl (c.push_token.ensures.reads _)) tt) (sym c.kind.ensures ∙ c.if-kind-eq-S.true)
+returns-in_err-expect_or-clause-reads c = fails _ (as_rule (if_kind-bind _ _ _ _ _) (stops _ c.in_err-expect_or.ensures.reads refl)) refl c.from_residual.ensures tt
 
-pub returns-else-kind-eq-S-clause-reads : goal.returns-else-kind-eq-S-clause-reads
+pub returns-clause-reads : goal.returns-clause-reads
 unfolding import_path
-returns-else-kind-eq-S-clause-reads c = if_kind-no _ _ (refused (c.fail_expecting.ensures.reads _)) (λ e. c.if-kind-eq-S.false (c.kind.ensures ∙ e))
+returns-clause-reads c = as_rule (if_kind-bind _ _ _ _ _) (enough (read _ c.in_ok-expect_or.ensures.reads refl (c.push_token.ensures.reads _)) tt)

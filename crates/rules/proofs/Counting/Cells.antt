@@ -1,4 +1,5 @@
--- Counting list cells by credit: a token taken earns eight; a list cell spends one, and a doc that waits three, for its cells.
+-- Counting list cells by credit: a token taken earns eight; a list cell spends one, and a doc that
+-- waits three, for its cells.
 use mathlib.Core.Path.{◌≡◌, refl, sym, ap, ◌∙◌, subst}
 use mathlib.Core.Bool.{Bool, true, false}
 use mathlib.Core.Option.{Option, none, some}
@@ -33,7 +34,8 @@ use Rattle.rules.proofs.Counting.Whole.{begin_accounted, begin-left, read-tree, 
 
 -- ---- the account
 
--- the list cells that are made, three for each doc that waits, eight for each token left, and `credit` earned and not spent
+-- the list cells that are made, three for each doc that waits, eight for each token left, and
+-- `credit` earned and not spent
 pub record Paid (b credit : ℕ) (s : State) : Type 0 where
   pub ended : WellEnded s.left
   pub paid : length s.arena.cells + 3 * length s.docs + 8 * length s.left + credit ≤ b

@@ -1,4 +1,5 @@
--- The collecting mode: what it makes, that it goes to the end, and that each error is met after more tokens than the one before.
+-- The collecting mode: what it makes, that it goes to the end, and that each error is met after
+-- more tokens than the one before.
 use mathlib.Core.Path.{◌≡◌, refl, sym, ap, ◌∙◌, subst}
 use mathlib.Core.Bool.{Bool, true, false}
 use mathlib.Core.Option.{Option, none}
@@ -75,7 +76,8 @@ synchronize_root-ends s q = loop_out (λ s'. length s'.left) (λ n s'. Moves (wi
 
 -- ---- errors
 
--- each error, where resynchronising begins, comes after more tokens than the one before it, and all after fewer than `n`
+-- each error, where resynchronising begins, comes after more tokens than the one before it, and all
+-- after fewer than `n`
 pub data Ascending : ℕ → List Occurrence → Type 0 where
   asc[] : {n : ℕ} → Ascending n []
   asc_snoc : {n : ℕ} {es : List Occurrence} (e : Occurrence) → Ascending e.after es → e.after < n → Ascending n (es ++ (e ∷ []))
@@ -248,7 +250,8 @@ module _ (power : ℕ → Option ℕ) (eof : power k_eof ≡ none) (script : Lis
   pub begin_gathers : Gathers script (record { roots = []; errors = [] }) (begin script)
   begin_gathers = record { reached = begin_accounted script; ascending = asc[]; few_errors = omega (arith, begin_pending script); few_roots = omega arith; since = token_taken asc[] }
 
-  -- where it is not ended by 10, collecting goes to the end, and meets each error after more tokens than the one before
+  -- where it is not ended by 10, collecting goes to the end, and meets each error after more tokens
+  -- than the one before
   pub parse_roots_collect-ends : Ends (Complete script) (Reached script) (parse_roots_collect power script (begin script))
   unfolding parse_roots_collect
   parse_roots_collect-ends = loop_out pending (Gathers script) (Complete script) (λ g s q. some_pending q.reached) turn turn_ends (record { roots = []; errors = [] }) (begin script) begin_gathers (begin_pending script)

@@ -51,7 +51,8 @@ module _ {A : Type 0} {b : Budget} {t c : ℕ} {r : Result A} where
       go (later z) = forget z
       go here = forget q
 
--- the law of counting for the readers of one level: at the budget of `s` itself, no tokens are added, the potential does not grow, nodes have value numbers, and Eof stays last
+-- the law of counting for the readers of one level: at the budget of `s` itself, no tokens are
+-- added, the potential does not grow, nodes have value numbers, and Eof stays last
 pub record ReadersTake (d : Readers) : Type 0 where
   pub prefix : {b : Budget} {t c : ℕ} (s : State) → Accounted b t c s → Takes b t c (d.prefix s)
   pub expr : {b : Budget} {t c : ℕ} (least : ℕ) (s : State) → Accounted b t c s → TakesOrStays b t c s (d.expr least s)
@@ -299,7 +300,8 @@ module _ (d : Readers) (deep : ReadersTake d) where
       finish x r none s' q' = fails (forget q')
       finish x r (some y) s' q' = push_node-counts 0 _ s' q' (omega arith)
 
-  -- where a prefix read fails: after a token, where docs wait, or where it began, at a token that begins an expression or nothing
+  -- where a prefix read fails: after a token, where docs wait, or where it began, at a token that
+  -- begins an expression or nothing
   module _ {b : Budget} {t c : ℕ} {E : State → Type 0} (s : State) (q : Accounted b t c s)
       (moved : (s' : State) → Accounted b 1 0 s' → E s')
       (waits : (s' : State) → Accounted b t c s' → ¬ (s'.docs ≡ []) → Collected s s' → E s')

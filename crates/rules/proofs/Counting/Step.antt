@@ -1,4 +1,5 @@
--- Counting by credit: a token taken earns one; a type, a value number and a doc that waits spend one each.
+-- Counting by credit: a token taken earns one; a type, a value number and a doc that waits spend
+-- one each.
 use mathlib.Core.Path.{◌≡◌, refl, sym, ap, ◌∙◌, subst}
 use mathlib.Core.List.{List, [], ◌∷◌, ◌++◌}
 use Prim.Native.Nat.{ℕ, suc, ◌+◌, ◌-◌, ◌≤◌, ◌<◌}

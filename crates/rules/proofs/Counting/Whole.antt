@@ -1,4 +1,5 @@
--- Whole readings: what they may make; and that strict reading, where it accepts, goes to the end of the script.
+-- Whole readings: what they may make; and that strict reading, where it accepts, goes to the end of
+-- the script.
 use mathlib.Core.Path.{◌≡◌, refl, subst}
 use mathlib.Core.Option.{Option, none}
 use mathlib.Core.List.{List, [], ◌∷◌}
@@ -48,7 +49,8 @@ pub record Finished (script : List ℕ) (roots : List ℕ) (s : State) : Type 0 
   pub at_eof : (current s.left).kind ≡ k_eof
   pub few_roots : length roots + length s.left ≤ length (begin script).left
 
--- how much a tree has: no more nodes than value numbers, types and value numbers together no more than the tokens but Eof, and so many roots at most
+-- how much a tree has: no more nodes than value numbers, types and value numbers together no more
+-- than the tokens but Eof, and so many roots at most
 pub record Bounded (script : List ℕ) (tree : Tree) : Type 0 where
   pub nodes : length tree.arena.nodes ≤ tree.arena.values
   pub made : length tree.arena.types + tree.arena.values < length (tokens_of (cut script))

@@ -1,4 +1,5 @@
--- Whether a record has a shape depends only on which records have: so each can be tested by itself, its children by their numbers alone.
+-- Whether a record has a shape depends only on which records have: so each can be tested by itself,
+-- its children by their numbers alone.
 use mathlib.Core.Path.{◌≡◌, refl, sym, ap, ◌∙◌, subst}
 use mathlib.Core.Bool.{Bool, true, false}
 use mathlib.Core.Option.{Option, none, some}

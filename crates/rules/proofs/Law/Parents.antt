@@ -1,4 +1,5 @@
--- A node's parent is well defined where no node occurs twice, and lies above it; and the two journeys undo one another.
+-- A node's parent is well defined where no node occurs twice, and lies above it; and the two
+-- journeys undo one another.
 use mathlib.Core.Path.{◌≡◌, refl, sym, ap, ap₂, ◌∙◌, subst}
 use mathlib.Core.Bool.{Bool, true, false}
 use mathlib.Core.Option.{Option, none, some}
@@ -123,7 +124,8 @@ parts tree all e = go (all_of (children_of tree.arena.cells) tree.arena.nodes) (
 pub parts-times : {tree : Tree} {all : List Child} (c : Child) (z : Parts tree all) → times c all ≡ times c (map a_node tree.roots) + (times c z.of_nodes + times c z.of_types)
 parts-times {tree} c z = ap (times c) (sym z.together) ∙ omega (arith, times-append c (map a_node tree.roots) (z.of_nodes ++ z.of_types), times-append c z.of_nodes z.of_types)
 
--- what a parent's number is: a node that has it for a child, above it; or itself, where no node has it
+-- what a parent's number is: a node that has it for a child, above it; or itself, where no node has
+-- it
 pub data ParentIs (m : Arena) (i : ℕ) : ℕ → Type 0 where
   above : (k : ℕ) (cs : List Child) → children_at m k ≡ some cs → 0 < times (a_node i) cs → i < k → ParentIs m i k
   itself : ((k : ℕ) (cs : List Child) → children_at m k ≡ some cs → times (a_node i) cs ≡ 0) → ParentIs m i i

@@ -1,4 +1,5 @@
--- The parents of a tree by one pass over its nodes, each writing its number at its children: for code that fills in or tests parents.
+-- The parents of a tree by one pass over its nodes, each writing its number at its children: for
+-- code that fills in or tests parents.
 use mathlib.Core.Path.{◌≡◌, refl, sym, ap, ◌∙◌, subst}
 use mathlib.Core.Bool.{Bool, true, false}
 use mathlib.Core.Option.{Option, none, some}

@@ -1,4 +1,5 @@
--- Where a record has a shape, its lists of children are found, and each child has a shape: so what a comparison calls well formed has all its children below it.
+-- Where a record has a shape, its lists of children are found, and each child has a shape: so what
+-- a comparison calls well formed has all its children below it.
 use mathlib.Core.Path.{◌≡◌, refl, ap, ◌∙◌}
 use mathlib.Core.Option.{Option, none, some}
 use mathlib.Core.List.{List, [], ◌∷◌, ◌++◌}

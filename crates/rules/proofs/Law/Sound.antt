@@ -1,4 +1,5 @@
--- What is not turned away: a tree that passes 4 has all its children found and below; one that passes 45 too has parents; and a tree that a reading returns passes both.
+-- What is not turned away: a tree that passes 4 has all its children found and below; one that
+-- passes 45 too has parents; and a tree that a reading returns passes both.
 use mathlib.Core.Path.{◌≡◌, refl, sym, ap, ◌∙◌, subst}
 use mathlib.Core.Bool.{Bool, true, false}
 use mathlib.Core.Option.{Option, none, some}

@@ -189,7 +189,8 @@ pub record Base : Type 0 where
   pub cells : List ℕ
 
 module _ (r : Child) where
-  -- records name it so often; none of them names what was not made before it, `limit` saying whether that was
+  -- records name it so often; none of them names what was not made before it, `limit` saying
+  -- whether that was
   pub data Named {R : Type 0} (f : List ℕ → R → Option (List Child)) (limit : ℕ → ℕ → ℕ) (cells : List ℕ) : List R → ℕ → Type 0 where
     named[] : Named f limit cells [] 0
     named_snoc : {xs : List R} {n : ℕ} (x : R) (cs : List Child) (others : ℕ) → Named f limit cells xs n → f cells x ≡ some cs → times r cs ≤ limit (length xs) others → Named f limit cells (xs ++ (x ∷ [])) (n + times r cs)
@@ -222,7 +223,8 @@ module _ (r : Child) where
   abbrev pub Stays : {A : Type 0} → Base → List Child → Result A → Type 0
   Stays b hs x = Ends (λ a s'. Held b hs s') (Held b []) x
 
-  -- one that makes a node, or a type, or what `f` says of its value; where it fails, all is dropped that was held
+  -- one that makes a node, or a type, or what `f` says of its value; where it fails, all is dropped
+  -- that was held
   abbrev pub Gives : {A : Type 0} → (A → Child) → Base → List Child → Result A → Type 0
   Gives f b hs x = Ends (λ a s'. Held b (f a ∷ hs) s') (Held b []) x
 

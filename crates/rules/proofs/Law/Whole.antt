@@ -191,7 +191,8 @@ ascending_rises {n} (asc_snoc {es} e a l) =
     let p : afters es ++ (e.after ∷ []) ≡ afters (es ++ (e ∷ [])) = sym (map-append (λ (x : Occurrence). x.after) es (e ∷ [])) in
     (subst Rising p (rising_snoc (afters es) e.after z.0 z.1), subst (λ (ns : List ℕ). LastBelow ns n) p (last_snoc (afters es) e.after n l))
 
--- from the beginning of one resynchronising to the beginning of the next at least one token is taken
+-- from the beginning of one resynchronising to the beginning of the next at least one token is
+-- taken
 pub resynchronisings_rise : (power : ℕ → Option ℕ) → power k_eof ≡ none → (script : List ℕ) → Rising (resynchronisings power script)
 unfolding resynchronisings
 resynchronisings_rise power eof script = go (parse_roots_collect power script (begin script)) (parse_roots_collect-ends power eof script)

@@ -1,4 +1,5 @@
--- An arena and what it becomes behind another one: how the two stay related while records and lists are added to both.
+-- An arena and what it becomes behind another one: how the two stay related while records and lists
+-- are added to both.
 use mathlib.Core.Path.{◌≡◌, refl, sym, ap, ap₂, ◌∙◌, subst}
 use mathlib.Core.Bool.{Bool, true, false}
 use mathlib.Core.Logic.{◌⊎◌, inl, inr, ⊎_elim}
@@ -307,7 +308,8 @@ cells_by o hs (r ∷ rs) (c ∷ cs) i h f =
     ap₂ {C = List ℕ} (λ (x : Role) (z : List ℕ). (added o x + c) ∷ z) (ap (role_in hs) (omega arith) ∙ f 0 (omega arith))
     (cells_by o hs rs cs (suc i) (omega arith) (λ k u. ap (role_in hs) (omega arith) ∙ f (suc k) (omega arith)))
 
--- what every cell says: each list that a record holds lies among the cells and has its own there, and all other cells are node numbers
+-- what every cell says: each list that a record holds lies among the cells and has its own there,
+-- and all other cells are node numbers
 pub record CellsKnown (m : Arena) : Type 0 where
   pub roles : List Role
   pub even : length roles ≡ length m.cells

@@ -1,4 +1,5 @@
--- Two states side by side: the second has what is made of the first's tokens so far behind another arena, and more tokens behind them, the first of which begins an item.
+-- Two states side by side: the second has what is made of the first's tokens so far behind another
+-- arena, and more tokens behind them, the first of which begins an item.
 use mathlib.Core.Path.{◌≡◌, refl, sym, ap, ap₂, ◌∙◌, subst}
 use mathlib.Core.Bool.{Bool, true, false}
 use mathlib.Core.List.{List, [], ◌∷◌, ◌++◌, map, flatten, map-append, Memᴰ}
@@ -67,7 +68,8 @@ module _ (o : Offsets) (σ τ : List ℕ) where
   AllGood [] = Unit {0}
   AllGood (t ∷ ts) = Good t × AllGood ts
 
--- what the second reading has more than the first: so many bytes and an arena before it, other scripts, and tokens behind the first's, the first of which begins an item
+-- what the second reading has more than the first: so many bytes and an arena before it, other
+-- scripts, and tokens behind the first's, the first of which begins an item
 pub record Setting : Type 0 where
   pub bytes : ℕ
   pub pre : Arena

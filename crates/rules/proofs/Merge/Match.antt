@@ -1,4 +1,5 @@
--- Two readings side by side: where the first ends well, so does the second, and both stay related; one lemma for each way to put rules together.
+-- Two readings side by side: where the first ends well, so does the second, and both stay related;
+-- one lemma for each way to put rules together.
 use mathlib.Core.Path.{◌≡◌, refl, sym, subst, subst₂}
 use mathlib.Core.Bool.{Bool, true, false}
 use mathlib.Core.List.{List, [], ◌∷◌}

@@ -1,4 +1,5 @@
--- The tokens of two scripts with a line feed between them: those of the first but Eof, and behind them those of the second, moved.
+-- The tokens of two scripts with a line feed between them: those of the first but Eof, and behind
+-- them those of the second, moved.
 use mathlib.Core.Path.{◌≡◌, refl, sym, ap, ap₂, ◌∙◌, subst}
 use mathlib.Core.Bool.{Bool, true, false, not}
 use mathlib.Core.Logic.{◌⊎◌, inl, inr}

@@ -1,4 +1,5 @@
--- Moving list cells by a walk over the records: all cells as node numbers first, then each list that a record holds once more.
+-- Moving list cells by a walk over the records: all cells as node numbers first, then each list
+-- that a record holds once more.
 use mathlib.Core.Path.{◌≡◌, refl, ap, ap₂, ◌∙◌}
 use mathlib.Core.Bool.{Bool, true, false}
 use mathlib.Core.List.{List, [], ◌∷◌, flatten}

@@ -1,4 +1,5 @@
--- Collecting mode: its trees have shapes, as those of strict mode have. A root that fails adds records behind those that are there, and so takes no shape away.
+-- Collecting mode: its trees have shapes, as those of strict mode have. A root that fails adds
+-- records behind those that are there, and so takes no shape away.
 use mathlib.Core.Path.{◌≡◌, refl, sym, ap, ◌∙◌, subst}
 use mathlib.Core.Bool.{Bool, true, false}
 use mathlib.Core.Option.{Option, none, some}

@@ -1,4 +1,5 @@
--- A Doc right before Eof is never accepted: no rule takes it and ends well. So of an accepted script 'no Doc right before an Import or Eof' says no more than 'no Doc right before an Import'.
+-- A Doc right before Eof is never accepted: no rule takes it and ends well. So of an accepted
+-- script 'no Doc right before an Import or Eof' says no more than 'no Doc right before an Import'.
 use mathlib.Core.Path.{◌≡◌, refl, sym, ap, ◌∙◌, subst}
 use mathlib.Core.Bool.{Bool, true, false}
 use mathlib.Core.Option.{Option, none, some}

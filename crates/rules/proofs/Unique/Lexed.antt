@@ -1,4 +1,5 @@
--- A script's tokens are as unique reading needs them: Eof last and nowhere else, each well formed, no Doc before an import.
+-- A script's tokens are as unique reading needs them: Eof last and nowhere else, each well formed,
+-- no Doc before an import.
 use mathlib.Core.Path.{◌≡◌, refl, sym, subst}
 use mathlib.Core.Bool.{Bool, true, false}
 use mathlib.Core.List.{List, [], ◌∷◌}

@@ -1,4 +1,5 @@
--- What a rule does where it ends well: the tokens it takes, the words that striking leaves of them, and how the tree grows.
+-- What a rule does where it ends well: the tokens it takes, the words that striking leaves of them,
+-- and how the tree grows.
 use mathlib.Core.Path.{◌≡◌, refl, sym, ap, ap₂, ◌∙◌, subst}
 use mathlib.Core.Bool.{Bool, true, false}
 use mathlib.Core.Option.{none, some}
@@ -32,7 +33,8 @@ pub record AllShaped (script : List ℕ) (m : Arena) : Type 0 where
   pub nodes : (i : ℕ) → i < length m.nodes → (σ : Shape) × (node_shape_at script m i ≡ some σ)
   pub types : (j : ℕ) → j < length m.types → (τ : TypeShape) × (type_shape_at script m j ≡ some τ)
 
--- what unique reading asks of a result: where a rule fails, only that every record made so far has a shape
+-- what unique reading asks of a result: where a rule fails, only that every record made so far has
+-- a shape
 abbrev pub Holds : {A : Type 0} → List ℕ → (A → State → Type 0) → Result A → Type 0
 Holds script P r = Ends P (λ s. AllShaped script s.arena) r
 

@@ -1,14 +1,8 @@
--- The lines of the errors before those ahead are written, and the place of the last one is known.
-use Rattle.std.proofs.Common.{◌≡◌}
-use Rattle.std.specs.Slice.Iter.{chunks_exact_rest, chunks_exact_size}
+-- The lines of the errors before `i` are written, and the place of the last one is known.
 use Rattle.sheet.proofs.Joining.{Writing}
 use Rattle.sheet.specs.Count.{Reached}
 use Rattle.sheet.proofs.write_all.Given as goal
 
 abbrev pub invariant-loop-cells : goal.invariant-loop-cells
 invariant-loop-cells l =
-    (goal.iterator-loop-cells).can_next l.cells-iterator
-    × (goal.iterator-loop-cells).is_finite l.cells-iterator
-    × (chunks_exact_size l.cells-iterator ≡ 5)
-    × Writing l.script l.errors (chunks_exact_rest l.cells-iterator) l.initial.w l.w
-    × Reached l.script l.known
+    Writing l.script l.errors l.cells-index l.initial.w l.w × Reached l.script l.known

@@ -1,4 +1,5 @@
 -- `tokens::agrees` meets its contract: what is left to compare comes to the same at every turn.
+use borrow.Author.Rules.{part_to_end}
 use Rattle.std.proofs.Common.{arith, refl, ◌∙◌, ◌+◌, ◌*◌}
 use Rattle.std.proofs.lemmas.Bool.{not_from_true, not_from_false}
 use Rattle.lex.proofs.Steps.{cut_le}
@@ -14,76 +15,6 @@ fill-s-requires c =
     let g = c.loop-s.invariant.0 in
     (c.requires.2, g.inside, omega (arith, g.tokens, cut_le c.args.script.now))
 
-pub overflow_mul-n : goal.overflow_mul-n
-overflow_mul-n c =
-    let g = c.loop-s.invariant.0 in
-    let st = c.fill-s.ensures in
-    let room = part_room g st in
-    omega (arith, room)
-
-pub overflow_mul-m : goal.overflow_mul-m
-overflow_mul-m c =
-    let g = c.loop-s.invariant.0 in
-    let st = c.fill-s.ensures in
-    let room = part_room g st in
-    omega (arith, room)
-
-pub overflow_add-n : goal.overflow_add-n
-overflow_add-n c =
-    let g = c.loop-s.invariant.0 in
-    let st = c.fill-s.ensures in
-    let room = part_room g st in
-    omega (arith, room)
-
-pub overflow_add-m : goal.overflow_add-m
-overflow_add-m c =
-    let g = c.loop-s.invariant.0 in
-    let st = c.fill-s.ensures in
-    let room = part_room g st in
-    omega (arith, room)
-
-pub overflow_mul-n-in_default : goal.overflow_mul-n-in_default
-overflow_mul-n-in_default c =
-    let g = c.loop-s.invariant.0 in
-    let st = c.fill-s.ensures in
-    let room = part_room g st in
-    omega (arith, room)
-
-pub overflow_mul-m-in_default : goal.overflow_mul-m-in_default
-overflow_mul-m-in_default c =
-    let g = c.loop-s.invariant.0 in
-    let st = c.fill-s.ensures in
-    let room = part_room g st in
-    omega (arith, room)
-
-pub same_cells-requires : goal.same_cells-requires
-same_cells-requires c =
-    let g = c.loop-s.invariant.0 in
-    let st = c.fill-s.ensures in
-    let room = part_room g st in
-    (st.tokens_fit, omega (arith, room))
-
-pub same_cells-requires-in-loop-s : goal.same_cells-requires-in-loop-s
-same_cells-requires-in-loop-s c =
-    let g = c.loop-s.invariant.0 in
-    let st = c.fill-s.ensures in
-    let room = part_room g st in
-    (st.errors_fit, omega (arith, room))
-
-pub is_zero_from-requires : goal.is_zero_from-requires
-is_zero_from-requires c =
-    let g = c.loop-s.invariant.0 in
-    let st = c.fill-s.ensures in
-    let room = part_room g st in
-    omega (arith, room)
-
-pub is_zero_from-requires-in_default : goal.is_zero_from-requires-in_default
-is_zero_from-requires-in_default c =
-    let g = c.loop-s.invariant.0 in
-    let st = c.fill-s.ensures in
-    let room = part_room g st in
-    omega (arith, room)
-
 pub returns-then-not-same_cells : goal.returns-then-not-same_cells
 returns-then-not-same_cells c =
     let g = c.loop-s.invariant.0 in
@@ -98,26 +29,19 @@ returns-then-not-same_cells-2 c =
     let room = part_room g st in
     differs_errors g st (omega (arith, room)) (omega (arith, room)) c.same_cells-in-loop-s.ensures (not_from_false _ c.if-not-same_cells-2.true)
 
-pub returns-then-not-is_zero_from : goal.returns-then-not-is_zero_from
-returns-then-not-is_zero_from c =
+pub returns-then-not-is_zero : goal.returns-then-not-is_zero
+returns-then-not-is_zero c =
     let g = c.loop-s.invariant.0 in
     let st = c.fill-s.ensures in
     let room = part_room g st in
-    differs_behind g st (omega (arith, room)) (omega (arith, room)) c.same_cells.ensures (not_from_true _ c.if-not-same_cells.false) c.same_cells-in-loop-s.ensures (not_from_true _ c.if-not-same_cells-2.false) c.in_default.is (c.is_zero_from.ensures ∙ zeros_fold c.args.tokens.now (4 * (c.loop-s.n + c.fill-s.result.tokens))) (not_from_false _ c.if-not-is_zero_from.true)
+    differs_behind g st (omega (arith, room)) (omega (arith, room)) c.same_cells.ensures (not_from_true _ c.if-not-same_cells.false) c.same_cells-in-loop-s.ensures (not_from_true _ c.if-not-same_cells-2.false) c.in_default.is (rw part_to_end at c.is_zero.ensures ∙ zeros_fold c.args.tokens.now (4 * (c.loop-s.n + c.fill-s.result.tokens))) (not_from_false _ c.if-not-is_zero.true)
 
 pub returns-in_default : goal.returns-in_default
 returns-in_default c =
     let g = c.loop-s.invariant.0 in
     let st = c.fill-s.ensures in
     let room = part_room g st in
-    agrees_end g st (omega (arith, room)) (omega (arith, room)) c.same_cells.ensures (not_from_true _ c.if-not-same_cells.false) c.same_cells-in-loop-s.ensures (not_from_true _ c.if-not-same_cells-2.false) c.in_default.is (c.is_zero_from.ensures ∙ zeros_fold c.args.tokens.now (4 * (c.loop-s.n + c.fill-s.result.tokens))) (not_from_true _ c.if-not-is_zero_from.false) (c.is_zero_from-in_default.ensures ∙ zeros_fold c.args.errors.now (6 * (c.loop-s.m + c.fill-s.result.errors)))
-
-pub loop-s-smaller : goal.loop-s-smaller
-loop-s-smaller c =
-    let g = c.loop-s.invariant.0 in
-    let st = c.fill-s.ensures in
-    let room = part_room g st in
-    omega (arith, st.moves _ c.in-Some.is (omega (arith, c.fill-s.auto)) (omega (arith, c.fill-s.auto)), st.inside _ c.in-Some.is)
+    agrees_end g st (omega (arith, room)) (omega (arith, room)) c.same_cells.ensures (not_from_true _ c.if-not-same_cells.false) c.same_cells-in-loop-s.ensures (not_from_true _ c.if-not-same_cells-2.false) c.in_default.is (rw part_to_end at c.is_zero.ensures ∙ zeros_fold c.args.tokens.now (4 * (c.loop-s.n + c.fill-s.result.tokens))) (not_from_true _ c.if-not-is_zero.false) (rw part_to_end at c.is_zero-in_default.ensures ∙ zeros_fold c.args.errors.now (6 * (c.loop-s.m + c.fill-s.result.errors)))
 
 pub loop-s-preserved : goal.loop-s-preserved
 loop-s-preserved c =

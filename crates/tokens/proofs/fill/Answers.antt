@@ -1,7 +1,7 @@
 -- `tokens::fill` meets its contract: the records made and those that the rest of the script gives
 -- are those from `from` on, at every turn.
 use Rattle.std.proofs.Common.{arith, refl, sym}
-use Rattle.tokens.proofs.Progress.{filled-start, filled-token, filled_fault, stops_tokens, stops_errors, stops_end, tokens-left, step_bounds, fault_bounds, end_bounds, less_token, less_fault}
+use Rattle.tokens.proofs.Progress.{filled-start, filled-token, filled_fault, stops_tokens, stops_errors, stops_end, tokens-left, step_bounds, fault_bounds, end_bounds}
 use Rattle.tokens.proofs.fill.Goals as goal
 
 pub loop-token-init : goal.loop-token-init
@@ -15,9 +15,6 @@ put_token-requires c =
     let b = step_bounds c.args.script.now c.loop-token.pos (omega arith) (sym c.in-Token.ensures) in
     (c.if-tokens-n.false, omega arith, b.0, b.1)
 
-pub loop-token-smaller-in-Token : goal.loop-token-smaller-in-Token
-loop-token-smaller-in-Token c = less_token _ _ (sym c.in-Token.ensures)
-
 pub loop-token-preserved-in-Token : goal.loop-token-preserved-in-Token
 loop-token-preserved-in-Token c =
     (filled-token c.loop-token.invariant.0 (sym c.in-Token.ensures) c.if-tokens-n.false c.put_token.ensures, omega (arith, c.put_token.auto), omega arith)
@@ -30,9 +27,6 @@ put_error-requires c =
     let b = fault_bounds c.args.script.now c.loop-token.pos (omega arith) (sym c.in-Fault.ensures) in
     (c.if-errors-m.false, b.0, b.1, omega (arith, tokens-left c.loop-token.invariant.0))
 
-pub loop-token-smaller : goal.loop-token-smaller
-loop-token-smaller c = less_fault _ _ (sym c.in-Fault.ensures)
-
 pub loop-token-preserved : goal.loop-token-preserved
 loop-token-preserved c =
     (filled_fault c.loop-token.invariant.0 (sym c.in-Fault.ensures) c.if-errors-m.false c.put_error.ensures, omega arith, omega (arith, c.put_error.auto))
@@ -42,7 +36,7 @@ returns-then-tokens-n-2 c = stops_tokens c.loop-token.invariant.0 c.if-tokens-n-
 
 pub put_token-requires-in-End : goal.put_token-requires-in-End
 put_token-requires-in-End c =
-    (c.if-tokens-n-2.false, omega arith, end_bounds c.args.script.now c.loop-token.pos c.loop-token.invariant.0.inside (sym c.in-End.ensures), omega arith)
+    rw c.eof.ensures (c.if-tokens-n-2.false, omega arith, end_bounds c.args.script.now c.loop-token.pos c.loop-token.invariant.0.inside (sym c.in-End.ensures), omega arith)
 
 pub returns-in-End : goal.returns-in-End
-returns-in-End c = stops_end c.loop-token.invariant.0 (sym c.in-End.ensures) c.if-tokens-n-2.false c.put_token-in-End.ensures
+returns-in-End c = stops_end c.loop-token.invariant.0 (sym c.in-End.ensures) c.if-tokens-n-2.false (rw c.eof.ensures at c.put_token-in-End.ensures)

@@ -55,38 +55,40 @@ agree_cases-loop-at-preserved t c =
 pub agree_cases-returns : goal.agree_cases-returns
 agree_cases-returns t c = over case_lists c.loop-at.invariant c.in-None.ensures.steps.0
 
-pub agree_last-returns-in-Nothing : goal.agree_last-returns-in-Nothing
-agree_last-returns-in-Nothing t c = last-nothing _ _ _ _ _ _ _ c.in-Nothing.ensures
+pub agree_last-returns-in-None : goal.agree_last-returns-in-None
+agree_last-returns-in-None t c = last-nothing _ _ _ _ _ _ _ c.in-None.ensures
 
-pub agree_last-returns-in-Node : goal.agree_last-returns-in-Node
-agree_last-returns-in-Node t c = last-node _ _ _ _ _ _ _ c.in-Node.ensures.0 (rw (c.cell.ensures, c.cell-in-Node.ensures, ← c.in-Node.ensures.1) at c.agree_node.ensures)
+pub agree_last-returns-in-Some-Node : goal.agree_last-returns-in-Some-Node
+agree_last-returns-in-Some-Node t c =
+    let f = rw c.in-Some-Node.field-0-is at c.in-Some-Node.ensures in
+    last-node _ _ _ _ _ _ _ f.0 (rw (c.cell.ensures, c.cell-in-Some-Node.ensures, ← f.1) at c.agree_node.ensures)
 
 pub agree_last-returns-in_default : goal.agree_last-returns-in_default
-agree_last-returns-in_default t c = last-list _ _ _ _ _ _ _ c.in-Nodes.o c.in-Nodes.named c.in-Nodes.ensures.0 c.in-Nodes.ensures.1 c.run_at-r.ensures c.run_at-r2.ensures (not-in_step (lists c.in-Nodes.named) (c.member_cells-width.ensures ∙ width_is c.in-Nodes.named) c.in_default.ensures)
+agree_last-returns-in_default t c = last-list _ _ _ _ _ _ c.args.order c.in-Some-Nodes.o c.in-Some-Nodes.named c.in-Some-Nodes.field-0-is c.in-Some-Nodes.ensures c.runs_at.ensures.0 c.runs_at.ensures.1 (not-in_step (lists c.in-Some-Nodes.named) (c.member_cells-width.ensures ∙ width_is c.in-Some-Nodes.named) c.in_default.ensures)
 
 pub agree_last-returns-in_default-take_last : goal.agree_last-returns-in_default-take_last
 agree_last-returns-in_default-take_last t c =
-    let a = rw (c.run_at-r.ensures, c.run_at-r2.ensures) at c.in-Some.ensures in
-    last-list _ _ _ _ _ _ _ c.in-Nodes.o c.in-Nodes.named c.in-Nodes.ensures.0 c.in-Nodes.ensures.1 refl refl (over (lists c.in-Nodes.named) (paired (lists c.in-Nodes.named) (c.member_cells-width.ensures ∙ width_is c.in-Nodes.named) a refl) c.in_default-take_last.ensures.0)
+    let a = rw (c.runs_at.ensures.0, c.runs_at.ensures.1) at c.in-Some.ensures in
+    last-list _ _ _ _ _ _ c.args.order c.in-Some-Nodes.o c.in-Some-Nodes.named c.in-Some-Nodes.field-0-is c.in-Some-Nodes.ensures refl refl (over (lists c.in-Some-Nodes.named) (paired (lists c.in-Some-Nodes.named) (c.member_cells-width.ensures ∙ width_is c.in-Some-Nodes.named) a refl) c.in_default-take_last.ensures.0)
 
 pub agree_last-loop-at-init : goal.agree_last-loop-at-init
 agree_last-loop-at-init t c =
-    let a = rw (c.run_at-r.ensures, c.run_at-r2.ensures) at c.in-Some.ensures in
-    rw c.into_iter-at-iterator.ensures.into_iter_gives (taken (lists c.in-Nodes.named) _ _ c.take_last.new.self (paired (lists c.in-Nodes.named) (c.member_cells-width.ensures ∙ width_is c.in-Nodes.named) a refl) c.in-Some-take_last.ensures)
+    let a = rw (c.runs_at.ensures.0, c.runs_at.ensures.1) at c.in-Some.ensures in
+    rw c.into_iter-at-iterator.ensures.into_iter_gives (taken (lists c.in-Some-Nodes.named) _ _ c.take_last.new.self (paired (lists c.in-Some-Nodes.named) (c.member_cells-width.ensures ∙ width_is c.in-Some-Nodes.named) a refl) c.in-Some-take_last.ensures)
 
 pub agree_last-returns-then-not-agree_name : goal.agree_last-returns-then-not-agree_name
 unfolding w
 agree_last-returns-then-not-agree_name t c =
     let e = env_below (seen c.args.a.now) c.args.i in
     let e2 = env_below (seen c.args.b.now) c.args.j in
-    last-list _ _ _ _ _ _ _ c.in-Nodes.o c.in-Nodes.named c.in-Nodes.ensures.0 c.in-Nodes.ensures.1 refl refl (differs-before (lists c.in-Nodes.named) _ _ c.next.new.self c.in-Some-2.ensures.steps c.loop-at.invariant (λ b. decides_not _ c.if-not-agree_name.true c.agree_name.ensures (member-parts c.in-Nodes.named e e2 _ _ c.member_cells-width.ensures b).0))
+    last-list _ _ _ _ _ _ c.args.order c.in-Some-Nodes.o c.in-Some-Nodes.named c.in-Some-Nodes.field-0-is c.in-Some-Nodes.ensures refl refl (differs-before (lists c.in-Some-Nodes.named) _ _ c.next.new.self c.in-Some-2.ensures.steps c.loop-at.invariant (λ b. decides_not _ c.if-not-agree_name.true c.agree_name.ensures (member-parts c.in-Some-Nodes.named e e2 _ _ c.member_cells-width.ensures b).0))
 
 pub agree_last-returns-then-not-agree_node : goal.agree_last-returns-then-not-agree_node
 agree_last-returns-then-not-agree_node t c =
     let e = env_below (seen c.args.a.now) c.args.i in
     let e2 = env_below (seen c.args.b.now) c.args.j in
     let d = rw (c.cell-in-loop-at.ensures, c.cell-in-loop-at-2.ensures) at c.agree_node-in-loop-at.ensures in
-    last-list _ _ _ _ _ _ _ c.in-Nodes.o c.in-Nodes.named c.in-Nodes.ensures.0 c.in-Nodes.ensures.1 refl refl (differs-before (lists c.in-Nodes.named) _ _ c.next.new.self c.in-Some-2.ensures.steps c.loop-at.invariant (λ b. decides_not _ c.if-not-agree_node.true d (member-parts c.in-Nodes.named e e2 _ _ c.member_cells-width.ensures b).1))
+    last-list _ _ _ _ _ _ c.args.order c.in-Some-Nodes.o c.in-Some-Nodes.named c.in-Some-Nodes.field-0-is c.in-Some-Nodes.ensures refl refl (differs-before (lists c.in-Some-Nodes.named) _ _ c.next.new.self c.in-Some-2.ensures.steps c.loop-at.invariant (λ b. decides_not _ c.if-not-agree_node.true d (member-parts c.in-Some-Nodes.named e e2 _ _ c.member_cells-width.ensures b).1))
 
 pub agree_last-loop-at-preserved : goal.agree_last-loop-at-preserved
 unfolding w
@@ -94,22 +96,22 @@ agree_last-loop-at-preserved t c =
     let e = env_below (seen c.args.a.now) c.args.i in
     let e2 = env_below (seen c.args.b.now) c.args.j in
     let d = rw (c.cell-in-loop-at.ensures, c.cell-in-loop-at-2.ensures) at c.agree_node-in-loop-at.ensures in
-    next-before (lists c.in-Nodes.named) _ _ c.next.new.self c.in-Some-2.ensures.steps c.loop-at.invariant (member_agree c.in-Nodes.named e e2 _ _ c.member_cells-width.ensures (c.agree_name.ensures.holds c.if-not-agree_name.false) (d.holds c.if-not-agree_node.false))
+    next-before (lists c.in-Some-Nodes.named) _ _ c.next.new.self c.in-Some-2.ensures.steps c.loop-at.invariant (member_agree c.in-Some-Nodes.named e e2 _ _ c.member_cells-width.ensures (c.agree_name.ensures.holds c.if-not-agree_name.false) (d.holds c.if-not-agree_node.false))
 
 pub agree_last-returns-then-not-agree_name-2 : goal.agree_last-returns-then-not-agree_name-2
 unfolding w
 agree_last-returns-then-not-agree_name-2 t c =
     let e = env_below (seen c.args.a.now) c.args.i in
     let e2 = env_below (seen c.args.b.now) c.args.j in
-    last-list _ _ _ _ _ _ _ c.in-Nodes.o c.in-Nodes.named c.in-Nodes.ensures.0 c.in-Nodes.ensures.1 refl refl (last-pair (lists c.in-Nodes.named) c.loop-at.invariant c.in-None.ensures.steps.0 (decides_no (λ b. decides_not _ c.if-not-agree_name-2.true c.agree_name-in-Nodes.ensures (member-parts c.in-Nodes.named e e2 _ _ c.member_cells-width.ensures b).0)))
+    last-list _ _ _ _ _ _ c.args.order c.in-Some-Nodes.o c.in-Some-Nodes.named c.in-Some-Nodes.field-0-is c.in-Some-Nodes.ensures refl refl (last-pair (lists c.in-Some-Nodes.named) c.loop-at.invariant c.in-None-2.ensures.steps.0 (decides_no (λ b. decides_not _ c.if-not-agree_name-2.true c.agree_name-in-Some-Nodes.ensures (member-parts c.in-Some-Nodes.named e e2 _ _ c.member_cells-width.ensures b).0)))
 
 pub agree_last-returns-else-not-agree_name-2 : goal.agree_last-returns-else-not-agree_name-2
 unfolding w
 agree_last-returns-else-not-agree_name-2 t c =
     let e = env_below (seen c.args.a.now) c.args.i in
     let e2 = env_below (seen c.args.b.now) c.args.j in
-    let d = rw (c.cell-in-Nodes.ensures, c.cell-in-Nodes-2.ensures) at c.agree_node-in-Nodes.ensures in
-    last-list _ _ _ _ _ _ _ c.in-Nodes.o c.in-Nodes.named c.in-Nodes.ensures.0 c.in-Nodes.ensures.1 refl refl (last-pair (lists c.in-Nodes.named) c.loop-at.invariant c.in-None.ensures.steps.0 (decides_by (member_agree c.in-Nodes.named e e2 _ _ c.member_cells-width.ensures (c.agree_name-in-Nodes.ensures.holds c.if-not-agree_name-2.false)) (λ b. (member-parts c.in-Nodes.named e e2 _ _ c.member_cells-width.ensures b).1) d))
+    let d = rw (c.cell-in-Some-Nodes.ensures, c.cell-in-Some-Nodes-2.ensures) at c.agree_node-in-Some-Nodes.ensures in
+    last-list _ _ _ _ _ _ c.args.order c.in-Some-Nodes.o c.in-Some-Nodes.named c.in-Some-Nodes.field-0-is c.in-Some-Nodes.ensures refl refl (last-pair (lists c.in-Some-Nodes.named) c.loop-at.invariant c.in-None-2.ensures.steps.0 (decides_by (member_agree c.in-Some-Nodes.named e e2 _ _ c.member_cells-width.ensures (c.agree_name-in-Some-Nodes.ensures.holds c.if-not-agree_name-2.false)) (λ b. (member-parts c.in-Some-Nodes.named e e2 _ _ c.member_cells-width.ensures b).1) d))
 
 pub agree_node-returns-then-n-i : goal.agree_node-returns-then-n-i
 agree_node-returns-then-n-i t c = node_past_left _ _ _ _ _ _ c.if-n-i.true
@@ -162,11 +164,11 @@ agree_part-returns-in-Token t c = rw c.in-Token.is c.agree_token_at.ensures
 
 pub agree_part-returns-in-Tokens : goal.agree_part-returns-in-Tokens
 unfolding part_of PartAgrees words word_in w
-agree_part-returns-in-Tokens t c = rw c.in-Tokens.is (rw (c.run_at-r.ensures, c.run_at-r2.ensures) at c.agree_words.ensures)
+agree_part-returns-in-Tokens t c = rw c.in-Tokens.is (rw (c.runs_at.ensures.0, c.runs_at.ensures.1) at c.agree_words.ensures)
 
 pub agree_part-returns-in-Params : goal.agree_part-returns-in-Params
 unfolding part_of PartAgrees params param_in word_in w
-agree_part-returns-in-Params t c = rw c.in-Params.is (rw (c.run_at-r-in-Params.ensures, c.run_at-r2-in-Params.ensures) at c.agree_params.ensures)
+agree_part-returns-in-Params t c = rw c.in-Params.is (rw (c.runs_at-in-Params.ensures.0, c.runs_at-in-Params.ensures.1) at c.agree_params.ensures)
 
 pub agree_part-returns-in-Type : goal.agree_part-returns-in-Type
 unfolding part_of PartAgrees
@@ -174,15 +176,15 @@ agree_part-returns-in-Type t c = rw c.in-Type.is (rw (c.cell.ensures, c.cell-in-
 
 pub agree_part-returns-in-Fns : goal.agree_part-returns-in-Fns
 unfolding part_of PartAgrees fns fn_in words params param_in word_in w
-agree_part-returns-in-Fns t c = rw c.in-Fns.is (rw (c.run_at-r-in-Fns.ensures, c.run_at-r2-in-Fns.ensures) at c.agree_fns.ensures)
+agree_part-returns-in-Fns t c = rw c.in-Fns.is (rw (c.runs_at-in-Fns.ensures.0, c.runs_at-in-Fns.ensures.1) at c.agree_fns.ensures)
 
 pub agree_part-returns-in-Nodes : goal.agree_part-returns-in-Nodes
 unfolding part_of PartAgrees
-agree_part-returns-in-Nodes t c = rw c.in-Nodes.is (rw (c.run_at-r-in-Nodes.ensures, c.run_at-r2-in-Nodes.ensures) at c.agree_nodes.ensures)
+agree_part-returns-in-Nodes t c = rw c.in-Nodes.is (rw (c.runs_at-in-Nodes.ensures.0, c.runs_at-in-Nodes.ensures.1) at c.agree_nodes.ensures)
 
 pub agree_part-returns-in-Cases : goal.agree_part-returns-in-Cases
 unfolding part_of PartAgrees
-agree_part-returns-in-Cases t c = rw c.in-Cases.is (rw (c.run_at-r-in-Cases.ensures, c.run_at-r2-in-Cases.ensures) at c.agree_cases.ensures)
+agree_part-returns-in-Cases t c = rw c.in-Cases.is (rw (c.runs_at-in-Cases.ensures.0, c.runs_at-in-Cases.ensures.1) at c.agree_cases.ensures)
 
 pub agree_part-returns-in-Node : goal.agree_part-returns-in-Node
 unfolding part_of PartAgrees

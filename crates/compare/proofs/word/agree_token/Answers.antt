@@ -3,6 +3,7 @@ use mathlib.Core.Path.{◌∙◌, sym}
 use native.Mathlib.Nat.{add-sub_cancel_left}
 use native.Mathlib.Omega.{arith}
 use Rattle.lex.proofs.Spellings.{spelling-found}
+use Rattle.lex.proofs.WellFormed.{fixed_some}
 use Rattle.compare.proofs.Agree.{decides_no}
 use Rattle.compare.proofs.Words.{agree_kinds, agree_fixed, agree_lost, agree_spelled, same_bytes_lem}
 use Rattle.compare.proofs.word.agree_token.Goals as goal
@@ -11,7 +12,7 @@ pub returns-then-t-t2 : goal.returns-then-t-t2
 returns-then-t-t2 c = decides_no (λ g. c.if-t-t2.true (agree_kinds _ _ _ _ g))
 
 pub returns-in_default : goal.returns-in_default
-returns-in_default c = rw c.spelling_len.ensures (agree_fixed _ _ _ _ c.if-t-t2.false (sym c.spelling.ensures ∙ c.in_default.is))
+returns-in_default c = rw (c.is_some.ensures, fixed_some _ _ c.fixed_spelling.ensures) (agree_fixed _ _ _ _ c.if-t-t2.false (sym c.spelling.ensures ∙ c.in_default.is))
 
 pub returns-in_default-spelling : goal.returns-in_default-spelling
 returns-in_default-spelling c = decides_no (agree_lost _ _ _ _ c.if-t-t2.false _ (sym c.spelling.ensures ∙ c.in-Some.is) (sym c.spelling-2.ensures ∙ c.in_default-spelling.is))

@@ -1,6 +1,9 @@
 -- `listing::emit::write_next_number` meets its contract.
+use Rattle.std.proofs.Common.{rules, [], ◌∷◌}
 use Rattle.text.proofs.EmitLaws.{and_then}
+use Rattle.listing.specs.Text.{gap}
 use Rattle.listing.proofs.emit.write_next_number.Goals as goal
 
 pub returns : goal.returns
-returns c = and_then c.write_gap.ensures c.write_number.ensures
+unfolding gap
+returns c = and_then {a = 32 ∷ []} (search rules) c.write_number.ensures

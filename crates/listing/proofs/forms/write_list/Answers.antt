@@ -16,7 +16,7 @@ loop-i-init g c = λ member each. each-none _
 
 pub returns-in_err-write_member : goal.returns-in_err-write_member
 returns-in_err-write_member g c = λ member each.
-    let h = few-before c.args.width c.args.run.len c.loop-i.i c.requires.narrow (omega arith) c.loop-i-test.true in
+    let h = few-before c.args.width c.args.run.len c.requires.narrow (omega arith) c.loop-i.i c.loop-i-test.true in
     fails c.from_residual.ensures.0
     (unlisted_by (run_inside c.args.width c.args.lists.now member c.args.run c.if-lists-start.false)
     (unlisted-then c.write_byte.ensures
@@ -24,7 +24,7 @@ returns-in_err-write_member g c = λ member each.
 
 pub loop-i-preserved : goal.loop-i-preserved
 loop-i-preserved g c = λ member each.
-    let h = few-before c.args.width c.args.run.len c.loop-i.i c.requires.narrow (omega arith) c.loop-i-test.true in
+    let h = few-before c.args.width c.args.run.len c.requires.narrow (omega arith) c.loop-i.i c.loop-i-test.true in
     each-next _ (c.loop-i.invariant member each) (and_then c.write_gap.ensures (each _ _ _ _ (omega arith) c.in_ok-write_member.ensures).answers)
 
 pub returns : goal.returns

@@ -10,4 +10,4 @@ returns-in-Script c = writes_by (sym (ap failure_line c.in-Script.is)) c.write_e
 
 pub returns-in-Refused : goal.returns-in-Refused
 unfolding bytes
-returns-in-Refused c = writes_by (rw c.into.ensures (sym (ap failure_line c.in-Refused.is))) c.write_line.ensures
+returns-in-Refused c = writes_by (sym (ap failure_line c.in-Refused.is)) c.write_line.ensures

@@ -4,9 +4,9 @@ use lib.Seq.{length-take-le}
 use Rattle.ast.specs.Decode.{node_at, type_at}
 use Rattle.text.specs.Text.{bytes}
 use Rattle.text.proofs.EmitLaws.{and_then, writes_by}
-use Rattle.listing.specs.Listing.{held, node_text, type_text, node_line, type_line, tree_text}
+use Rattle.listing.specs.Listing.{held, node_text, type_text, node_line, type_line, numbers_line, tree_text}
 use Rattle.listing.proofs.EmitLaws.{done, fails, refused, unlisted_by, unlisted-first, unlisted-then}
-use Rattle.listing.proofs.LineLaws.{tree_in, tree_out, cells-inside, roots-inside, roots_are}
+use Rattle.listing.proofs.LineLaws.{tree_in, tree_out, cells-inside, roots-inside, errors-inside, roots_are, errors_are}
 use Rattle.listing.proofs.lines.write_tree.Goals as goal
 
 pub returns-then-not-holds : goal.returns-then-not-holds
@@ -41,4 +41,7 @@ returns c =
     (and_then (c.in_ok-write_records.ensures (λ i. node_text (take c.args.c.cells c.args.arrays.now.lists.now) (node_at c.args.arrays.now.nodes.now i)) (λ j u r v h p. search rules)).answers
     (and_then (c.in_ok-write_records-2.ensures (λ i. type_text (take c.args.c.cells c.args.arrays.now.lists.now) (type_at c.args.arrays.now.types.now i)) (λ j u r v h p. search rules)).answers
     (and_then (writes_by (roots_are c.args.arrays.now.roots.now c.args.c.roots (roots-inside (held c.args.arrays.now) c.args.c c.if-not-holds.ensures)) c.write_line.ensures)
-    c.write_diagnostics.ensures)))))
+    (writes_by (errors_are (numbers_line (bytes "diag")) c.args.arrays.now.diagnostics.now c.args.c.diagnostics (errors-inside (held c.args.arrays.now) c.args.c c.if-not-holds.ensures)) c.write_diagnostics.ensures))))))
+
+pub slice_bounds-diagnostics-end : goal.slice_bounds-diagnostics-end
+slice_bounds-diagnostics-end c = sym (length-take-le _ _ (errors-inside (held c.args.arrays.now) c.args.c c.if-not-holds.ensures))

@@ -1,5 +1,5 @@
 -- `parser_state::Parser::alloc_slice` meets its contract.
-use Rattle.std.proofs.Common.{◌-◌, List, ℕ, sym, ap, ◌∙◌, arith}
+use Rattle.std.proofs.Common.{◌-◌, List, ℕ, refl, ap, ◌∙◌, arith}
 use Rattle.parser_state.specs.Represents.{code_of}
 use Rattle.parser_state.proofs.Leaves.{lists_full}
 use Rattle.parser_state.proofs.Steps.{left-some}
@@ -19,4 +19,4 @@ pub returns-clause-reads : goal.returns-clause-reads
 returns-clause-reads c =
     let s = code_of c.args.self.now in
     let used = s.parser.used in
-    ((λ tokens. allocating tokens s _ _ (sym c.going.ensures ∙ c.if-not-going.false) (tail_put used.cells s.lists _ _ (c.move_list.ensures ∙ ap (λ (l : List ℕ). moved l (used.scratch - c.args.mark) used.scratch) (tail_mid used.cells s.lists)))), c.if-members-gt-MAX_BYTES.false)
+    ((λ tokens. allocating tokens s _ _ refl (tail_put used.cells s.lists _ _ (c.move_list.ensures ∙ ap (λ (l : List ℕ). moved l (used.scratch - c.args.mark) used.scratch) (tail_mid used.cells s.lists)))), c.if-members-gt-MAX_BYTES.false)

@@ -1,21 +1,26 @@
 -- `parser_state::Parser::push_node` meets its contract.
-use Rattle.std.proofs.Common.{ℕ, length, ap, ◌∙◌, arith}
+use Rattle.std.proofs.Common.{ℕ, ◌∷◌, length, ap, ◌∙◌, arith}
+use Rattle.ast.specs.Layout.{node_width}
 use Rattle.std.proofs.Math.Seq.{paste}
 use Rattle.parser_state.specs.Represents.{code_of}
 use Rattle.parser_state.proofs.Leaves.{full, no_place}
 use Rattle.parser_state.proofs.Steps.{left-some}
-use Rattle.parser_state.proofs.Cells.{node_making}
+use Rattle.parser_state.proofs.Cells.{padded-length, node-length, node_making}
 use Rattle.parser_state.proofs.Parser.push_node.Goals as goal
 
+pub returns-then-this-clause-reads : goal.returns-then-this-clause-reads
+returns-then-this-clause-reads g c =
+    λ tokens f rooms few e. absurd (omega (arith, ap length e ∙ node-length (f c.args.self.now.used.values), padded-length node_width (c.args.kind ∷ c.args.self.now.used.values ∷ c.args.fields), c.if-this.true, c.well_formed))
+
 pub returns-in_default-clause-reads : goal.returns-in_default-clause-reads
-returns-in_default-clause-reads c =
+returns-in_default-clause-reads g c =
     λ tokens f rooms few e. no_place (rw c.in_default.is at c.place.ensures) (λ R L stack m h. (omega (arith, h.credit.records, h.lent.small, left-some h), omega (arith, h.credit.records, h.lent.nodes, left-some h)))
 
 pub returns-then-values-ge-MAX_VALUES-clause-reads : goal.returns-then-values-ge-MAX_VALUES-clause-reads
-returns-then-values-ge-MAX_VALUES-clause-reads c = λ tokens f rooms few e. full (λ R L stack m h. omega (arith, h.credit.numbers, h.lent.small, left-some h))
+returns-then-values-ge-MAX_VALUES-clause-reads g c = λ tokens f rooms few e. full (λ R L stack m h. omega (arith, h.credit.numbers, h.lent.small, left-some h))
 
 pub returns-clause-reads : goal.returns-clause-reads
-returns-clause-reads c =
-    let cells = c.args.cells in
+returns-clause-reads g c =
+    let cells = c.record-cells.result in
     let place = rw c.in-Some.is at c.place.ensures in
-    λ tokens f rooms few e. node_making tokens cells (code_of c.args.self.now) f _ rooms few place.0 e (c.put.ensures ∙ ap (λ (at : ℕ). paste c.args.self.now.nodes.now at cells (length cells)) place.2)
+    λ tokens f rooms few e. node_making tokens cells (code_of c.args.self.now) f _ rooms few place.0 (c.record-cells.ensures ∙ e) (c.put.ensures ∙ ap (λ (at : ℕ). paste c.args.self.now.nodes.now at cells (length cells)) place.2)

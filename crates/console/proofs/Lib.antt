@@ -1,0 +1,2 @@
+-- What the proofs of the forms cite.
+pub mod Names

@@ -1,0 +1,14 @@
+-- `parser_state::Parser::list_until` meets its contract.
+use Rattle.std.proofs.Common.{refl}
+use Rattle.rules.specs.Combinators.{alloc_slice}
+use Rattle.parser_state.proofs.Steps.{as_rule, lists-after, fails, stops}
+use Rattle.parser_state.proofs.Loops.{list_as_members}
+use Rattle.parser_state.proofs.Parser.list_until.Goals as goal
+
+pub returns-in_err-members-clause-reads : goal.returns-in_err-members-clause-reads
+returns-in_err-members-clause-reads g c =
+    λ item each. fails _ (as_rule (list_as_members c.args.stop item) (stops alloc_slice (c.in_err-members.ensures.reads item each) refl)) refl c.from_residual.ensures tt
+
+pub returns-clause-reads : goal.returns-clause-reads
+returns-clause-reads g c =
+    λ item each. as_rule (list_as_members c.args.stop item) (lists-after alloc_slice (c.in_ok-members.ensures.reads item each) (c.alloc_slice.ensures.reads.0 _) refl)

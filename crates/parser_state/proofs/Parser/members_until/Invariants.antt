@@ -1,0 +1,18 @@
+-- The members so far are those of the rule; each turn takes a token.
+use Rattle.std.proofs.Common.{ℕ, List}
+use Rattle.rules.specs.Combinators.{Rule}
+use Rattle.parser_state.specs.Represents.{code_of}
+use Rattle.parser_state.specs.Keeps.{KeepsNodes, KeepsTypes}
+use Rattle.parser_state.specs.Members.{ReadsEach, KeepsEach}
+use Rattle.parser_state.proofs.Loops.{MembersInvariant}
+use Rattle.parser_state.proofs.Rounds.{weight}
+use Rattle.parser_state.proofs.Parser.members_until.Given as goal
+
+abbrev pub invariant-loop-member : goal.invariant-loop-member
+invariant-loop-member g l =
+    ((item : Rule (List ℕ)) → ReadsEach l.tokens item (goal.F-post g l.member) → MembersInvariant l.tokens l.stop item (code_of l.initial.self) (code_of l.self) l.members)
+    × (KeepsEach KeepsNodes (goal.F-post g l.member) → KeepsNodes l.initial.self l.self)
+    × (KeepsEach KeepsTypes (goal.F-post g l.member) → KeepsTypes l.initial.self l.self)
+
+abbrev pub decreases-loop-member : goal.decreases-loop-member
+decreases-loop-member g l = weight l.tokens (code_of l.self)
