@@ -10,7 +10,7 @@
  *   `counts` and the arrays for an answer have the lengths that are written here.
  * - What a function writes to overlaps nothing else that is passed to it, and nobody else uses it
  *   during the call.
- * - There is stack enough. A reading takes up to 120 KB (the deepest nests measured took 60), a
+ * - There is stack enough. A reading takes up to 120 KB (the deepest nests measured took 68), a
  *   lookup 16 KB on arrays of any depth, and a comparison of trees that readings returned 64 KB. A
  *   comparison of arrays that no reading made goes as deep as they do: nests in the last member of
  *   the last list take no more, any other 400 bytes a level, record types in one another 180. With
