@@ -7,7 +7,7 @@ ghost use Rattle.std.specs.Prelude.{◌≤◌, length, IfOk};
 
 use ast::{Counts, NodeId, Tree, TypeExprId};
 use compare::same_shape;
-use console::frames::{ReadError, each_case, print_name, read_script, read_up_to};
+use console::frames::{MAX_CASES, ReadError, each_case, print_name, read_script, read_up_to};
 use console::output::{print_answer, print_start};
 use lex::Token;
 use lookups::{node_start, type_token};
@@ -17,6 +17,9 @@ use std::io::Read;
 
 // One more than a script may have.
 const ROOM: usize = 65537;
+
+// A script of blanks: there are cases that give only its length.
+const BLANKS: [u8; ROOM] = [b' '; ROOM];
 
 // ---- what a case says
 
@@ -74,11 +77,10 @@ fn read_counts(input: &mut impl Read) -> io::Result<Counts> {
     })
 }
 
-// Room for the tree of a script of 16 bytes, and for a script that is too long. No `Default`: it
-// fills the script with zeros, and there are cases that give only the length of a script of blanks.
+// Room for the tree of a script of 16 bytes. The script is lent beside it: a room that held it too
+// would lie on the stack once more while it is made.
 #[derive(Drop)]
 struct Room {
-    script: [u8; ROOM],
     nodes: [u32; 256],
     types: [u32; 128],
     lists: [u32; 128],
@@ -87,16 +89,18 @@ struct Room {
 
 impl Room {
     const EMPTY: Room = Room {
-        script: [b' '; ROOM],
         nodes: [0; 256],
         types: [0; 128],
         lists: [0; 128],
         roots: [0; 16],
     };
 
-    fn read_tree(&mut self, input: &mut impl Read) -> io::Result<Tree<'_>> {
+    fn read_tree<'a>(
+        &'a mut self,
+        input: &mut impl Read,
+        script: &'a mut [u8],
+    ) -> io::Result<Tree<'a>> {
         let Room {
-            script,
             nodes,
             types,
             lists,
@@ -118,14 +122,16 @@ impl Room {
 fn start(rt: &impl Print, input: &mut impl Read) -> io::Result<()> {
     let id = NodeId(read_cell(input)?);
     let mut room = Room::EMPTY;
-    let tree = room.read_tree(input)?;
+    let mut script = BLANKS;
+    let tree = room.read_tree(input, &mut script)?;
     print_start(rt, node_start(&tree, id))
 }
 
 fn token_of_type(rt: &impl Print, input: &mut impl Read) -> io::Result<()> {
     let id = TypeExprId(read_cell(input)?);
     let mut room = Room::EMPTY;
-    let tree = room.read_tree(input)?;
+    let mut script = BLANKS;
+    let tree = room.read_tree(input, &mut script)?;
     print_answer(
         rt,
         type_token(&tree, id),
@@ -139,7 +145,7 @@ fn span(rt: &impl Print, input: &mut impl Read) -> io::Result<()> {
         start: read_cell(input)? as usize,
         len: read_cell(input)? as usize,
     };
-    let mut script = [b' '; ROOM];
+    let mut script = BLANKS;
     let script = read_bytes(input, &mut script)?;
     print_answer(
         rt,
@@ -150,7 +156,7 @@ fn span(rt: &impl Print, input: &mut impl Read) -> io::Result<()> {
 
 fn place(rt: &impl Print, input: &mut impl Read) -> io::Result<()> {
     let at = read_cell(input)?;
-    let mut script = [b' '; ROOM];
+    let mut script = BLANKS;
     let script = read_bytes(input, &mut script)?;
     print_answer(
         rt,
@@ -162,8 +168,10 @@ fn place(rt: &impl Print, input: &mut impl Read) -> io::Result<()> {
 fn comparison(rt: &impl Print, input: &mut impl Read) -> io::Result<()> {
     let mut room = Room::EMPTY;
     let mut room2 = Room::EMPTY;
-    let tree = room.read_tree(input)?;
-    let tree2 = room2.read_tree(input)?;
+    let mut script = BLANKS;
+    let mut script2 = BLANKS;
+    let tree = room.read_tree(input, &mut script)?;
+    let tree2 = room2.read_tree(input, &mut script2)?;
     print_answer(rt, same_shape(&tree, &tree2), |same| {
         if same {
             print!(rt; "same")
@@ -196,5 +204,5 @@ fn next_case(rt: &impl Print, input: &mut impl Read) -> Result<bool, ReadError> 
 
 fn main(rt: HostRuntime) -> io::Result<()> {
     let mut input = rt.stdin();
-    each_case(&rt, |_| next_case(&rt, &mut input))
+    each_case(&rt, |i| Ok(i < MAX_CASES && next_case(&rt, &mut input)?))
 }

@@ -3,7 +3,7 @@
 // Printed are the answer and the whole buffer.
 #![tactic(auto)]
 
-use console::frames::{ReadError, each_case, read_number, read_up_to};
+use console::frames::{MAX_CASES, ReadError, each_case, read_number, read_up_to};
 use console::output::print_left;
 use practice::write_sheet;
 use std::io;
@@ -29,5 +29,5 @@ fn next_case(rt: &impl Print, input: &mut impl Read) -> Result<bool, ReadError> 
 
 fn main(rt: HostRuntime) -> io::Result<()> {
     let mut input = rt.stdin();
-    each_case(&rt, |_| next_case(&rt, &mut input))
+    each_case(&rt, |i| Ok(i < MAX_CASES && next_case(&rt, &mut input)?))
 }

@@ -8,7 +8,9 @@ ghost use Rattle.std.specs.Prelude.{◌≤◌, length};
 
 use ast::lent::CELLS_PER_BYTE;
 use ast::{DIAGNOSTIC_WIDTH, Node, Parsed, ReadError, TypeExpr};
-use console::frames::{ReadError as CaseError, each_case, print_name, read_script, read_up_to};
+use console::frames::{
+    MAX_CASES, ReadError as CaseError, each_case, print_name, read_script, read_up_to,
+};
 use parser::{parse, parse_collect};
 use std::io;
 use std::io::Read;
@@ -132,5 +134,5 @@ fn next_case(rt: &impl Print, input: &mut impl Read) -> Result<bool, CaseError> 
 
 fn main(rt: HostRuntime) -> io::Result<()> {
     let mut input = rt.stdin();
-    each_case(&rt, |_| next_case(&rt, &mut input))
+    each_case(&rt, |i| Ok(i < MAX_CASES && next_case(&rt, &mut input)?))
 }

@@ -17,6 +17,9 @@ use std::io;
 use std::io::Read;
 use tokens::cut;
 
+// As many scripts as are read: what follows them is not.
+const MAX_SCRIPTS: u64 = 1_000_000_000_000;
+
 // What the arrays of the second reading hold before it.
 const RUBBISH: u32 = u32::MAX;
 
@@ -62,7 +65,9 @@ fn print_lookups(
 }
 
 // The script is cut, and then read from the tables by `read`, into other arrays: answer, tables and
-// arrays have to be those that one step left.
+// arrays have to be those that one step left. Its arrays lie on the stack for this alone, and not
+// while the listing is printed.
+#[inline(never)]
 fn read_again<R>(
     rt: &impl Print,
     script: &[u8],
@@ -145,5 +150,5 @@ fn replay(rt: &impl Print, input: &mut impl Read, i: u64) -> Result<bool, ReadEr
 
 fn main(rt: HostRuntime) -> io::Result<()> {
     let mut input = rt.stdin();
-    each_case(&rt, |i| replay(&rt, &mut input, i))
+    each_case(&rt, |i| Ok(i < MAX_SCRIPTS && replay(&rt, &mut input, i)?))
 }
