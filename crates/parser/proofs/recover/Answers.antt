@@ -19,5 +19,5 @@ returns c =
     let faults = c.push_faults-faults in
     record {
       turn = λ script roots g e m room all h z. gathered_error script {c = collected (failed (code_of args.p.now) args.error) args.c} _ g e m refl refl (ne_eqb _ _ c.if-error-eq-TOO_DEEP.false) faults.ensures.0 faults.ensures.1 (omega (arith, faults.auto.diagnostics)) c.push_diagnostic-n.ensures (c.resume.ensures _ args.error) c.synchronize_root.ensures room all h z;
-      same = c.synchronize_root.ensures.same ∙ (c.resume.ensures args.tokens.now args.error).names;
+      same = c.synchronize_root.ensures.same ∙ (c.resume.ensures args.tokens.now args.error).lent;
     }

@@ -3,7 +3,7 @@ use Rattle.std.proofs.Common.{◌-◌, List, ℕ, refl, ap, ◌∙◌, arith}
 use Rattle.parser_state.specs.Represents.{code_of}
 use Rattle.parser_state.proofs.Leaves.{lists_full}
 use Rattle.parser_state.proofs.Steps.{left-some}
-use Rattle.parser_state.proofs.Cells.{allocating, moved, tail_mid, tail_put}
+use Rattle.parser_state.proofs.Cells.{allocating, moved, tail_mid, tail_put, tail_put-length}
 use Rattle.parser_state.proofs.Parser.alloc_slice.Goals as goal
 
 pub returns-then-members-gt-MAX_BYTES-clause-reads : goal.returns-then-members-gt-MAX_BYTES-clause-reads
@@ -19,4 +19,5 @@ pub returns-clause-reads : goal.returns-clause-reads
 returns-clause-reads c =
     let s = code_of c.args.self.now in
     let used = s.parser.used in
-    ((λ tokens. allocating tokens s _ _ refl (tail_put used.cells s.lists _ _ (c.move_list.ensures ∙ ap (λ (l : List ℕ). moved l (used.scratch - c.args.mark) used.scratch) (tail_mid used.cells s.lists)))), c.if-members-gt-MAX_BYTES.false)
+    let long = tail_put-length used.cells s.lists c.move_list.new.part (omega arith) c.move_list.auto.part in
+    ((λ tokens. allocating tokens s _ _ refl (tail_put used.cells s.lists _ _ (c.move_list.ensures ∙ ap (λ (l : List ℕ). moved l (used.scratch - c.args.mark) used.scratch) (tail_mid used.cells s.lists))) long), c.if-members-gt-MAX_BYTES.false)

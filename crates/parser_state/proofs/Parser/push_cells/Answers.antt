@@ -13,4 +13,4 @@ pub returns-then-self-n-clause-reads : goal.returns-then-self-n-clause-reads
 returns-then-self-n-clause-reads c = λ tokens. full (λ R L stack m h. omega (arith, h.credit.room, h.lent.lists, left-some h))
 
 pub returns-clause-reads : goal.returns-clause-reads
-returns-clause-reads c = λ tokens. pushing tokens c.args.cells.now (code_of c.args.self.now) refl c.put.ensures
+returns-clause-reads c = λ tokens. pushing tokens c.args.cells.now (code_of c.args.self.now) refl c.put.ensures (omega arith)

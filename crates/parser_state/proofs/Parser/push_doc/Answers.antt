@@ -16,4 +16,4 @@ returns-clause-reads c =
     let types = c.args.self.now.types.now in
     let d = c.token_at-d.result in
     let place = rw c.in-Some.is at c.place.ensures in
-    λ n. keeping c.args.tokens.now (code_of c.args.self.now) c.args.at n _ place.0 c.token_at-d.ensures (c.put.ensures ∙ ap (λ (before : ℕ). paste types (length types - (before + 3)) (d.len ∷ d.start ∷ d.kind ∷ []) 3) place.2)
+    λ n. keeping c.args.tokens.now (code_of c.args.self.now) c.args.at n _ place.0 c.token_at-d.ensures (c.put.ensures ∙ ap (λ (before : ℕ). paste types (length types - (before + 3)) (d.len ∷ d.start ∷ d.kind ∷ []) 3) place.2) (omega arith)

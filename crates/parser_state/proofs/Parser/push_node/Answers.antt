@@ -23,4 +23,4 @@ pub returns-clause-reads : goal.returns-clause-reads
 returns-clause-reads g c =
     let cells = c.record-cells.result in
     let place = rw c.in-Some.is at c.place.ensures in
-    λ tokens f rooms few e. node_making tokens cells (code_of c.args.self.now) f _ rooms few place.0 (c.record-cells.ensures ∙ e) (c.put.ensures ∙ ap (λ (at : ℕ). paste c.args.self.now.nodes.now at cells (length cells)) place.2)
+    λ tokens f rooms few e. node_making tokens cells (code_of c.args.self.now) f _ rooms few place.0 (c.record-cells.ensures ∙ e) (c.put.ensures ∙ ap (λ (at : ℕ). paste c.args.self.now.nodes.now at cells (length cells)) place.2) (omega arith)

@@ -20,4 +20,4 @@ pub returns-clause-reads : goal.returns-clause-reads
 returns-clause-reads g c =
     let cells = c.record-cells.result in
     let place = rw c.in-Some.is at c.place.ensures in
-    λ tokens t w. making tokens cells (code_of c.args.self.now) t place.0 (c.record-cells.ensures ∙ w) (c.put.ensures ∙ ap (λ (at : ℕ). paste c.args.self.now.types.now at cells (length cells)) place.2)
+    λ tokens t w. making tokens cells (code_of c.args.self.now) t place.0 (c.record-cells.ensures ∙ w) (c.put.ensures ∙ ap (λ (at : ℕ). paste c.args.self.now.types.now at cells (length cells)) place.2) (omega arith)

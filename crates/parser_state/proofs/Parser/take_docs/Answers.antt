@@ -1,11 +1,11 @@
 -- `parser_state::Parser::take_docs` meets its contract.
-use Rattle.std.proofs.Common.{◌≡◌, sym, refl, ap, subst, arith}
+use Rattle.std.proofs.Common.{◌≡◌, ◌*◌, sym, refl, ap, subst, arith}
 use Rattle.rules.specs.Combinators.{take_docs}
 use Rattle.parser_state.specs.Represents.{Code, code_of}
 use Rattle.parser_state.specs.Refines.{Refines, stack_unchanged}
 use Rattle.parser_state.proofs.Steps.{left-some}
 use Rattle.parser_state.proofs.Leaves.{full}
-use Rattle.parser_state.proofs.Docs.{attaching}
+use Rattle.parser_state.proofs.Docs.{attaching, docs_moved-length}
 use Rattle.parser_state.proofs.Parser.take_docs.Goals as goal
 
 pub returns-then-docs-gt-MAX_BYTES-clause-reads : goal.returns-then-docs-gt-MAX_BYTES-clause-reads
@@ -23,4 +23,4 @@ returns-then-self-at-clause-reads c = ((λ tokens. full (λ R L stack m h. omega
 pub returns-clause-reads : goal.returns-clause-reads
 returns-clause-reads c =
     let s = code_of c.args.self.now in
-    ((λ tokens. subst (Refines tokens 0 0 take_docs (λ t. t ≡ record { start = s.parser.used.cells; len = s.parser.used.docs }) stack_unchanged 0 0 0 s) (sym c.move_docs.ensures) (attaching tokens s refl refl)), ap (λ (t : Code). t.parser.cur) c.move_docs.ensures)
+    ((λ tokens. subst (Refines tokens 0 0 take_docs (λ t. t ≡ record { start = s.parser.used.cells; len = s.parser.used.docs }) stack_unchanged 0 0 0 s) (sym c.move_docs.ensures) (attaching tokens s refl refl (docs_moved-length s.types s.lists s.parser.used.cells (3 * s.parser.used.docs) (omega arith) (omega arith)))), ap (λ (t : Code). t.parser.cur) c.move_docs.ensures)
