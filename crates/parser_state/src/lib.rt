@@ -591,8 +591,7 @@ impl Parser<'_> {
         requires { 1 < stop }
         ensures reads { Lists tokens.now (closed stop) (Gives result) 1 1 8 mark members
             (code_of self.old) (code_after self.new result) }
-        ensures wherever {
-            AnyNodesTypes (Lists tokens.now (closed stop) (Gives result) 1 1 8 mark members)
+        ensures wherever { AnyNodesTypes (Lists tokens.now (closed stop) (Gives result) 1 1 8 mark members)
             (code_of self.old) (code_after self.new result) }
         ensures short { IfOk result (λ run. run.len ≤ max_bytes) }
         ensures keeps { KeepsNodesTypes self.old self.new }
@@ -687,8 +686,7 @@ impl Parser<'_> {
     pub fn collect_docs(&mut self, tokens: &[u32])
         ensures reads { Refines tokens.now 0 0 collect_docs (λ n. n ≡ 0) stack_unchanged 0 0 0
             (code_of self.old) (code_of self.new) }
-        ensures wherever {
-            AnyNodesLists (Refines tokens.now 0 0 collect_docs (λ n. n ≡ 0) stack_unchanged 0 0 0)
+        ensures wherever { AnyNodesLists (Refines tokens.now 0 0 collect_docs (λ n. n ≡ 0) stack_unchanged 0 0 0)
             (code_of self.old) (code_of self.new) }
         ensures keeps { KeepsNodesLists self.old self.new }
     {

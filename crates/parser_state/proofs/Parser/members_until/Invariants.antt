@@ -13,7 +13,7 @@ use Rattle.parser_state.proofs.Parser.members_until.Given as goal
 abbrev pub invariant-loop-member : goal.invariant-loop-member
 invariant-loop-member g l =
     ((item : Rule (List ℕ)) (nodes types : Option (List ℕ)) → ReadsEachAny l.tokens item nodes types (goal.F-post g l.member)
-        → MembersInvariant l.tokens l.stop item (lending nodes types None (code_of l.initial.self)) (lending nodes types None (code_of l.self)) l.members)
+    → MembersInvariant l.tokens l.stop item (lending nodes types None (code_of l.initial.self)) (lending nodes types None (code_of l.self)) l.members)
     × (KeepsEach KeepsNodes (goal.F-post g l.member) → KeepsNodes l.initial.self l.self)
     × (KeepsEach KeepsTypes (goal.F-post g l.member) → KeepsTypes l.initial.self l.self)
 
