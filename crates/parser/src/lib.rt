@@ -21,6 +21,7 @@ ghost use Rattle.rules.specs.Parsed.{parsed_of};
 ghost use Rattle.rules.specs.Promise.{arrays_of, outcome};
 ghost use Rattle.parser_state.specs.Represents.{reading, code_of, loan, Represents, FailedAt};
 ghost use Rattle.parser_state.specs.Refines.{Refines, stack_unchanged, failed, member_follows};
+ghost use Rattle.parser_state.specs.Keeps.{KeepsAll};
 ghost use Rattle.parser.specs.Whole.{refusal, not_read, Begun, FirstToken, RootPushed};
 ghost use Rattle.parser.specs.Whole.{RootsEnd, drop_docs};
 ghost use Rattle.parser.specs.Collect.{collected, gathered, GatheredAre, Room, TurnEnds};
@@ -90,11 +91,12 @@ fn push_root(roots: &mut [u32], n: u32, id: NodeId) -> u32
 
 // Pending docs are dropped.
 fn drop_docs(p: &mut Parser)
-    ensures { ((tokens : List ℕ) →
+    ensures reads { ((tokens : List ℕ) →
         Refines tokens 0 0 drop_docs (λ n. n ≡ 0) stack_unchanged 0 0 0 (code_of p.old)
         (code_of p.new))
         × (p.new.cur ≡ p.old.cur)
         × (p.new.at ≡ p.old.at) }
+    ensures keeps { KeepsAll p.old p.new }
 {
     p.used.docs = 0;
 }
@@ -155,6 +157,7 @@ fn recover(
         → TurnEnds script tokens.now errors.now roots diagnostics.new
         (gathered p.new result) (recover_rule stage_one script g e m) }
     ensures same { loan (code_of p.new) ≡ loan (code_of p.old) }
+    ensures keeps { KeepsAll p.old p.new }
 {
     if error.number == Diagnostic::TOO_DEEP {
         return Err(error);
