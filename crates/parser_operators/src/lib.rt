@@ -160,8 +160,8 @@ pub fn infix_follows(p: &Parser, script: &[u8], least: u32) -> bool
 pub fn atom(p: &mut Parser, tokens: &[u32]) -> NodeId
     requires { 1 < p.old.cur.kind }
     ensures reads { ReadsNode tokens.now atom p.old p.new (Ok result) }
-    ensures wherever { AnyTypesLists (Refines tokens.now 0 0 atom (Gives (Ok result)) stack_unchanged 1 0 8)
-        (code_of p.old) (code_of p.new) }
+    ensures wherever { AnyTypesLists (Refines tokens.now 0 0 atom (Gives (Ok result))
+        stack_unchanged 1 0 8) (code_of p.old) (code_of p.new) }
     ensures keeps { KeepsTypesLists p.old p.new }
 {
     let raw = p.cur;
@@ -173,8 +173,8 @@ pub fn atom(p: &mut Parser, tokens: &[u32]) -> NodeId
 pub fn ident(p: &mut Parser, tokens: &[u32]) -> NodeId
     requires { 1 < p.old.cur.kind }
     ensures reads { ReadsNode tokens.now ident p.old p.new (Ok result) }
-    ensures wherever { AnyTypesLists (Refines tokens.now 0 0 ident (Gives (Ok result)) stack_unchanged 1 0 8)
-        (code_of p.old) (code_of p.new) }
+    ensures wherever { AnyTypesLists (Refines tokens.now 0 0 ident (Gives (Ok result))
+        stack_unchanged 1 0 8) (code_of p.old) (code_of p.new) }
     ensures keeps { KeepsTypesLists p.old p.new }
 {
     let name = p.cur;

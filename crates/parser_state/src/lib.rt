@@ -416,7 +416,8 @@ impl Parser<'_> {
             (push_node_and args.len (λ id. N.Fn id docs (token_of name) args return_type body))
             (λ i. i ≡ result) stack_unchanged 0 0 0 (code_of self.old) (code_of self.new) }
         ensures wherever { (tokens : List ℕ) →
-            let rule = push_node_and args.len (λ id. N.Fn id docs (token_of name) args return_type body) in
+            let node = λ (id : ℕ). N.Fn id docs (token_of name) args return_type body in
+            let rule = push_node_and args.len node in
             AnyTypesLists (Refines tokens 2 0 rule (λ i. i ≡ result) stack_unchanged 0 0 0)
             (code_of self.old) (code_of self.new) }
         ensures keeps { KeepsTypesLists self.old self.new }
@@ -487,8 +488,8 @@ impl Parser<'_> {
             Pushes tokens (2 * length cells.now) (reverse cells.now) (code_of self.old)
             (code_of self.new) }
         ensures wherever { (tokens : List ℕ) →
-            AnyNodesTypes (Pushes tokens (2 * length cells.now) (reverse cells.now)) (code_of self.old)
-            (code_of self.new) }
+            AnyNodesTypes (Pushes tokens (2 * length cells.now) (reverse cells.now))
+            (code_of self.old) (code_of self.new) }
         ensures keeps { KeepsNodesTypes self.old self.new }
     {
         let n = self.used.scratch as usize + cells.len();
@@ -508,8 +509,7 @@ impl Parser<'_> {
         ensures reads { (tokens : List ℕ) →
             Pushes tokens 2 (v ∷ []) (code_of self.old) (code_of self.new) }
         ensures wherever { (tokens : List ℕ) →
-            AnyNodesTypes (Pushes tokens 2 (v ∷ [])) (code_of self.old)
-            (code_of self.new) }
+            AnyNodesTypes (Pushes tokens 2 (v ∷ [])) (code_of self.old) (code_of self.new) }
         ensures keeps { KeepsNodesTypes self.old self.new }
     {
         self.push_cells(&[v]);
@@ -520,8 +520,8 @@ impl Parser<'_> {
         ensures reads { (tokens : List ℕ) →
             Pushes tokens 6 (token_cells (token_of t)) (code_of self.old) (code_of self.new) }
         ensures wherever { (tokens : List ℕ) →
-            AnyNodesTypes (Pushes tokens 6 (token_cells (token_of t))) (code_of self.old)
-            (code_of self.new) }
+            AnyNodesTypes (Pushes tokens 6 (token_cells (token_of t)))
+            (code_of self.old) (code_of self.new) }
         ensures keeps { KeepsNodesTypes self.old self.new }
     {
         self.push_cells(&[t.len, t.start, t.kind]);
@@ -533,8 +533,8 @@ impl Parser<'_> {
             Pushes tokens 8 (token_cells (token_of name) ++ (id ∷ [])) (code_of self.old)
             (code_of self.new) }
         ensures wherever { (tokens : List ℕ) →
-            AnyNodesTypes (Pushes tokens 8 (token_cells (token_of name) ++ (id ∷ []))) (code_of self.old)
-            (code_of self.new) }
+            AnyNodesTypes (Pushes tokens 8 (token_cells (token_of name) ++ (id ∷ [])))
+            (code_of self.old) (code_of self.new) }
         ensures keeps { KeepsNodesTypes self.old self.new }
     {
         self.push_cells(&[id, name.len, name.start, name.kind]);
@@ -591,8 +591,8 @@ impl Parser<'_> {
         requires { 1 < stop }
         ensures reads { Lists tokens.now (closed stop) (Gives result) 1 1 8 mark members
             (code_of self.old) (code_after self.new result) }
-        ensures wherever { AnyNodesTypes (Lists tokens.now (closed stop) (Gives result) 1 1 8 mark members)
-            (code_of self.old) (code_after self.new result) }
+        ensures wherever { AnyNodesTypes (Lists tokens.now (closed stop) (Gives result) 1 1 8 mark
+            members) (code_of self.old) (code_after self.new result) }
         ensures short { IfOk result (λ run. run.len ≤ max_bytes) }
         ensures keeps { KeepsNodesTypes self.old self.new }
     {
@@ -686,8 +686,8 @@ impl Parser<'_> {
     pub fn collect_docs(&mut self, tokens: &[u32])
         ensures reads { Refines tokens.now 0 0 collect_docs (λ n. n ≡ 0) stack_unchanged 0 0 0
             (code_of self.old) (code_of self.new) }
-        ensures wherever { AnyNodesLists (Refines tokens.now 0 0 collect_docs (λ n. n ≡ 0) stack_unchanged 0 0 0)
-            (code_of self.old) (code_of self.new) }
+        ensures wherever { AnyNodesLists (Refines tokens.now 0 0 collect_docs (λ n. n ≡ 0)
+            stack_unchanged 0 0 0) (code_of self.old) (code_of self.new) }
         ensures keeps { KeepsNodesLists self.old self.new }
     {
         while self.doc_follows() {

@@ -17,7 +17,8 @@ ghost use Rattle.rules.specs.Rules.{parse_import, extern_fn, parse_extern};
 ghost use Rattle.parser_state.specs.Represents.{code_of, code_after};
 ghost use Rattle.parser_state.specs.Keeps.{KeepsAll, KeepsNodes, KeepsTypes};
 ghost use Rattle.parser_state.specs.Keeps.{KeepsNodesLists, KeepsNodesTypes};
-ghost use Rattle.parser_state.specs.Refines.{Refines, stack_unchanged, Gives, GivesCount, all_grown, ReadsType};
+ghost use Rattle.parser_state.specs.Refines.{Refines, stack_unchanged, all_grown, Gives};
+ghost use Rattle.parser_state.specs.Refines.{GivesCount, ReadsType};
 ghost use Rattle.parser_state.specs.Refines.{ReadsNode, ReadsList, ReadsMember, Pushes};
 ghost use Rattle.parser_state.specs.Refines.{Rules, deeper};
 ghost use Rattle.parser_state.specs.Wherever.{AnyArrays, AnyNodesLists, AnyNodesTypes};
@@ -50,8 +51,8 @@ fn open_angle(p: &mut Parser, tokens: &[u32], number: u32) -> Result<(), Diagnos
 fn atom_type(p: &mut Parser, tokens: &[u32]) -> TypeExprId
     requires { 1 < p.old.cur.kind }
     ensures reads { ReadsType tokens.now atom_type p.old p.new (Ok result) }
-    ensures wherever { AnyNodesLists (Refines tokens.now 0 0 atom_type (Gives (Ok result)) stack_unchanged 1 0 8)
-        (code_of p.old) (code_of p.new) }
+    ensures wherever { AnyNodesLists (Refines tokens.now 0 0 atom_type (Gives (Ok result))
+        stack_unchanged 1 0 8) (code_of p.old) (code_of p.new) }
     ensures keeps { KeepsNodesLists p.old p.new }
 {
     let t = p.cur;
@@ -63,8 +64,8 @@ fn atom_type(p: &mut Parser, tokens: &[u32]) -> TypeExprId
 fn foreign_type(p: &mut Parser, tokens: &[u32]) -> Result<TypeExprId, Diagnostic>
     requires { 1 < p.old.cur.kind }
     ensures reads { ReadsType tokens.now foreign_type p.old p.new result }
-    ensures wherever { AnyNodesLists (Refines tokens.now 0 0 foreign_type (Gives result) stack_unchanged 1 0 8)
-        (code_of p.old) (code_after p.new result) }
+    ensures wherever { AnyNodesLists (Refines tokens.now 0 0 foreign_type (Gives result)
+        stack_unchanged 1 0 8) (code_of p.old) (code_after p.new result) }
     ensures keeps { KeepsNodesLists p.old p.new }
 {
     open_angle(p, tokens, Diagnostic::EMPTY_FOREIGN)?;
@@ -269,8 +270,8 @@ fn import_path(p: &mut Parser, tokens: &[u32]) -> Result<(), Diagnostic>
     Ok(())
 }
 
-// Multiple package import: import ("io" "runtime"). The closure's clauses say that it reads whatever
-// the nodes and types hold.
+// Multiple package import: import ("io" "runtime"). The closure's clauses say that it reads
+// whatever the nodes and types hold.
 fn bracketed_paths(p: &mut Parser, tokens: &[u32]) -> Result<u32, Diagnostic>
     ensures reads { ReadsPaths tokens.now bracketed_paths p.old p.new result }
     ensures wherever { AnyNodesTypes (Refines tokens.now 0 0 bracketed_paths
@@ -325,8 +326,8 @@ fn import_paths(p: &mut Parser, tokens: &[u32]) -> Result<u32, Diagnostic>
 pub fn parse_import(p: &mut Parser, tokens: &[u32]) -> Result<NodeId, Diagnostic>
     requires { 1 < p.old.cur.kind }
     ensures reads { ReadsNode tokens.now parse_import p.old p.new result }
-    ensures wherever { AnyTypes (Refines tokens.now 0 0 parse_import (Gives result) stack_unchanged 1 0 8)
-        (code_of p.old) (code_after p.new result) }
+    ensures wherever { AnyTypes (Refines tokens.now 0 0 parse_import (Gives result)
+        stack_unchanged 1 0 8) (code_of p.old) (code_after p.new result) }
     ensures keeps { KeepsTypes p.old p.new }
 {
     let src = p.cur;
