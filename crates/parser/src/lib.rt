@@ -19,8 +19,9 @@ ghost use Rattle.rules.specs.Parse.{Gathered, begin, parse_roots, parse, recover
 ghost use Rattle.rules.specs.Parse.{parse_roots_collect, parse_collect};
 ghost use Rattle.rules.specs.Parsed.{parsed_of};
 ghost use Rattle.rules.specs.Promise.{arrays_of, outcome};
-ghost use Rattle.parser_state.specs.Represents.{reading, code_of, Represents, FailedAt};
+ghost use Rattle.parser_state.specs.Represents.{reading, code_of, loan, Represents, FailedAt};
 ghost use Rattle.parser_state.specs.Refines.{Refines, stack_unchanged, failed, member_follows};
+ghost use Rattle.parser_state.specs.Keeps.{KeepsAll};
 ghost use Rattle.parser.specs.Whole.{refusal, not_read, Begun, FirstToken, RootPushed};
 ghost use Rattle.parser.specs.Whole.{RootsEnd, drop_docs};
 ghost use Rattle.parser.specs.Collect.{collected, gathered, GatheredAre, Room, TurnEnds};
@@ -90,11 +91,12 @@ fn push_root(roots: &mut [u32], n: u32, id: NodeId) -> u32
 
 // Pending docs are dropped.
 fn drop_docs(p: &mut Parser)
-    ensures { ((tokens : List ℕ) →
+    ensures reads { ((tokens : List ℕ) →
         Refines tokens 0 0 drop_docs (λ n. n ≡ 0) stack_unchanged 0 0 0 (code_of p.old)
         (code_of p.new))
         × (p.new.cur ≡ p.old.cur)
         × (p.new.at ≡ p.old.at) }
+    ensures keeps { KeepsAll p.old p.new }
 {
     p.used.docs = 0;
 }
@@ -119,7 +121,7 @@ fn parse_roots(p: &mut Parser, source: &Source, roots: &mut [u32]) -> Result<Gat
         RootsEnd roots.new (record { code = after.code; members = after.members })
         (parse_roots stage_one script (begin script))
         × (after.diagnostics ≡ 0)
-        × (after.code.names ≡ (code_of p.old).names) }
+        × (loan after.code ≡ loan (code_of p.old)) }
 {
     let mut members: u32 = 0;
     while p.member_follows(Type::EOF) {
@@ -154,7 +156,8 @@ fn recover(
         → GatheredAre script tokens.now errors.now roots diagnostics.old (collected before c) g
         → TurnEnds script tokens.now errors.now roots diagnostics.new
         (gathered p.new result) (recover_rule stage_one script g e m) }
-    ensures same { (code_of p.new).names ≡ (code_of p.old).names }
+    ensures same { loan (code_of p.new) ≡ loan (code_of p.old) }
+    ensures keeps { KeepsAll p.old p.new }
 {
     if error.number == Diagnostic::TOO_DEEP {
         return Err(error);
@@ -191,7 +194,7 @@ fn collect_root(
         → GatheredAre script tokens errors.now roots.old diagnostics.old (collected before c) g
         → TurnEnds script tokens errors.now roots.new diagnostics.new
         (gathered p.new result) (collect_step script g m) }
-    ensures same { (code_of p.new).names ≡ (code_of p.old).names }
+    ensures same { loan (code_of p.new) ≡ loan (code_of p.old) }
 {
     match member(p, source, Parser::MAX_LEVELS) {
         Ok(n) => {
@@ -219,7 +222,7 @@ fn parse_roots_collect(
     ensures { let script = source.now.script.now in
         CollectEnds script roots.new diagnostics.new (gathered p.new result)
         (parse_roots_collect stage_one script (begin script))
-        × ((code_of p.new).names ≡ (code_of p.old).names) }
+        × (loan (code_of p.new) ≡ loan (code_of p.old)) }
 {
     let mut c = Gathering::default();
     while p.member_follows(Type::EOF) {
@@ -247,7 +250,7 @@ fn finish(
           arrays = arrays_of after.nodes after.types after.lists roots.new diagnostics.new;
         }
         ≡ finished (gathered p.old read) roots.old diagnostics.old }
-    ensures same { (code_of p.new).names ≡ (code_of p.old).names }
+    ensures same { loan (code_of p.new) ≡ loan (code_of p.old) }
     ensures as_long { (length p.new.nodes.now ≡ length p.old.nodes.now)
         × (length p.new.types.now ≡ length p.old.types.now)
         × (length p.new.lists.now ≡ length p.old.lists.now) }

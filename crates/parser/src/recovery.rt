@@ -2,6 +2,7 @@
 ghost use Rattle.std.specs.Prelude.{◌≡◌, List, ℕ};
 ghost use Rattle.parser_state.specs.Represents.{reading, code_of};
 ghost use Rattle.parser_state.specs.Refines.{Refines, stack_unchanged, failed};
+ghost use Rattle.parser_state.specs.Keeps.{KeepsAll};
 ghost use Rattle.lex.specs.declared.diagnostic.Diagnostic.{Diagnostic};
 ghost use Rattle.parser.specs.Whole.{Resumes, root_boundary, skips, synchronizing};
 
@@ -12,8 +13,9 @@ use parser_state::Parser;
 // What was under construction when a reading failed is given up, its docs are dropped, and the
 // reading goes on.
 pub(crate) fn resume(p: &mut Parser)
-    ensures { (tokens : List ℕ) (e : Diagnostic) →
+    ensures resumes { (tokens : List ℕ) (e : Diagnostic) →
         Resumes tokens (failed (code_of p.old) e) (code_of p.new) }
+    ensures keeps { KeepsAll p.old p.new }
 {
     p.used.scratch = 0;
     drop_docs(p);
@@ -44,8 +46,9 @@ fn skips(p: &Parser) -> bool
 
 // To the next token that may begin a root, past it where it is `}`.
 pub(crate) fn synchronize_root(p: &mut Parser, tokens: &[u32])
-    ensures { Refines tokens.now 0 0 synchronizing (λ n. n ≡ 0) stack_unchanged 0 0 0
+    ensures reads { Refines tokens.now 0 0 synchronizing (λ n. n ≡ 0) stack_unchanged 0 0 0
         (code_of p.old) (code_of p.new) }
+    ensures keeps { KeepsAll p.old p.new }
 {
     while skips(p) {
         p.advance(tokens);

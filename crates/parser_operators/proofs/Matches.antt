@@ -19,7 +19,7 @@ use Rattle.ast.specs.Layout.{token_cells, run_cells}
 use Rattle.rules.specs.Rules.{Cases, note_after_default, default_case, condition_case, next_case, parse_body}
 use Rattle.ast.specs.declared.Run.{Run}
 use Rattle.ast.specs.declared.NodeId.{NodeId}
-use Rattle.parser_state.specs.Represents.{Code, going, ahead, Represents, FailedAt}
+use Rattle.parser_state.specs.Represents.{Code, loan, going, ahead, Represents, FailedAt}
 use Rattle.parser_state.specs.Refines.{Ends, stack_unchanged, grown, Refines, ReadsMember, Lists, fail_at, member_follows, closed}
 use Rattle.parser_state.proofs.Steps.{either, represents_less, represents_going, failed-fails, represents_noted, noted, current_represents, seq, read, looks, done, enough, stops, if_kind-yes}
 use Rattle.parser_state.proofs.Cells.{flatten_snoc}
@@ -76,7 +76,7 @@ module _ (deeper : Readers) where
       go t (err e s) = refl
 
   module _ {tokens : List ℕ} {n n' : ℕ} {s s' : Code} (d d' : Answer DefaultBlock) where
-    case_again : member_follows s.parser k_curly_right ≡ true → s'.names ≡ s.names → length (ahead tokens s') ≤ length (ahead tokens s) → (going s' ≡ true → length (ahead tokens s') + 1 ≤ length (ahead tokens s))
+    case_again : member_follows s.parser k_curly_right ≡ true → loan s' ≡ loan s → length (ahead tokens s') ≤ length (ahead tokens s) → (going s' ≡ true → length (ahead tokens s') + 1 ≤ length (ahead tokens s))
         → ((R L : ℕ) (stack : List ℕ) (c : Cases) (m : State) → CasesAre tokens d n s c → Represents tokens s R L (stack ++ flatten c.cases) m → Turned tokens (next_case deeper) cases_grown (CasesAre tokens d' n' s') s' R L stack (block c m))
         → Again tokens (next_case deeper) cases_grown (CasesAre tokens d n s) (CasesAre tokens d' n' s') s s'
     unfolding next_case

@@ -11,7 +11,8 @@ ghost use Rattle.rules.specs.Rules.{stage_one, atom, ident, field_access, cast, 
 ghost use Rattle.parser_state.specs.Represents.{reading, code_of, code_after};
 ghost use Rattle.parser_state.specs.Keeps.{KeepsNodesTypes, KeepsTypesLists};
 ghost use Rattle.parser_state.specs.Refines.{Refines, stack_unchanged, Gives, ReadsNode};
-ghost use Rattle.parser_state.specs.Refines.{ReadsStep, Pushes, Rules, deeper};
+ghost use Rattle.parser_state.specs.Refines.{GivesStep, ReadsStep, Pushes, Rules, deeper};
+ghost use Rattle.parser_state.specs.Wherever.{AnyTypesLists, AnyNodesTypes};
 ghost use Rattle.parser_operators.specs.Tests.{operand_class, class_number, begins_expr, call_at};
 ghost use Rattle.parser_operators.specs.Tests.{postfix_follows, infix_follows};
 ghost use Rattle.parser_operators.specs.Tests.{operator_of, left_powers};
@@ -159,6 +160,8 @@ pub fn infix_follows(p: &Parser, script: &[u8], least: u32) -> bool
 pub fn atom(p: &mut Parser, tokens: &[u32]) -> NodeId
     requires { 1 < p.old.cur.kind }
     ensures reads { ReadsNode tokens.now atom p.old p.new (Ok result) }
+    ensures wherever { AnyTypesLists (Refines tokens.now 0 0 atom (Gives (Ok result))
+        stack_unchanged 1 0 8) (code_of p.old) (code_of p.new) }
     ensures keeps { KeepsTypesLists p.old p.new }
 {
     let raw = p.cur;
@@ -170,6 +173,8 @@ pub fn atom(p: &mut Parser, tokens: &[u32]) -> NodeId
 pub fn ident(p: &mut Parser, tokens: &[u32]) -> NodeId
     requires { 1 < p.old.cur.kind }
     ensures reads { ReadsNode tokens.now ident p.old p.new (Ok result) }
+    ensures wherever { AnyTypesLists (Refines tokens.now 0 0 ident (Gives (Ok result))
+        stack_unchanged 1 0 8) (code_of p.old) (code_of p.new) }
     ensures keeps { KeepsTypesLists p.old p.new }
 {
     let name = p.cur;
@@ -181,6 +186,8 @@ pub fn ident(p: &mut Parser, tokens: &[u32]) -> NodeId
 pub fn field_access(p: &mut Parser, tokens: &[u32], lhs: NodeId) -> Result<NodeId, Diagnostic>
     requires { 1 < p.old.cur.kind }
     ensures reads { ReadsStep tokens.now (field_access lhs) p.old p.new result }
+    ensures wherever { AnyTypesLists (Refines tokens.now 0 0 (field_access lhs) (GivesStep result)
+        stack_unchanged 1 0 0) (code_of p.old) (code_after p.new result) }
     ensures keeps { KeepsTypesLists p.old p.new }
 {
     p.advance(tokens);
@@ -238,6 +245,9 @@ pub fn push_case(p: &mut Parser, t: Entry, n: NodeId, body: Run)
     ensures reads { (tokens : List ℕ) →
         Pushes tokens 12 (token_cells (token_of t) ++ (n.0 ∷ run_cells body)) (code_of p.old)
         (code_of p.new) }
+    ensures wherever { (tokens : List ℕ) →
+        AnyNodesTypes (Pushes tokens 12 (token_cells (token_of t) ++ (n.0 ∷ run_cells body)))
+        (code_of p.old) (code_of p.new) }
     ensures keeps { KeepsNodesTypes p.old p.new }
 {
     p.push_cells(&[body.len, body.start, n.0, t.len, t.start, t.kind]);
@@ -255,6 +265,9 @@ pub fn match_node(
     ensures reads { Refines tokens.now 1 0
         (match_node (token_at tokens.now at) (default_of default) cases) (Gives result)
         stack_unchanged 0 0 0 (code_of p.old) (code_after p.new result) }
+    ensures wherever { AnyTypesLists (Refines tokens.now 1 0
+        (match_node (token_at tokens.now at) (default_of default) cases) (Gives result)
+        stack_unchanged 0 0 0) (code_of p.old) (code_after p.new result) }
     ensures keeps { KeepsTypesLists p.old p.new }
 {
     match default {

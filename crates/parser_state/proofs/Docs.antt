@@ -1,5 +1,5 @@
 -- The docs that wait.
-use Rattle.std.proofs.Common.{◌≡◌, ℕ, ◌+◌, ◌-◌, ◌*◌, ◌≤◌, true, false, eqb, List, [], ◌∷◌, ◌++◌, map, reverse, length, get_or, take, drop, sym, refl, ap, ◌∙◌, subst, append_assoc, append-nil, arith, length-append, drop_at}
+use Rattle.std.proofs.Common.{◌≡◌, ℕ, ◌+◌, ◌-◌, ◌*◌, ◌≤◌, true, false, eqb, List, [], ◌∷◌, ◌++◌, map, reverse, length, get_or, take, drop, sym, refl, ap, ◌∙◌, subst, append_assoc, append-nil, arith, length-append, length-drop, drop_at}
 use mathlib.Core.List.{flatten, reverse-append, reverse-reverse}
 use lib.ListN.{length-map, length-reverse}
 use lib.Seq.{paste, length-paste, get_or_at}
@@ -17,7 +17,7 @@ use Rattle.parser_state.specs.Refines.{Ends, stack_unchanged, Refines, no_docs_w
 use Rattle.parser_state.specs.declared.Used.{Used}
 use Rattle.parser_state.proofs.Steps.{as_rule, either, true≢false, left-some, current_represents, represents_less}
 use Rattle.parser_state.proofs.Leaves.{failing_at, at-entry}
-use Rattle.parser_state.proofs.Cells.{laid-last, laid-over, flatten_snoc, map_snoc, types-length, docs-length, types-room, lists-room}
+use Rattle.parser_state.proofs.Cells.{types_as_long, lists_as_long, laid-last, laid-over, flatten_snoc, map_snoc, types-length, docs-length, types-room, lists-room}
 use Rattle.parser_state.proofs.Rounds.{if_kind_is_yes, if_kind_is_no}
 
 docs-snoc : (ds : List Token) (d : Token) → doc_cells (ds ++ (d ∷ [])) ≡ doc_cells ds ++ token_cells d
@@ -40,12 +40,12 @@ near-snoc : (ds : List Token) (d : Token) → AllNear ds → Near d → AllNear 
 near-snoc [] d h e = (e, tt)
 near-snoc (x ∷ ds) d h e = (h.0, near-snoc ds d h.1 e)
 
-pub keeping : (tokens : List ℕ) {types' : List ℕ} (s : Code) (i n : ℕ) (t : Entry) → going s ≡ true → token_of t ≡ token_at tokens i → types' ≡ paste s.types (length s.types - (3 * s.parser.used.docs + 3)) (t.len ∷ t.start ∷ t.kind ∷ []) 3
+pub keeping : (tokens : List ℕ) {types' : List ℕ} (s : Code) (i n : ℕ) (t : Entry) → going s ≡ true → token_of t ≡ token_at tokens i → types' ≡ paste s.types (length s.types - (3 * s.parser.used.docs + 3)) (t.len ∷ t.start ∷ t.kind ∷ []) 3 → length types' ≡ length s.types
     → Refines tokens 1 3 (keep_doc n (token_at tokens i)) (λ c. c ≡ continue n) stack_unchanged 0 0 0 s (with_types (with_used s (doc_kept s.parser.used)) types')
 unfolding with_docs
-keeping tokens {types'} s i n t g named e = record {
+keeping tokens {types'} s i n t g named e long = record {
   sticky = λ f. absurd (true≢false g f);
-  same = refl;
+  same = types_as_long _ s long;
   monotone = omega arith;
   progress = λ _. omega arith;
   simulates = λ R L stack m h.
@@ -99,12 +99,17 @@ docs_taken u = record { nodes = u.nodes; values = u.values; types = u.types; doc
 abbrev pub docs_moved : List ℕ → List ℕ → ℕ → ℕ → List ℕ
 docs_moved types lists at n = paste lists at (reverse (drop (length types - n) types)) n
 
-pub attaching : (tokens : List ℕ) {lists' : List ℕ} (s : Code) → going s ≡ true → lists' ≡ docs_moved s.types s.lists s.parser.used.cells (3 * s.parser.used.docs)
+pub docs_moved-length : (types lists : List ℕ) (at n : ℕ) → n ≤ length types → at + n ≤ length lists → length (docs_moved types lists at n) ≡ length lists
+docs_moved-length types lists at n h k =
+    let cells : List ℕ = drop (length types - n) types in
+    length-paste lists at (reverse cells) n k (omega (arith, length-reverse cells, length-drop (length types - n) types))
+
+pub attaching : (tokens : List ℕ) {lists' : List ℕ} (s : Code) → going s ≡ true → lists' ≡ docs_moved s.types s.lists s.parser.used.cells (3 * s.parser.used.docs) → length lists' ≡ length s.lists
     → Refines tokens 0 0 take_docs (λ t. t ≡ record { start = s.parser.used.cells; len = s.parser.used.docs }) stack_unchanged 0 0 0 s (with_lists (with_used s (docs_taken s.parser.used)) lists')
 unfolding take_docs with_docs alloc_slice with_arena flatten
-attaching tokens {lists'} s g e = record {
+attaching tokens {lists'} s g e long = record {
   sticky = λ z. absurd (true≢false g z);
-  same = refl;
+  same = lists_as_long _ s long;
   monotone = omega arith;
   progress = λ _. omega arith;
   simulates = λ R L stack m h.

@@ -10,7 +10,7 @@ use Rattle.tokens.specs.Table.{token_of}
 use Rattle.rules.specs.Tree.{State, Result, ok, err}
 use Rattle.rules.specs.Combinators.{Rule, ◌>>=◌, ◌>>◌, pure, current, expect, alloc_slice, if_kind, ControlFlow, continue, break, iterate, loop, members, list_until}
 use Rattle.ast.specs.declared.Run.{Run}
-use Rattle.parser_state.specs.Represents.{Reading, Code, going, is_going, ahead, Represents, FailedAt}
+use Rattle.parser_state.specs.Represents.{Reading, Code, loan, going, is_going, ahead, Represents, FailedAt}
 use Rattle.parser_state.specs.Refines.{Ends, stack_unchanged, grown, all_grown, Collected, Refines, ReadsMember, Lists, member_follows, follows_by, closed}
 use Rattle.parser_state.specs.Members.{members_until}
 use Rattle.parser_state.proofs.Steps.{lists-after, either, true≢false, represents_going, represents_less, failed-fails, current_represents, left-some}
@@ -66,7 +66,7 @@ pub data Way (tokens : List ℕ) (stop : ℕ) (item : Rule (List ℕ)) (s : Code
 -- the loop's invariant
 pub record MembersInvariant (tokens : List ℕ) (stop : ℕ) (item : Rule (List ℕ)) (s₀ s : Code) (n : ℕ) : Type 0 where
   pub sticky : going s₀ ≡ false → s ≡ s₀
-  pub same : s.names ≡ s₀.names
+  pub same : loan s ≡ loan s₀
   pub monotone : length (ahead tokens s) ≤ length (ahead tokens s₀)
   pub way : (R L : ℕ) (stack : List ℕ) (m : State) → Represents tokens s₀ R L stack m → Way tokens stop item s n R L stack (members stop item m)
 

@@ -5,7 +5,7 @@ use Rattle.lex.specs.declared.diagnostic.Diagnostic.{Diagnostic}
 use Rattle.lex.specs.Kind.{k_doc}
 use Rattle.rules.specs.Tree.{State, Result, ok, err}
 use Rattle.rules.specs.Combinators.{Rule, current, by_kind, if_kind, ControlFlow, continue, break, iterate, loop, struck}
-use Rattle.parser_state.specs.Represents.{Failed, Reading, Code, with_error, error_of, going, is_going, ahead, Represents, FailedAt}
+use Rattle.parser_state.specs.Represents.{Failed, Reading, Code, loan, with_error, error_of, going, is_going, ahead, Represents, FailedAt}
 use Rattle.parser_state.specs.Refines.{Ends, stack_unchanged, Refines, doc_follows}
 use Rattle.parser_state.proofs.Steps.{Passed, passed_on, represents_noted, either, true≢false, and_both, represents_going, represents_less, failed-fails, left-some}
 
@@ -48,7 +48,7 @@ module _ {A : Type 0} (tokens : List ℕ) (f : A → Rule (ControlFlow A)) (grow
   -- the loop's invariant
   pub record LoopInvariant (a₀ : A) (Q : A → Type 0) (s₀ s : Code) : Type 0 where
     pub sticky : going s₀ ≡ false → s ≡ s₀
-    pub same : s.names ≡ s₀.names
+    pub same : loan s ≡ loan s₀
     pub monotone : length (ahead tokens s) ≤ length (ahead tokens s₀)
     pub way : (R L : ℕ) (stack : List ℕ) (m : State) → Represents tokens s₀ R L (grow a₀ stack) m → Way Q s R L stack (loop f a₀ m)
 
@@ -59,7 +59,7 @@ module _ {A : Type 0} (tokens : List ℕ) (f : A → Rule (ControlFlow A)) (grow
   Turned Q s' r l stack (err e m) = FailedAt tokens s' e r l stack m
 
   pub record Again (Q Q' : A → Type 0) (s s' : Code) : Type 0 where
-    pub same : s'.names ≡ s.names
+    pub same : loan s' ≡ loan s
     pub monotone : length (ahead tokens s') ≤ length (ahead tokens s)
     pub progress : going s' ≡ true → length (ahead tokens s') + 1 ≤ length (ahead tokens s)
     pub flow_value : (R L : ℕ) (stack : List ℕ) (a : A) (m : State) → Q a → Represents tokens s R L (grow a stack) m → Turned Q' s' R L stack (f a m)
@@ -72,7 +72,7 @@ module _ {A : Type 0} (tokens : List ℕ) (f : A → Rule (ControlFlow A)) (grow
 
   pub record Last (Q Q' : A → Type 0) (s s' : Code) : Type 0 where
     pub sticky : going s ≡ false → s' ≡ s
-    pub same : s'.names ≡ s.names
+    pub same : loan s' ≡ loan s
     pub monotone : length (ahead tokens s') ≤ length (ahead tokens s)
     pub flow_value : (R L : ℕ) (stack : List ℕ) (a : A) (m : State) → Q a → Represents tokens s R L (grow a stack) m → Stopped Q' s' R L stack (f a m)
 

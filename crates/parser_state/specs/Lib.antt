@@ -3,3 +3,4 @@ pub mod Represents
 pub mod Refines
 pub mod Keeps
 pub mod Members
+pub mod Wherever

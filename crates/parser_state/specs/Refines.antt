@@ -17,7 +17,7 @@ use Rattle.rules.specs.Rules.{readers, stage_one, require_no_docs}
 use Rattle.ast.specs.declared.Run.{Run}
 use Rattle.ast.specs.declared.NodeId.{NodeId}
 use Rattle.ast.specs.declared.TypeExprId.{TypeExprId}
-use Rattle.parser_state.specs.Represents.{Failed, with_error, Reading, Code, code_of, code_after, going, ahead, Represents, FailedAt, is_going}
+use Rattle.parser_state.specs.Represents.{Failed, with_error, Reading, Code, loan, code_of, code_after, going, ahead, Represents, FailedAt, is_going}
 
 -- a set of rules: the powers of the signs, and the script whose signs they are
 pub record Rules : Type 0 where
@@ -69,8 +69,8 @@ GivesCount tokens s (Err e) xs = ⊥
 pub record Refines {A : Type 0} (tokens : List ℕ) (r l : ℕ) (x : Rule A) (Q : A → Type 0) (grow : A → List ℕ → List ℕ) (d r' l' : ℕ) (s s' : Code) : Type 0 where
   -- once failed, the code changes nothing
   pub sticky : going s ≡ false → s' ≡ s
-  -- the arrays stay those that were lent
-  pub same : s'.names ≡ s.names
+  -- the arrays stay those that were lent, and as long
+  pub same : loan s' ≡ loan s
   pub monotone : length (ahead tokens s') ≤ length (ahead tokens s)
   pub progress : going s' ≡ true → length (ahead tokens s') + d ≤ length (ahead tokens s)
   pub simulates : (R L : ℕ) (stack : List ℕ) (m : State) → Represents tokens s (R + r) (L + l) stack m → Ends tokens Q grow s' R L r' l' stack (x m)
@@ -114,7 +114,7 @@ Pushes tokens l cells s s' = Refines tokens 0 l (pure cells) (λ _. Unit {0}) gr
 -- the code fails at the token being read
 pub record Refuses (tokens : List ℕ) (number wanted : ℕ) (s s' : Code) : Type 0 where
   pub sticky : going s ≡ false → s' ≡ s
-  pub same : s'.names ≡ s.names
+  pub same : loan s' ≡ loan s
   pub monotone : length (ahead tokens s') ≤ length (ahead tokens s)
   pub fails : going s' ≡ false
   pub simulates : (R L : ℕ) (stack : List ℕ) (m : State) → Represents tokens s R L stack m → FailedAt tokens s' (at_token number wanted (current m.left)) R L stack m
@@ -161,7 +161,7 @@ closed stop xs = expect stop >> alloc_slice xs
 -- what is pushed above `mark` cells becomes a list of `n` members
 pub record Lists {A : Type 0} (tokens : List ℕ) (x : List (List ℕ) → Rule A) (Q : A → Type 0) (d r' l' : ℕ) (mark n : ℕ) (s s' : Code) : Type 0 where
   pub sticky : going s ≡ false → s' ≡ s
-  pub same : s'.names ≡ s.names
+  pub same : loan s' ≡ loan s
   pub monotone : length (ahead tokens s') ≤ length (ahead tokens s)
   pub progress : going s' ≡ true → length (ahead tokens s') + d ≤ length (ahead tokens s)
   pub simulates : (R L : ℕ) (stack : List ℕ) (xs : List (List ℕ)) (m : State) → length stack ≡ mark → length xs ≡ n → length xs + length m.left ≤ max_bytes + 1

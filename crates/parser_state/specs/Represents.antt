@@ -47,6 +47,17 @@ pub record Code : Type 0 where
   pub parser : Reading
   pub names : Names
 
+-- what stays of the arrays whatever is written: the references that they are lent by, and their
+-- lengths
+pub record Loan : Type 0 where
+  pub names : Names
+  pub nodes : ℕ
+  pub types : ℕ
+  pub lists : ℕ
+
+abbrev pub loan : Code → Loan
+loan s = record { names = s.names; nodes = length s.nodes; types = length s.types; lists = length s.lists }
+
 abbrev pub reading : Parser → Reading
 reading p = record { cur = p.cur; at = p.at; used = p.used; error = Going }
 

@@ -3,7 +3,7 @@
 #![tactic(auto)]
 
 ghost use Rattle.std.specs.Prelude.{◌≡◌, ◌≢◌, ℕ, ◌+◌, ◌-◌, ◌*◌, ◌<◌, ◌≤◌, List, [], ◌∷◌, ◌++◌};
-ghost use Rattle.std.specs.Prelude.{reverse, length, take, drop, IfOk};
+ghost use Rattle.std.specs.Prelude.{reverse, length, take, drop, IfOk, Option, None};
 ghost use Rattle.std.proofs.Math.Seq.{paste};
 ghost use Rattle.lex.specs.Answer.{max_bytes};
 ghost use Rattle.tokens.specs.Table.{token_of, token_at};
@@ -24,6 +24,8 @@ ghost use Rattle.parser_state.specs.Refines.{GivesCount, Refuses, Pushes, Lists,
 ghost use Rattle.parser_state.specs.Refines.{fail_at, no_docs_wait, at_entry, doc_at, doc_follows};
 ghost use Rattle.parser_state.specs.Refines.{member_follows, closed};
 ghost use Rattle.parser_state.specs.Members.{members_until, ReadsEach, KeepsEach};
+ghost use Rattle.parser_state.specs.Wherever.{AnyArrays, AnyTypesLists, AnyNodesLists};
+ghost use Rattle.parser_state.specs.Wherever.{AnyNodesTypes, AnyNodes, ReadsEachAny, lending};
 
 use ast::lent::CELLS_PER_BYTE;
 use ast::{Node, NodeId, NodeKind, Run, TypeExpr, TypeExprId};
@@ -141,6 +143,8 @@ impl Parser<'_> {
     pub fn advance(&mut self, tokens: &[u32])
         requires { self.old.cur.kind ≢ 1 }
         ensures reads { Takes tokens.now advance (code_of self.old) (code_of self.new) }
+        ensures wherever { AnyArrays (Takes tokens.now advance) (code_of self.old)
+            (code_of self.new) }
         ensures keeps { KeepsAll self.old self.new }
     {
         let i = self.at;
@@ -155,17 +159,23 @@ impl Parser<'_> {
 
     // The error at the token being read.
     pub fn fail_expecting(&self, number: u32, wanted: u32) -> Diagnostic
-        ensures { let before = code_of self.now in
+        ensures reads { let before = code_of self.now in
             (tokens : List ℕ) → Refuses tokens number wanted before (failed before result) }
+        ensures wherever { let before = code_of self.now in
+            (tokens : List ℕ) →
+            AnyArrays (Refuses tokens number wanted) before (failed before result) }
     {
         at_token(number, wanted, self.cur)
     }
 
     // The error at the token of record `at`.
     pub fn fail_at(&self, tokens: &[u32], number: u32, at: u32) -> Diagnostic
-        ensures { let before = code_of self.now in
+        ensures reads { let before = code_of self.now in
             Refines tokens.now 0 0 (fail_at {A = ℕ} number (token_at tokens.now at))
             (λ n. n ≡ 0) stack_unchanged 0 0 0 before (failed before result) }
+        ensures wherever { let before = code_of self.now in
+            AnyArrays (Refines tokens.now 0 0 (fail_at {A = ℕ} number (token_at tokens.now at))
+            (λ n. n ≡ 0) stack_unchanged 0 0 0) before (failed before result) }
     {
         at_token(number, 0, token_at(tokens, at as usize))
     }
@@ -181,6 +191,8 @@ impl Parser<'_> {
         requires { 1 < kind }
         ensures reads { Takes tokens.now (if_kind kind advance (fail_expecting number wanted))
             (code_of self.old) (code_after self.new result) }
+        ensures wherever { let rule = if_kind kind advance (fail_expecting number wanted) in
+            AnyArrays (Takes tokens.now rule) (code_of self.old) (code_after self.new result) }
         ensures keeps { KeepsAll self.old self.new }
     {
         if self.kind() == kind {
@@ -196,6 +208,8 @@ impl Parser<'_> {
         requires { 1 < wanted }
         ensures reads { Takes tokens.now (expect wanted) (code_of self.old)
             (code_after self.new result) }
+        ensures wherever { AnyArrays (Takes tokens.now (expect wanted)) (code_of self.old)
+            (code_after self.new result) }
         ensures keeps { KeepsAll self.old self.new }
     {
         self.expect_or(tokens, wanted, Diagnostic::EXPECTED_TOKEN, wanted)
@@ -205,6 +219,8 @@ impl Parser<'_> {
     pub fn expect_ident(&mut self, tokens: &[u32]) -> Result<(), Diagnostic>
         ensures reads { Takes tokens.now expect_ident (code_of self.old)
             (code_after self.new result) }
+        ensures wherever { AnyArrays (Takes tokens.now expect_ident) (code_of self.old)
+            (code_after self.new result) }
         ensures keeps { KeepsAll self.old self.new }
     {
         self.expect_or(tokens, Type::IDENT, Diagnostic::EXPECTED_IDENTIFIER, 0)
@@ -212,9 +228,12 @@ impl Parser<'_> {
 
     // The reading fails at a token of this kind, with this number.
     pub fn reject_kind(&self, rejected: u32, number: u32) -> Result<(), Diagnostic>
-        ensures { (tokens : List ℕ) →
+        ensures reads { (tokens : List ℕ) →
             Refines tokens 0 0 (reject_kind rejected number) (λ n. n ≡ 0) stack_unchanged 0 0 0
             (code_of self.now) (code_after self.now result) }
+        ensures wherever { (tokens : List ℕ) →
+            AnyArrays (Refines tokens 0 0 (reject_kind rejected number) (λ n. n ≡ 0)
+            stack_unchanged 0 0 0) (code_of self.now) (code_after self.now result) }
     {
         if self.kind() == rejected {
             return Err(self.fail_expecting(number, 0));
@@ -261,6 +280,10 @@ impl Parser<'_> {
             padded type_width (kind ∷ fields.entry) ≡ type_cells t
             → Refines tokens 1 0 (push_type t) (λ i. i ≡ result) stack_unchanged 0 0 0
             (code_of self.old) (code_of self.new) }
+        ensures wherever { (tokens : List ℕ) (t : TypeExpr) →
+            padded type_width (kind ∷ fields.entry) ≡ type_cells t
+            → AnyNodesLists (Refines tokens 1 0 (push_type t) (λ i. i ≡ result) stack_unchanged
+            0 0 0) (code_of self.old) (code_of self.new) }
         ensures keeps { KeepsNodesLists self.old self.new }
     {
         if TypeExpr::WIDTH - 1 < N {
@@ -289,6 +312,12 @@ impl Parser<'_> {
             → padded node_width (kind ∷ id ∷ fields.entry) ≡ node_cells (f id)
             → Refines tokens rooms 0 (push_node_and more f) (λ i. i ≡ result) stack_unchanged 0 0 0
             (code_of self.old) (code_of self.new) }
+        ensures wherever { (tokens : List ℕ) (f : ℕ → Node) (rooms : ℕ) →
+            let id = self.old.used.values in
+            1 + more ≤ 40000 * rooms
+            → padded node_width (kind ∷ id ∷ fields.entry) ≡ node_cells (f id)
+            → AnyTypesLists (Refines tokens rooms 0 (push_node_and more f) (λ i. i ≡ result)
+            stack_unchanged 0 0 0) (code_of self.old) (code_of self.new) }
         ensures keeps { KeepsTypesLists self.old self.new }
     {
         if Node::WIDTH - 2 < N {
@@ -317,6 +346,12 @@ impl Parser<'_> {
             (kind ∷ self.old.used.values ∷ token_cells (token_of t) ++ (a ∷ b ∷ []))
             → Refines tokens 1 0 (push_node_and 0 f) (λ i. i ≡ result) stack_unchanged 0 0 0
             (code_of self.old) (code_of self.new) }
+        ensures wherever { (tokens : List ℕ) (f : ℕ → Node) →
+            node_cells (f self.old.used.values)
+            ≡ padded node_width
+            (kind ∷ self.old.used.values ∷ token_cells (token_of t) ++ (a ∷ b ∷ []))
+            → AnyTypesLists (Refines tokens 1 0 (push_node_and 0 f) (λ i. i ≡ result)
+            stack_unchanged 0 0 0) (code_of self.old) (code_of self.new) }
         ensures keeps { KeepsTypesLists self.old self.new }
     {
         self.push_node(kind, [t.kind, t.start, t.len, a, b], 0)
@@ -327,6 +362,10 @@ impl Parser<'_> {
         ensures reads { (tokens : List ℕ) →
             Refines tokens 1 0 (push_node (λ id. N.Call id target args)) (λ i. i ≡ result)
             stack_unchanged 0 0 0 (code_of self.old) (code_of self.new) }
+        ensures wherever { (tokens : List ℕ) →
+            let rule = push_node (λ id. N.Call id target args) in
+            AnyTypesLists (Refines tokens 1 0 rule (λ i. i ≡ result) stack_unchanged 0 0 0)
+            (code_of self.old) (code_of self.new) }
         ensures keeps { KeepsTypesLists self.old self.new }
     {
         self.push_node(NodeKind::CALL, [target.0, args.start, args.len], 0)
@@ -337,6 +376,10 @@ impl Parser<'_> {
         ensures reads { (tokens : List ℕ) →
             Refines tokens 1 0 (push_node (λ id. N.Field id target (token_of name)))
             (λ i. i ≡ result) stack_unchanged 0 0 0 (code_of self.old) (code_of self.new) }
+        ensures wherever { (tokens : List ℕ) →
+            let rule = push_node (λ id. N.Field id target (token_of name)) in
+            AnyTypesLists (Refines tokens 1 0 rule (λ i. i ≡ result) stack_unchanged 0 0 0)
+            (code_of self.old) (code_of self.new) }
         ensures keeps { KeepsTypesLists self.old self.new }
     {
         let fields = [target.0, name.kind, name.start, name.len];
@@ -348,6 +391,10 @@ impl Parser<'_> {
         ensures reads { (tokens : List ℕ) →
             Refines tokens 1 0 (push_node (λ id. N.Let id docs (token_of name) rhs))
             (λ i. i ≡ result) stack_unchanged 0 0 0 (code_of self.old) (code_of self.new) }
+        ensures wherever { (tokens : List ℕ) →
+            let rule = push_node (λ id. N.Let id docs (token_of name) rhs) in
+            AnyTypesLists (Refines tokens 1 0 rule (λ i. i ≡ result) stack_unchanged 0 0 0)
+            (code_of self.old) (code_of self.new) }
         ensures keeps { KeepsTypesLists self.old self.new }
     {
         let fields = [docs.start, docs.len, name.kind, name.start, name.len, rhs.0];
@@ -368,6 +415,11 @@ impl Parser<'_> {
             Refines tokens 2 0
             (push_node_and args.len (λ id. N.Fn id docs (token_of name) args return_type body))
             (λ i. i ≡ result) stack_unchanged 0 0 0 (code_of self.old) (code_of self.new) }
+        ensures wherever { (tokens : List ℕ) →
+            let node = λ (id : ℕ). N.Fn id docs (token_of name) args return_type body in
+            let rule = push_node_and args.len node in
+            AnyTypesLists (Refines tokens 2 0 rule (λ i. i ≡ result) stack_unchanged 0 0 0)
+            (code_of self.old) (code_of self.new) }
         ensures keeps { KeepsTypesLists self.old self.new }
     {
         let fields = [
@@ -390,6 +442,10 @@ impl Parser<'_> {
         ensures reads { (tokens : List ℕ) →
             Refines tokens 1 0 (push_node (λ id. N.Match id cases (token_of default) body))
             (λ i. i ≡ result) stack_unchanged 0 0 0 (code_of self.old) (code_of self.new) }
+        ensures wherever { (tokens : List ℕ) →
+            let rule = push_node (λ id. N.Match id cases (token_of default) body) in
+            AnyTypesLists (Refines tokens 1 0 rule (λ i. i ≡ result) stack_unchanged 0 0 0)
+            (code_of self.old) (code_of self.new) }
         ensures keeps { KeepsTypesLists self.old self.new }
     {
         let fields = [
@@ -410,6 +466,10 @@ impl Parser<'_> {
             Refines tokens 1 0
             (push_node (λ id. N.Extern id (token_of src) docs (token_of name) fns))
             (λ i. i ≡ result) stack_unchanged 0 0 0 (code_of self.old) (code_of self.new) }
+        ensures wherever { (tokens : List ℕ) →
+            let rule = push_node (λ id. N.Extern id (token_of src) docs (token_of name) fns) in
+            AnyTypesLists (Refines tokens 1 0 rule (λ i. i ≡ result) stack_unchanged 0 0 0)
+            (code_of self.old) (code_of self.new) }
         ensures keeps { KeepsTypesLists self.old self.new }
     {
         let fields = [
@@ -427,6 +487,9 @@ impl Parser<'_> {
         ensures reads { (tokens : List ℕ) →
             Pushes tokens (2 * length cells.now) (reverse cells.now) (code_of self.old)
             (code_of self.new) }
+        ensures wherever { (tokens : List ℕ) →
+            AnyNodesTypes (Pushes tokens (2 * length cells.now) (reverse cells.now))
+            (code_of self.old) (code_of self.new) }
         ensures keeps { KeepsNodesTypes self.old self.new }
     {
         let n = self.used.scratch as usize + cells.len();
@@ -445,6 +508,8 @@ impl Parser<'_> {
     pub fn push_cell(&mut self, v: u32)
         ensures reads { (tokens : List ℕ) →
             Pushes tokens 2 (v ∷ []) (code_of self.old) (code_of self.new) }
+        ensures wherever { (tokens : List ℕ) →
+            AnyNodesTypes (Pushes tokens 2 (v ∷ [])) (code_of self.old) (code_of self.new) }
         ensures keeps { KeepsNodesTypes self.old self.new }
     {
         self.push_cells(&[v]);
@@ -454,6 +519,9 @@ impl Parser<'_> {
     pub fn push_token(&mut self, t: Entry)
         ensures reads { (tokens : List ℕ) →
             Pushes tokens 6 (token_cells (token_of t)) (code_of self.old) (code_of self.new) }
+        ensures wherever { (tokens : List ℕ) →
+            AnyNodesTypes (Pushes tokens 6 (token_cells (token_of t)))
+            (code_of self.old) (code_of self.new) }
         ensures keeps { KeepsNodesTypes self.old self.new }
     {
         self.push_cells(&[t.len, t.start, t.kind]);
@@ -464,6 +532,9 @@ impl Parser<'_> {
         ensures reads { (tokens : List ℕ) →
             Pushes tokens 8 (token_cells (token_of name) ++ (id ∷ [])) (code_of self.old)
             (code_of self.new) }
+        ensures wherever { (tokens : List ℕ) →
+            AnyNodesTypes (Pushes tokens 8 (token_cells (token_of name) ++ (id ∷ [])))
+            (code_of self.old) (code_of self.new) }
         ensures keeps { KeepsNodesTypes self.old self.new }
     {
         self.push_cells(&[id, name.len, name.start, name.kind]);
@@ -475,6 +546,9 @@ impl Parser<'_> {
             Lists tokens alloc_slice (λ run. run ≡ result) 0 0 0 mark members (code_of self.old)
             (code_of self.new))
             × (result.len ≤ max_bytes) }
+        ensures wherever { (tokens : List ℕ) →
+            AnyNodesTypes (Lists tokens alloc_slice (λ run. run ≡ result) 0 0 0 mark members)
+            (code_of self.old) (code_of self.new) }
         ensures keeps { KeepsNodesTypes self.old self.new }
     {
         let none = Run::default();
@@ -517,6 +591,8 @@ impl Parser<'_> {
         requires { 1 < stop }
         ensures reads { Lists tokens.now (closed stop) (Gives result) 1 1 8 mark members
             (code_of self.old) (code_after self.new result) }
+        ensures wherever { AnyNodesTypes (Lists tokens.now (closed stop) (Gives result) 1 1 8 mark
+            members) (code_of self.old) (code_after self.new result) }
         ensures short { IfOk result (λ run. run.len ≤ max_bytes) }
         ensures keeps { KeepsNodesTypes self.old self.new }
     {
@@ -538,6 +614,12 @@ impl Parser<'_> {
             → Refines tokens.now 0 0 (members_until stop item)
             (GivesCount tokens.now (code_of self.new) result) all_grown 1 1 8 (code_of self.old)
             (code_after self.new result) }
+        ensures wherever { (item : Rule (List ℕ)) (nodes types : Option (List ℕ)) →
+            ReadsEachAny tokens.now item nodes types (F.post member)
+            → Refines tokens.now 0 0 (members_until stop item)
+            (GivesCount tokens.now (code_of self.new) result) all_grown 1 1 8
+            (lending nodes types None (code_of self.old))
+            (lending nodes types None (code_after self.new result)) }
         ensures nodes { KeepsEach KeepsNodes (F.post member) → KeepsNodes self.old self.new }
         ensures types { KeepsEach KeepsTypes (F.post member) → KeepsTypes self.old self.new }
     {
@@ -564,6 +646,11 @@ impl Parser<'_> {
         requires reads { (item : Rule (List ℕ)) × ReadsEach tokens.now item (F.post member) }
         ensures reads { (item : Rule (List ℕ)) → ReadsEach tokens.now item (F.post member)
             → ReadsList tokens.now (list_until stop item) self.old self.new result }
+        ensures wherever { (item : Rule (List ℕ)) (nodes types : Option (List ℕ)) →
+            ReadsEachAny tokens.now item nodes types (F.post member)
+            → Refines tokens.now 0 0 (list_until stop item) (Gives result) stack_unchanged 1 1 8
+            (lending nodes types None (code_of self.old))
+            (lending nodes types None (code_after self.new result)) }
         ensures short { IfOk result (λ run. run.len ≤ max_bytes) }
         ensures nodes { KeepsEach KeepsNodes (F.post member) → KeepsNodes self.old self.new }
         ensures types { KeepsEach KeepsTypes (F.post member) → KeepsTypes self.old self.new }
@@ -580,6 +667,9 @@ impl Parser<'_> {
         ensures reads { (n : ℕ) →
             Refines tokens.now 1 3 (keep_doc n (token_at tokens.now at))
             (λ t. t ≡ continue n) stack_unchanged 0 0 0 (code_of self.old) (code_of self.new) }
+        ensures wherever { (n : ℕ) →
+            AnyNodesLists (Refines tokens.now 1 3 (keep_doc n (token_at tokens.now at))
+            (λ t. t ≡ continue n) stack_unchanged 0 0 0) (code_of self.old) (code_of self.new) }
         ensures keeps { KeepsNodesLists self.old self.new }
     {
         let n = self.used.docs;
@@ -596,6 +686,8 @@ impl Parser<'_> {
     pub fn collect_docs(&mut self, tokens: &[u32])
         ensures reads { Refines tokens.now 0 0 collect_docs (λ n. n ≡ 0) stack_unchanged 0 0 0
             (code_of self.old) (code_of self.new) }
+        ensures wherever { AnyNodesLists (Refines tokens.now 0 0 collect_docs (λ n. n ≡ 0)
+            stack_unchanged 0 0 0) (code_of self.old) (code_of self.new) }
         ensures keeps { KeepsNodesLists self.old self.new }
     {
         while self.doc_follows() {
@@ -624,6 +716,9 @@ impl Parser<'_> {
             Refines tokens 0 0 take_docs (λ t. t ≡ result) stack_unchanged 0 0 0
             (code_of self.old) (code_of self.new))
             × (self.new.cur ≡ self.old.cur) }
+        ensures wherever { (tokens : List ℕ) →
+            AnyNodes (Refines tokens 0 0 take_docs (λ t. t ≡ result) stack_unchanged 0 0 0)
+            (code_of self.old) (code_of self.new) }
         ensures keeps { KeepsNodesTypes self.old self.new }
     {
         let none = Run::default();
@@ -667,8 +762,11 @@ impl Parser<'_> {
     // The reading fails where there are pending docs: at the last of them where the script ends,
     // else at the first.
     pub fn require_no_docs(&self) -> Result<(), Diagnostic>
-        ensures { (tokens : List ℕ) →
+        ensures reads { (tokens : List ℕ) →
             Refines tokens 0 0 no_docs_wait (λ n. n ≡ 0) stack_unchanged 0 0 0
+            (code_of self.now) (code_after self.now result) }
+        ensures wherever { (tokens : List ℕ) →
+            AnyNodesLists (Refines tokens 0 0 no_docs_wait (λ n. n ≡ 0) stack_unchanged 0 0 0)
             (code_of self.now) (code_after self.now result) }
     {
         let docs = self.used.docs;

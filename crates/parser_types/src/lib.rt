@@ -17,9 +17,12 @@ ghost use Rattle.rules.specs.Rules.{parse_import, extern_fn, parse_extern};
 ghost use Rattle.parser_state.specs.Represents.{code_of, code_after};
 ghost use Rattle.parser_state.specs.Keeps.{KeepsAll, KeepsNodes, KeepsTypes};
 ghost use Rattle.parser_state.specs.Keeps.{KeepsNodesLists, KeepsNodesTypes};
-ghost use Rattle.parser_state.specs.Refines.{Refines, stack_unchanged, Gives, ReadsType};
+ghost use Rattle.parser_state.specs.Refines.{Refines, stack_unchanged, all_grown, Gives};
+ghost use Rattle.parser_state.specs.Refines.{GivesCount, ReadsType};
 ghost use Rattle.parser_state.specs.Refines.{ReadsNode, ReadsList, ReadsMember, Pushes};
 ghost use Rattle.parser_state.specs.Refines.{Rules, deeper};
+ghost use Rattle.parser_state.specs.Wherever.{AnyArrays, AnyNodesLists, AnyNodesTypes};
+ghost use Rattle.parser_state.specs.Wherever.{AnyNodes, AnyTypes};
 ghost use Rattle.parser_types.specs.Inner.{inner_type};
 ghost use Rattle.parser_types.specs.Paths.{ReadsPaths};
 
@@ -35,6 +38,8 @@ fn open_angle(p: &mut Parser, tokens: &[u32], number: u32) -> Result<(), Diagnos
     requires { 1 < p.old.cur.kind }
     ensures reads { Refines tokens.now 0 0 (open_angle number) (λ n. n ≡ 0) stack_unchanged 2 2 16
         (code_of p.old) (code_after p.new result) }
+    ensures wherever { AnyArrays (Refines tokens.now 0 0 (open_angle number) (λ n. n ≡ 0)
+        stack_unchanged 2 2 16) (code_of p.old) (code_after p.new result) }
     ensures keeps { KeepsAll p.old p.new }
 {
     p.advance(tokens);
@@ -46,6 +51,8 @@ fn open_angle(p: &mut Parser, tokens: &[u32], number: u32) -> Result<(), Diagnos
 fn atom_type(p: &mut Parser, tokens: &[u32]) -> TypeExprId
     requires { 1 < p.old.cur.kind }
     ensures reads { ReadsType tokens.now atom_type p.old p.new (Ok result) }
+    ensures wherever { AnyNodesLists (Refines tokens.now 0 0 atom_type (Gives (Ok result))
+        stack_unchanged 1 0 8) (code_of p.old) (code_of p.new) }
     ensures keeps { KeepsNodesLists p.old p.new }
 {
     let t = p.cur;
@@ -57,6 +64,8 @@ fn atom_type(p: &mut Parser, tokens: &[u32]) -> TypeExprId
 fn foreign_type(p: &mut Parser, tokens: &[u32]) -> Result<TypeExprId, Diagnostic>
     requires { 1 < p.old.cur.kind }
     ensures reads { ReadsType tokens.now foreign_type p.old p.new result }
+    ensures wherever { AnyNodesLists (Refines tokens.now 0 0 foreign_type (Gives result)
+        stack_unchanged 1 0 8) (code_of p.old) (code_after p.new result) }
     ensures keeps { KeepsNodesLists p.old p.new }
 {
     open_angle(p, tokens, Diagnostic::EMPTY_FOREIGN)?;
@@ -79,6 +88,10 @@ fn inner_type(
     ensures reads { (rules : Rules) (make : TypeExprId → TypeExpr) →
         ((id : TypeExprId) → type_cells (make id) ≡ padded type_width (kind ∷ id.0 ∷ []))
         → ReadsType tokens.now (inner_type number make (deeper rules levels)) p.old p.new result }
+    ensures wherever { (rules : Rules) (make : TypeExprId → TypeExpr) →
+        ((id : TypeExprId) → type_cells (make id) ≡ padded type_width (kind ∷ id.0 ∷ []))
+        → AnyNodes (Refines tokens.now 0 0 (inner_type number make (deeper rules levels))
+        (Gives result) stack_unchanged 1 0 8) (code_of p.old) (code_after p.new result) }
     ensures keeps { KeepsNodes p.old p.new }
 {
     open_angle(p, tokens, number)?;
@@ -92,6 +105,9 @@ fn inner_type(
 fn typed_name(p: &mut Parser, tokens: &[u32], levels: usize) -> Result<(), Diagnostic>
     ensures reads { (rules : Rules) →
         ReadsMember tokens.now (typed_name (deeper rules levels))
+        (code_of p.old) (code_after p.new result) }
+    ensures wherever { (rules : Rules) →
+        AnyNodes (ReadsMember tokens.now (typed_name (deeper rules levels)))
         (code_of p.old) (code_after p.new result) }
     ensures keeps { KeepsNodes p.old p.new }
 {
@@ -110,6 +126,9 @@ fn typed_names(p: &mut Parser, tokens: &[u32], stop: u32, levels: usize) -> Resu
     ensures reads { (rules : Rules) →
         ReadsList tokens.now (list_until stop (typed_name (deeper rules levels))) p.old p.new
         result }
+    ensures wherever { (rules : Rules) →
+        AnyNodes (Refines tokens.now 0 0 (list_until stop (typed_name (deeper rules levels)))
+        (Gives result) stack_unchanged 1 1 8) (code_of p.old) (code_after p.new result) }
     ensures short { IfOk result (λ run. run.len ≤ max_bytes) }
     ensures keeps { KeepsNodes p.old p.new }
 {
@@ -117,8 +136,8 @@ fn typed_names(p: &mut Parser, tokens: &[u32], stop: u32, levels: usize) -> Resu
         tokens,
         stop,
         |p: &mut Parser|
-            ensures reads { (rules : Rules) →
-                ReadsMember tokens.entry.now (typed_name (deeper rules levels))
+            ensures wherever { (rules : Rules) →
+                AnyNodes (ReadsMember tokens.entry.now (typed_name (deeper rules levels)))
                 (code_of p.old) (code_after p.new result) }
             ensures keeps { KeepsNodes p.old p.new }
         { typed_name(p, tokens, levels) },
@@ -131,6 +150,9 @@ fn record_type(p: &mut Parser, tokens: &[u32], levels: usize) -> Result<TypeExpr
     requires { 1 < p.old.cur.kind }
     ensures reads { (rules : Rules) →
         ReadsType tokens.now (record_type (deeper rules levels)) p.old p.new result }
+    ensures wherever { (rules : Rules) →
+        AnyNodes (Refines tokens.now 0 0 (record_type (deeper rules levels)) (Gives result)
+        stack_unchanged 1 0 8) (code_of p.old) (code_after p.new result) }
     ensures keeps { KeepsNodes p.old p.new }
 {
     let src = p.cur;
@@ -147,6 +169,9 @@ fn record_type(p: &mut Parser, tokens: &[u32], levels: usize) -> Result<TypeExpr
 pub fn parse_type(p: &mut Parser, tokens: &[u32], levels: usize) -> Result<TypeExprId, Diagnostic>
     ensures reads { (rules : Rules) →
         ReadsType tokens.now (deeper rules levels).type p.old p.new result }
+    ensures wherever { (rules : Rules) →
+        AnyNodes (Refines tokens.now 0 0 (deeper rules levels).type (Gives result)
+        stack_unchanged 1 0 8) (code_of p.old) (code_after p.new result) }
     ensures keeps { KeepsNodes p.old p.new }
 {
     if levels == 0 {
@@ -176,6 +201,9 @@ fn supplied_void(p: &mut Parser) -> TypeExprId
     ensures reads { (tokens : List ℕ) →
         Refines tokens 1 0 supplied_void (λ t. t ≡ result) stack_unchanged 0 0 0
         (code_of p.old) (code_of p.new) }
+    ensures wherever { (tokens : List ℕ) →
+        AnyNodesLists (Refines tokens 1 0 supplied_void (λ t. t ≡ result) stack_unchanged 0 0 0)
+        (code_of p.old) (code_of p.new) }
     ensures keeps { KeepsNodesLists p.old p.new }
 {
     let at = p.cur.start;
@@ -187,6 +215,9 @@ pub fn fn_return(p: &mut Parser, tokens: &[u32], levels: usize) -> Result<TypeEx
     ensures reads { (rules : Rules) →
         Refines tokens.now 1 0 (fn_return (deeper rules levels)) (Gives result) stack_unchanged
         0 0 0 (code_of p.old) (code_after p.new result) }
+    ensures wherever { (rules : Rules) →
+        AnyNodes (Refines tokens.now 1 0 (fn_return (deeper rules levels)) (Gives result)
+        stack_unchanged 0 0 0) (code_of p.old) (code_after p.new result) }
     ensures keeps { KeepsNodes p.old p.new }
 {
     if p.kind() == Type::CURLY_LEFT {
@@ -214,6 +245,9 @@ fn extern_return(p: &mut Parser, tokens: &[u32], levels: usize) -> Result<TypeEx
 pub fn parse_args(p: &mut Parser, tokens: &[u32], levels: usize) -> Result<Run, Diagnostic>
     ensures reads { (rules : Rules) →
         ReadsList tokens.now (parse_args (deeper rules levels)) p.old p.new result }
+    ensures wherever { (rules : Rules) →
+        AnyNodes (Refines tokens.now 0 0 (parse_args (deeper rules levels)) (Gives result)
+        stack_unchanged 1 1 8) (code_of p.old) (code_after p.new result) }
     ensures short { IfOk result (λ run. run.len ≤ max_bytes) }
     ensures keeps { KeepsNodes p.old p.new }
 {
@@ -226,6 +260,8 @@ pub fn parse_args(p: &mut Parser, tokens: &[u32], levels: usize) -> Result<Run, 
 // A path of an import.
 fn import_path(p: &mut Parser, tokens: &[u32]) -> Result<(), Diagnostic>
     ensures reads { ReadsMember tokens.now import_path (code_of p.old) (code_after p.new result) }
+    ensures wherever { AnyNodesTypes (ReadsMember tokens.now import_path) (code_of p.old)
+        (code_after p.new result) }
     ensures keeps { KeepsNodesTypes p.old p.new }
 {
     let t = p.cur;
@@ -234,13 +270,25 @@ fn import_path(p: &mut Parser, tokens: &[u32]) -> Result<(), Diagnostic>
     Ok(())
 }
 
-// Multiple package import: import ("io" "runtime")
+// Multiple package import: import ("io" "runtime"). The closure's clauses say that it reads
+// whatever the nodes and types hold.
 fn bracketed_paths(p: &mut Parser, tokens: &[u32]) -> Result<u32, Diagnostic>
     ensures reads { ReadsPaths tokens.now bracketed_paths p.old p.new result }
+    ensures wherever { AnyNodesTypes (Refines tokens.now 0 0 bracketed_paths
+        (GivesCount tokens.now (code_of p.new) result) all_grown 1 1 2) (code_of p.old)
+        (code_after p.new result) }
     ensures keeps { KeepsNodesTypes p.old p.new }
 {
     p.expect(tokens, Type::BRACE_LEFT)?;
-    p.members_until(tokens, Type::BRACE_RIGHT, |p| import_path(p, tokens))
+    p.members_until(
+        tokens,
+        Type::BRACE_RIGHT,
+        |p: &mut Parser|
+            ensures wherever { AnyNodesTypes (ReadsMember tokens.entry.now import_path)
+                (code_of p.old) (code_after p.new result) }
+            ensures keeps { KeepsNodesTypes p.old p.new }
+        { import_path(p, tokens) },
+    )
 }
 
 // Single package import: import "io". Apart from `import_path`, which promises no room behind: what
@@ -248,6 +296,9 @@ fn bracketed_paths(p: &mut Parser, tokens: &[u32]) -> Result<u32, Diagnostic>
 fn one_path(p: &mut Parser, tokens: &[u32]) -> u32
     requires { 1 < p.old.cur.kind }
     ensures reads { ReadsPaths tokens.now one_path p.old p.new (Ok result) }
+    ensures wherever { AnyNodesTypes (Refines tokens.now 0 0 one_path
+        (GivesCount tokens.now (code_of p.new) (Ok result)) all_grown 1 1 2) (code_of p.old)
+        (code_of p.new) }
     ensures keeps { KeepsNodesTypes p.old p.new }
 {
     let t = p.cur;
@@ -259,6 +310,9 @@ fn one_path(p: &mut Parser, tokens: &[u32]) -> u32
 // The paths of an import, in brackets or not.
 fn import_paths(p: &mut Parser, tokens: &[u32]) -> Result<u32, Diagnostic>
     ensures reads { ReadsPaths tokens.now import_paths p.old p.new result }
+    ensures wherever { AnyNodesTypes (Refines tokens.now 0 0 import_paths
+        (GivesCount tokens.now (code_of p.new) result) all_grown 1 1 2) (code_of p.old)
+        (code_after p.new result) }
     ensures keeps { KeepsNodesTypes p.old p.new }
 {
     if p.kind() == Type::S {
@@ -272,6 +326,8 @@ fn import_paths(p: &mut Parser, tokens: &[u32]) -> Result<u32, Diagnostic>
 pub fn parse_import(p: &mut Parser, tokens: &[u32]) -> Result<NodeId, Diagnostic>
     requires { 1 < p.old.cur.kind }
     ensures reads { ReadsNode tokens.now parse_import p.old p.new result }
+    ensures wherever { AnyTypes (Refines tokens.now 0 0 parse_import (Gives result)
+        stack_unchanged 1 0 8) (code_of p.old) (code_after p.new result) }
     ensures keeps { KeepsTypes p.old p.new }
 {
     let src = p.cur;

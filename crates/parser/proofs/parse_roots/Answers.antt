@@ -33,7 +33,7 @@ returns-in_err-n c =
 
 pub returns : goal.returns
 returns c = (
-  roots_end _ c.requires.0 c.requires.1 c.loop-p.invariant.1 (sym c.member_follows.ensures ∙ c.loop-p-test.false) (c.drop_docs.ensures.0 _),
+  roots_end _ c.requires.0 c.requires.1 c.loop-p.invariant.1 (sym c.member_follows.ensures ∙ c.loop-p-test.false) (c.drop_docs.ensures.reads.0 _),
   c.default.ensures.1.0,
-  (c.drop_docs.ensures.0 c.args.source.now.tokens.now).same ∙ c.loop-p.invariant.1.same,
+  (c.drop_docs.ensures.reads.0 c.args.source.now.tokens.now).same ∙ c.loop-p.invariant.1.same,
 )

@@ -45,6 +45,6 @@ returns c =
     let loop = c.loop-p in
     let pre = c.requires in
     let faults = c.push_faults-listed in (
-      ends _ _ _ _ refl (sym c.member_follows.ensures ∙ c.loop-p-test.false) refl pre.0.lent.small (omega (arith, pre.3, loop.invariant.1)) (tokens-all c.args.source.now.script.now pre.0.lent.small pre.0.tabled) loop.invariant.3 faults.ensures.0 faults.ensures.1 (omega (arith, faults.auto.diagnostics)) (c.drop_docs.ensures.0 _),
-      (c.drop_docs.ensures.0 c.args.source.now.tokens.now).same ∙ loop.invariant.2,
+      ends _ _ _ _ refl (sym c.member_follows.ensures ∙ c.loop-p-test.false) refl pre.0.lent.small (omega (arith, pre.3, loop.invariant.1)) (tokens-all c.args.source.now.script.now pre.0.lent.small pre.0.tabled) loop.invariant.3 faults.ensures.0 faults.ensures.1 (omega (arith, faults.auto.diagnostics)) (c.drop_docs.ensures.reads.0 _),
+      (c.drop_docs.ensures.reads.0 c.args.source.now.tokens.now).same ∙ loop.invariant.2,
     )

@@ -23,7 +23,7 @@ pub member-returns-then-begins_expr : goal.member-returns-then-begins_expr
 member-returns-then-begins_expr t c = prefix_by (rules_of c.args.source.now.script.now) _ c.if-levels-ne0.true (prefix-expr _ (sym c.begins_expr.ensures ∙ c.if-begins_expr.true) c.parse_expr.ensures)
 
 pub parse_prefix-returns-then-levels-eq0 : goal.parse_prefix-returns-then-levels-eq0
-parse_prefix-returns-then-levels-eq0 t c = prefix_deep (rules_of c.args.source.now.script.now) _ c.if-levels-eq0.true (c.fail_expecting.ensures _)
+parse_prefix-returns-then-levels-eq0 t c = prefix_deep (rules_of c.args.source.now.script.now) _ c.if-levels-eq0.true (c.fail_expecting.ensures.reads _)
 
 pub parse_prefix-returns-then-begins_expr : goal.parse_prefix-returns-then-begins_expr
 parse_prefix-returns-then-begins_expr t c = prefix_by (rules_of c.args.source.now.script.now) _ c.if-levels-eq0.false (prefix-expr _ (sym c.begins_expr.ensures ∙ c.if-begins_expr.true) c.parse_expr.ensures)
@@ -51,17 +51,17 @@ item-returns-in-28 t c = at-kind _ k_extern (c.parse_extern.ensures (rules_of c.
 pub item-returns-in_err-require_no_docs-in_default : goal.item-returns-in_err-require_no_docs-in_default
 item-returns-in_err-require_no_docs-in_default t c =
     plain_item_by _ (sym c.kind.ensures) (λ e. omega arith) (λ e. omega arith) (λ e. omega arith) (λ e. omega arith)
-    (fails _ (stops_then _ (c.in_err-require_no_docs-in_default.ensures _) refl) refl c.from_residual.ensures tt)
+    (fails _ (stops_then _ (c.in_err-require_no_docs-in_default.ensures.reads _) refl) refl c.from_residual.ensures tt)
 
 pub item-returns-then-kind-eq-MATCH : goal.item-returns-then-kind-eq-MATCH
 item-returns-then-kind-eq-MATCH t c =
     plain_item_by _ (sym c.kind.ensures) (λ e. omega arith) (λ e. omega arith) (λ e. omega arith) (λ e. omega arith)
-    (enough (then (c.in_ok-require_no_docs-in_default.ensures _) (if_kind-yes _ _ c.parse_match.ensures (sym c.kind-in_default.ensures ∙ c.if-kind-eq-MATCH.true))) tt)
+    (enough (then (c.in_ok-require_no_docs-in_default.ensures.reads _) (if_kind-yes _ _ c.parse_match.ensures (sym c.kind-in_default.ensures ∙ c.if-kind-eq-MATCH.true))) tt)
 
 pub item-returns-else-kind-eq-MATCH : goal.item-returns-else-kind-eq-MATCH
 item-returns-else-kind-eq-MATCH t c =
     plain_item_by _ (sym c.kind.ensures) (λ e. omega arith) (λ e. omega arith) (λ e. omega arith) (λ e. omega arith)
-    (enough (then (c.in_ok-require_no_docs-in_default.ensures _) (if_kind-no _ _ c.parse_expr.ensures (λ e. c.if-kind-eq-MATCH.false (c.kind-in_default.ensures ∙ e)))) tt)
+    (enough (then (c.in_ok-require_no_docs-in_default.ensures.reads _) (if_kind-no _ _ c.parse_expr.ensures (λ e. c.if-kind-eq-MATCH.false (c.kind-in_default.ensures ∙ e)))) tt)
 
 pub parse_let-returns-in_err-expect : goal.parse_let-returns-in_err-expect
 unfolding parse_let
@@ -192,7 +192,7 @@ condition-returns t c = enough (read _ looks refl (seq _ c.in_ok-n.ensures (seq 
 -- ---- expressions
 
 pub parse_expr-returns-then-levels-eq0 : goal.parse_expr-returns-then-levels-eq0
-parse_expr-returns-then-levels-eq0 t c = expr_deep (rules_of c.args.source.now.script.now) _ _ c.if-levels-eq0.true (c.fail_expecting.ensures _)
+parse_expr-returns-then-levels-eq0 t c = expr_deep (rules_of c.args.source.now.script.now) _ _ c.if-levels-eq0.true (c.fail_expecting.ensures.reads _)
 
 pub parse_expr-returns-in_err-x : goal.parse_expr-returns-in_err-x
 unfolding parse_expr
@@ -250,7 +250,7 @@ operand-returns-in-Some-Sign t c = operand_by _ {n = 6} c.unary.ensures (rw c.in
 
 pub operand-returns-in-None : goal.operand-returns-in-None
 unfolding operand_of choose
-operand-returns-in-None t c = operand_by _ {n = 0} (refused (c.fail_expecting.ensures _)) (c.in-None.ensures ∙ ap operand_class c.kind.ensures)
+operand-returns-in-None t c = operand_by _ {n = 0} (refused (c.fail_expecting.ensures.reads _)) (c.in-None.ensures ∙ ap operand_class c.kind.ensures)
 
 pub record_literal-returns-in_err-fields : goal.record_literal-returns-in_err-fields
 unfolding record_literal node_cells token_cells run_cells

@@ -3,8 +3,12 @@ use Rattle.std.proofs.Common.{refl}
 use Rattle.parser_state.proofs.Steps.{read, enough}
 use Rattle.ast.specs.Layout.{token_cells, node_cells}
 use Rattle.rules.specs.Rules.{atom}
+use Rattle.std.specs.Prelude.{None}
 use Rattle.parser_operators.proofs.atom.Goals as goal
 
-pub returns-clause-reads : goal.returns-clause-reads
+pub returns-clause-wherever : goal.returns-clause-wherever
 unfolding atom node_cells token_cells
-returns-clause-reads c = enough (read _ c.advance.ensures.reads refl (c.push_token_node.ensures.reads _ _ refl)) tt
+returns-clause-wherever c = λ types lists. enough (read _ (c.advance.ensures.wherever None types lists) refl (c.push_token_node.ensures.wherever _ _ refl types lists)) tt
+
+pub returns-clause-reads : goal.returns-clause-reads
+returns-clause-reads c = returns-clause-wherever c None None
