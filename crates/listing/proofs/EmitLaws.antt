@@ -148,11 +148,11 @@ module _ {A : Type 0} (text : A → List ℕ) (xs : List A) (i : ℕ) where
 
 -- ---- the names of the kinds
 
-kind_low : (k : ℕ) → k < 1 → malformed ≡ kind_name k
+pub kind_low : (k : ℕ) → k < 1 → malformed ≡ kind_name k
 unfolding kind_name kind_names
 kind_low k h = let e : k ≡ 0 = omega arith in rw e
 
-kind_high : (k : ℕ) → 43 < k → malformed ≡ kind_name k
+pub kind_high : (k : ℕ) → 43 < k → malformed ≡ kind_name k
 unfolding kind_name kind_names
 kind_high k h = sym (get_or-eq_default kind_names malformed {n = k} h)
 

@@ -10,7 +10,7 @@ ghost use Rattle.text.specs.Emit.{Writes};
 use crate::emit::{Listed, Malformed, write_next_number};
 use ast::Run;
 use ast::decode::{cell, run_at, token_at};
-use ast::schema::{CASE_WIDTH, FN_WIDTH, NODE_WIDTH, PARAM_WIDTH, TOKEN_WIDTH};
+use ast::schema::Sort;
 use lex::{Token, Type};
 use text::Writer;
 
@@ -29,7 +29,8 @@ fn write_token(t: Token, w: &mut Writer) -> Listed
 {
     w.write_byte(b'(');
     write_kind(t.kind, w)?;
-    write_next_number(t.start, w);
+    write_gap(1, w);
+    w.write_number(t.start);
     write_next_number(t.len, w);
     w.write_byte(b')');
     Ok(())
@@ -77,7 +78,7 @@ fn write_tokens(lists: &[u32], run: Run, w: &mut Writer) -> Listed
 {
     write_list(
         lists,
-        TOKEN_WIDTH,
+        Sort::Tokens.width(),
         run,
         w,
         |j, w| write_token(token_at(lists, j), w),
@@ -88,7 +89,7 @@ fn write_tokens(lists: &[u32], run: Run, w: &mut Writer) -> Listed
 fn write_ids(lists: &[u32], run: Run, w: &mut Writer) -> Listed
     ensures { Lists (ids lists.now run) w.old w.new result }
 {
-    write_list(lists, NODE_WIDTH, run, w, |j, w| {
+    write_list(lists, Sort::Nodes.width(), run, w, |j, w| {
         w.write_number(cell(lists, j, 0) as usize);
         Ok(())
     })
@@ -108,7 +109,7 @@ fn write_pair(lists: &[u32], j: usize, w: &mut Writer) -> Listed
 fn write_pairs(lists: &[u32], run: Run, w: &mut Writer) -> Listed
     ensures { Lists (pairs lists.now run) w.old w.new result }
 {
-    write_list(lists, PARAM_WIDTH, run, w, |j, w| write_pair(lists, j, w))
+    write_list(lists, Sort::Params.width(), run, w, |j, w| write_pair(lists, j, w))
 }
 
 // A case of a match, `((token condition) body)`.
@@ -166,10 +167,10 @@ fn write_field(lists: &[u32], field: Field, w: &mut Writer) -> Listed
         Field::Ids(run) => write_ids(lists, run, w),
         Field::Pairs(run) => write_pairs(lists, run, w),
         Field::Branches(run) => {
-            write_list(lists, CASE_WIDTH, run, w, |j, w| write_branch(lists, j, w))
+            write_list(lists, Sort::Cases.width(), run, w, |j, w| write_branch(lists, j, w))
         }
         Field::ExternFns(run) => {
-            write_list(lists, FN_WIDTH, run, w, |j, w| write_extern_fn(lists, j, w))
+            write_list(lists, Sort::Fns.width(), run, w, |j, w| write_extern_fn(lists, j, w))
         }
         Field::Default(t, body) => write_default(lists, t, body, w),
     }

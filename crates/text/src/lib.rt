@@ -83,10 +83,14 @@ impl<'a> Writer<'a> {
         self.at = put_text(text, self.out, self.at);
     }
 
-    // A number in decimal.
+    // A number in decimal. One digit, as most numbers have, takes no call.
     pub fn write_number(&mut self, n: usize)
         ensures { Writes (number n) self.old self.new }
     {
-        self.at = put_number(n, self.out, self.at);
+        if n < 10 {
+            self.write_byte(b'0' + n as u8);
+        } else {
+            self.at = put_number(n, self.out, self.at);
+        }
     }
 }
