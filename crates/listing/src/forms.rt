@@ -109,7 +109,13 @@ fn write_pair(lists: &[u32], j: usize, w: &mut Writer) -> Listed
 fn write_pairs(lists: &[u32], run: Run, w: &mut Writer) -> Listed
     ensures { Lists (pairs lists.now run) w.old w.new result }
 {
-    write_list(lists, Sort::Params.width(), run, w, |j, w| write_pair(lists, j, w))
+    write_list(
+        lists,
+        Sort::Params.width(),
+        run,
+        w,
+        |j, w| write_pair(lists, j, w),
+    )
 }
 
 // A case of a match, `((token condition) body)`.
@@ -167,10 +173,22 @@ fn write_field(lists: &[u32], field: Field, w: &mut Writer) -> Listed
         Field::Ids(run) => write_ids(lists, run, w),
         Field::Pairs(run) => write_pairs(lists, run, w),
         Field::Branches(run) => {
-            write_list(lists, Sort::Cases.width(), run, w, |j, w| write_branch(lists, j, w))
+            write_list(
+                lists,
+                Sort::Cases.width(),
+                run,
+                w,
+                |j, w| write_branch(lists, j, w),
+            )
         }
         Field::ExternFns(run) => {
-            write_list(lists, Sort::Fns.width(), run, w, |j, w| write_extern_fn(lists, j, w))
+            write_list(
+                lists,
+                Sort::Fns.width(),
+                run,
+                w,
+                |j, w| write_extern_fn(lists, j, w),
+            )
         }
         Field::Default(t, body) => write_default(lists, t, body, w),
     }

@@ -9,7 +9,7 @@ use lib.Dec.{ltb}
 use lib.ListN.{length, get_or, set, take, drop, length-set}
 use lib.Seq.{set_out, sets, sets-eq, paste}
 use Rattle.std.proofs.lemmas.List.Edits.{paste_all}
-use Rattle.std.proofs.lemmas.List.{append_assoc, length-drop, nil_from_length}
+use Rattle.std.proofs.lemmas.List.{append_assoc, nil_from_length}
 use borrow.Author.Tests.{lt-ltb, le-ltb, ltb-true, ltb-false}
 use Rattle.text.specs.Text.{digits, number}
 use Rattle.text.specs.Emit.{Output, last, put, emit, Emits, Writes, plain}
