@@ -14,6 +14,8 @@ use Rattle.lex.specs.Kind as L
 use Rattle.lex.proofs.Bits.{to_high}
 use Rattle.lex.proofs.Laws.{table, agree}
 use Rattle.ast.specs.declared.Run.{Run}
+use Rattle.ast.specs.Schema as S
+use Rattle.ast.specs.Schema.{Members, member_width}
 use Rattle.text.proofs.EmitLaws.{and_then, writes_nothing, writes_by}
 use Rattle.text.specs.Text.{bytes}
 use Rattle.text.specs.Emit.{Writes, plain}
@@ -121,6 +123,15 @@ module _ (width : ℕ) (cells : List ℕ) (member : ℕ → List ℕ) (r : Run) 
   pub run_outside : length cells < r.start + width * r.len → malformed ≡ listed width cells member r
   unfolding listed
   run_outside h = rw (lt-leb (r.start + width * r.len) (length cells) h, listed)
+
+-- the members of each list are narrow
+pub narrow : (m : Members) → member_width m < 9
+narrow S.tokens = omega arith
+narrow S.params = omega arith
+narrow S.fns = omega arith
+narrow S.nodes = omega arith
+narrow S.fields = omega arith
+narrow S.cases = omega arith
 
 -- so many cells has a list, and a member begins before them
 module _ (w n : ℕ) (h : w < 9) (l : n < 4294967296) where

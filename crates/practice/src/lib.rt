@@ -18,9 +18,9 @@ const MAX_LINES: u32 = 16;
 
 const TOP_LEVEL: u32 = 4;
 
-// The writer is lent, and the seed goes by value beside it, so that it lies in no memory between two
-// draws: each function answers the seed for the next one. For a struct of both no proof was found
-// of what the buffer behind the writer ends as.
+// The writer is lent, and the seed goes by value beside it: each function answers the seed for the
+// next draw, so that it need not lie in memory between two draws. For a struct of both no proof was
+// found of what the buffer behind the writer ends as.
 
 // A number or a name, by the draw that picks: a number, as the definition `leaf` takes it.
 fn write_leaf(pick: u32, seed: u32, w: &mut Writer) -> u32

@@ -7,8 +7,8 @@ use Rattle.listing.proofs.forms.write_field.Goals as goal
 
 pub returns-in-Branches : goal.returns-in-Branches
 unfolding branches
-returns-in-Branches c = lists_by (ap (field_text c.args.lists.now) (sym c.in-Branches.is)) (rw c.width.ensures at (c.write_list.ensures (λ j. branch c.args.lists.now j) (λ j u r v h p. search rules)))
+returns-in-Branches c = lists_by (ap (field_text c.args.lists.now) (sym c.in-Branches.is)) (c.write_list.ensures (λ j. branch c.args.lists.now j) (λ j u r v h p. search rules))
 
 pub returns-in-ExternFns : goal.returns-in-ExternFns
 unfolding extern_fns
-returns-in-ExternFns c = lists_by (ap (field_text c.args.lists.now) (sym c.in-ExternFns.is)) (rw c.width-in-ExternFns.ensures at (c.write_list-in-ExternFns.ensures (λ j. extern_fn c.args.lists.now j) (λ j u r v h p. search rules)))
+returns-in-ExternFns c = lists_by (ap (field_text c.args.lists.now) (sym c.in-ExternFns.is)) (c.write_list-in-ExternFns.ensures (λ j. extern_fn c.args.lists.now j) (λ j u r v h p. search rules))

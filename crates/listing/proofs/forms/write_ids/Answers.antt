@@ -6,4 +6,4 @@ use Rattle.listing.proofs.forms.write_ids.Goals as goal
 
 pub returns : goal.returns
 unfolding ids
-returns c = rw c.width.ensures at (c.write_list.ensures (λ j. number (get_or c.args.lists.now j 0)) (λ j u r v h p. search rules))
+returns c = c.write_list.ensures (λ j. number (get_or c.args.lists.now j 0)) (λ j u r v h p. search rules)

@@ -5,4 +5,4 @@ use Rattle.listing.proofs.forms.write_pairs.Goals as goal
 
 pub returns : goal.returns
 unfolding pairs
-returns c = rw c.width.ensures at (c.write_list.ensures (λ j. pair c.args.lists.now j) (λ j u r v h p. search rules))
+returns c = c.write_list.ensures (λ j. pair c.args.lists.now j) (λ j u r v h p. search rules)

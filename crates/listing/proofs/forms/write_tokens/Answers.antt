@@ -6,4 +6,4 @@ use Rattle.listing.proofs.forms.write_tokens.Goals as goal
 
 pub returns : goal.returns
 unfolding tokens
-returns c = rw c.width.ensures at (c.write_list.ensures (λ j. token (token_at c.args.lists.now j)) (λ j u r v h p. search rules))
+returns c = c.write_list.ensures (λ j. token (token_at c.args.lists.now j)) (λ j u r v h p. search rules)
