@@ -14,6 +14,8 @@ use Rattle.lex.specs.Kind as L
 use Rattle.lex.proofs.Bits.{to_high}
 use Rattle.lex.proofs.Laws.{table, agree}
 use Rattle.ast.specs.declared.Run.{Run}
+use Rattle.ast.specs.Schema as S
+use Rattle.ast.specs.Schema.{Members, member_width}
 use Rattle.text.proofs.EmitLaws.{and_then, writes_nothing, writes_by}
 use Rattle.text.specs.Text.{bytes}
 use Rattle.text.specs.Emit.{Writes, plain}
@@ -122,6 +124,15 @@ module _ (width : ℕ) (cells : List ℕ) (member : ℕ → List ℕ) (r : Run) 
   unfolding listed
   run_outside h = rw (lt-leb (r.start + width * r.len) (length cells) h, listed)
 
+-- the members of each list are narrow
+pub narrow : (m : Members) → member_width m < 9
+narrow S.tokens = omega arith
+narrow S.params = omega arith
+narrow S.fns = omega arith
+narrow S.nodes = omega arith
+narrow S.fields = omega arith
+narrow S.cases = omega arith
+
 -- so many cells has a list, and a member begins before them
 module _ (w n : ℕ) (h : w < 9) (l : n < 4294967296) where
   pub few-cells : w * n < 34359738368
@@ -148,11 +159,11 @@ module _ {A : Type 0} (text : A → List ℕ) (xs : List A) (i : ℕ) where
 
 -- ---- the names of the kinds
 
-kind_low : (k : ℕ) → k < 1 → malformed ≡ kind_name k
+pub kind_low : (k : ℕ) → k < 1 → malformed ≡ kind_name k
 unfolding kind_name kind_names
 kind_low k h = let e : k ≡ 0 = omega arith in rw e
 
-kind_high : (k : ℕ) → 43 < k → malformed ≡ kind_name k
+pub kind_high : (k : ℕ) → 43 < k → malformed ≡ kind_name k
 unfolding kind_name kind_names
 kind_high k h = sym (get_or-eq_default kind_names malformed {n = k} h)
 

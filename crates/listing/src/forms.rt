@@ -1,6 +1,7 @@
 // Tokens and lists, and forms of them. The cells stay beside the writer: a list's closures read
 // them while they lend the writer.
 ghost use Rattle.std.specs.Prelude.{ℕ, List, [], ◌∷◌, ◌+◌, ◌<◌, map};
+ghost use Rattle.ast.specs.Schema.{member_width, members};
 ghost use Rattle.listing.specs.Text.{gap, kind_name, token, pair, branch, extern_fn, listed};
 ghost use Rattle.listing.specs.Text.{tokens, ids, pairs, tuple, form};
 ghost use Rattle.listing.specs.Field.{field_text};
@@ -10,7 +11,7 @@ ghost use Rattle.text.specs.Emit.{Writes};
 use crate::emit::{Listed, Malformed, write_next_number};
 use ast::Run;
 use ast::decode::{cell, run_at, token_at};
-use ast::schema::{CASE_WIDTH, FN_WIDTH, NODE_WIDTH, PARAM_WIDTH, TOKEN_WIDTH};
+use ast::schema::Sort;
 use lex::{Token, Type};
 use text::Writer;
 
@@ -29,7 +30,8 @@ fn write_token(t: Token, w: &mut Writer) -> Listed
 {
     w.write_byte(b'(');
     write_kind(t.kind, w)?;
-    write_next_number(t.start, w);
+    write_gap(1, w);
+    w.write_number(t.start);
     write_next_number(t.len, w);
     w.write_byte(b')');
     Ok(())
@@ -45,19 +47,19 @@ fn write_gap(i: usize, w: &mut Writer)
     }
 }
 
-// A run of members of `width` cells, each by `write_member` from its first cell.
+// A run of members of a list, each by `write_member` from its first cell.
 fn write_list<F: Fn(usize, &mut Writer) -> Listed>(
     lists: &[u32],
-    width: usize,
+    sort: Sort,
     run: Run,
     w: &mut Writer,
     write_member: F,
 ) -> Listed
-    requires narrow { width < 9 }
     requires callable { (j : ℕ) (u : _) → j < 1099511627776 → F.pre write_member j u }
     ensures { (member : ℕ → List ℕ) → ListsEach (F.post write_member) 1099511627776 member
-        → Lists (listed width lists.now member run) w.old w.new result }
+        → Lists (listed (member_width (members sort)) lists.now member run) w.old w.new result }
 {
+    let width = sort.width();
     let start = run.start as usize;
     let len = run.len as usize;
     if lists.len() < start + width * len {
@@ -77,7 +79,7 @@ fn write_tokens(lists: &[u32], run: Run, w: &mut Writer) -> Listed
 {
     write_list(
         lists,
-        TOKEN_WIDTH,
+        Sort::Tokens,
         run,
         w,
         |j, w| write_token(token_at(lists, j), w),
@@ -88,7 +90,7 @@ fn write_tokens(lists: &[u32], run: Run, w: &mut Writer) -> Listed
 fn write_ids(lists: &[u32], run: Run, w: &mut Writer) -> Listed
     ensures { Lists (ids lists.now run) w.old w.new result }
 {
-    write_list(lists, NODE_WIDTH, run, w, |j, w| {
+    write_list(lists, Sort::Nodes, run, w, |j, w| {
         w.write_number(cell(lists, j, 0) as usize);
         Ok(())
     })
@@ -108,7 +110,7 @@ fn write_pair(lists: &[u32], j: usize, w: &mut Writer) -> Listed
 fn write_pairs(lists: &[u32], run: Run, w: &mut Writer) -> Listed
     ensures { Lists (pairs lists.now run) w.old w.new result }
 {
-    write_list(lists, PARAM_WIDTH, run, w, |j, w| write_pair(lists, j, w))
+    write_list(lists, Sort::Params, run, w, |j, w| write_pair(lists, j, w))
 }
 
 // A case of a match, `((token condition) body)`.
@@ -166,10 +168,16 @@ fn write_field(lists: &[u32], field: Field, w: &mut Writer) -> Listed
         Field::Ids(run) => write_ids(lists, run, w),
         Field::Pairs(run) => write_pairs(lists, run, w),
         Field::Branches(run) => {
-            write_list(lists, CASE_WIDTH, run, w, |j, w| write_branch(lists, j, w))
+            write_list(lists, Sort::Cases, run, w, |j, w| write_branch(lists, j, w))
         }
         Field::ExternFns(run) => {
-            write_list(lists, FN_WIDTH, run, w, |j, w| write_extern_fn(lists, j, w))
+            write_list(
+                lists,
+                Sort::Fns,
+                run,
+                w,
+                |j, w| write_extern_fn(lists, j, w),
+            )
         }
         Field::Default(t, body) => write_default(lists, t, body, w),
     }

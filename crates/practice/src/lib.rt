@@ -18,57 +18,62 @@ const MAX_LINES: u32 = 16;
 
 const TOP_LEVEL: u32 = 4;
 
-// The writer and the seed are lent side by side: for a struct of both no proof was found of what
-// the buffer behind the writer ends as.
+// The writer is lent, and the seed goes by value beside it: each function answers the seed for the
+// next draw, so that it need not lie in memory between two draws. For a struct of both no proof was
+// found of what the buffer behind the writer ends as.
 
 // A number or a name, by the draw that picks: a number, as the definition `leaf` takes it.
-fn write_leaf(pick: u32, seed: &mut u32, w: &mut Writer)
-    ensures { WritesDrawn text (leaf pick seed.old) w.old w.new seed.new }
+fn write_leaf(pick: u32, seed: u32, w: &mut Writer) -> u32
+    ensures { WritesDrawn text (leaf pick seed) w.old w.new result }
 {
+    let mut next = seed;
     if pick == 0 {
-        let n = draw(seed, 100);
+        let n = draw(&mut next, 100);
         w.write_number(n as usize);
     } else {
-        let n = draw(seed, 10);
+        let n = draw(&mut next, 10);
         w.write_byte(b'v');
         w.write_number(n as usize);
     }
+    next
 }
 
 // An expression of a level. The level falls.
-fn write_expression(level: u32, seed: &mut u32, w: &mut Writer)
-    ensures { WritesDrawn text (expression level seed.old) w.old w.new seed.new }
+fn write_expression(level: u32, seed: u32, w: &mut Writer) -> u32
+    ensures { WritesDrawn text (expression level seed) w.old w.new result }
 {
+    let mut next = seed;
     if level == 0 {
-        let pick = draw(seed, 2);
-        write_leaf(pick, seed, w);
-        return;
+        let pick = draw(&mut next, 2);
+        return write_leaf(pick, next, w);
     }
-    match draw(seed, 4) {
-        pick @ 0..=1 => write_leaf(pick, seed, w),
+    match draw(&mut next, 4) {
+        pick @ 0..=1 => write_leaf(pick, next, w),
         2 => {
             w.write_byte(b'(');
-            write_expression(level - 1, seed, w);
+            let behind = write_expression(level - 1, next, w);
             w.write_text(b" + ");
-            write_expression(level - 1, seed, w);
+            let last = write_expression(level - 1, behind, w);
             w.write_byte(b')');
+            last
         }
         _ => {
             w.write_byte(b'-');
-            write_expression(level - 1, seed, w);
+            write_expression(level - 1, next, w)
         }
     }
 }
 
-fn write_line(i: u32, seed: &mut u32, w: &mut Writer)
-    ensures { let drawn = expression top_level seed.old in
-        WritesDrawn (line i) drawn w.old w.new seed.new }
+fn write_line(i: u32, seed: u32, w: &mut Writer) -> u32
+    ensures { let drawn = expression top_level seed in
+        WritesDrawn (line i) drawn w.old w.new result }
 {
     w.write_text(b"let v");
     w.write_number(i as usize);
     w.write_text(b" = ");
-    write_expression(TOP_LEVEL, seed, w);
+    let next = write_expression(TOP_LEVEL, seed, w);
     w.write_byte(b'\n');
+    next
 }
 
 fn write_lines(seed: u32, lines: u32, out: &mut [u8]) -> usize
@@ -77,7 +82,7 @@ fn write_lines(seed: u32, lines: u32, out: &mut [u8]) -> usize
     let mut w = Writer { out, at: 0 };
     let mut next = seed;
     for i in 0..lines {
-        write_line(i, &mut next, &mut w);
+        next = write_line(i, next, &mut w);
     }
     w.at
 }

@@ -6,8 +6,10 @@ use Prim.Native.Nat.{ℕ, zero, suc, ◌+◌, ◌/◌, ◌%◌, ◌<◌, ◌≤�
 use native.Mathlib.Nat.{zero-add}
 use native.Mathlib.Omega.{arith}
 use lib.Dec.{ltb}
-use lib.ListN.{length, set, drop, length-set}
-use lib.Seq.{set_out, sets, sets-eq}
+use lib.ListN.{length, get_or, set, take, drop, length-set}
+use lib.Seq.{set_out, sets, sets-eq, paste}
+use Rattle.std.proofs.lemmas.List.Edits.{paste_all}
+use Rattle.std.proofs.lemmas.List.{append_assoc, nil_from_length}
 use borrow.Author.Tests.{lt-ltb, le-ltb, ltb-true, ltb-false}
 use Rattle.text.specs.Text.{digits, number}
 use Rattle.text.specs.Emit.{Output, last, put, emit, Emits, Writes, plain}
@@ -105,6 +107,9 @@ unfolding number digits
 one_digit zero h = refl
 one_digit (suc m) h = rw (lt-ltb (suc m) 10 h)
 
+pub small_number : (n : ℕ) → n < 10 → (48 + n) ∷ [] ≡ number n
+small_number n h = let e : n % 10 ≡ n = omega arith in rw e at (one_digit n h)
+
 pub more_digits : (n : ℕ) → 10 ≤ n → number (n / 10) ++ ((48 + n % 10) ∷ []) ≡ number n
 unfolding number digits
 more_digits zero h = absurd (omega arith)
@@ -140,6 +145,50 @@ bytes_in (b ∷ text) o e h =
     bytes_in text (put b o) (and_right (ltb b 256) (plain text) e) (omega arith)
     ∙ ap (λ (n : ℕ). sets (put b o).buffer n text) q
     ∙ ap (λ (x : Output). sets x.buffer (suc o.at) text) p
+
+pub plain_bytes : (text : List ℕ) → ((i : ℕ) → get_or text i 0 < 256) → plain text ≡ true
+unfolding plain
+plain_bytes [] h = refl
+plain_bytes (x ∷ text) h = rw (lt-ltb x 256 (h 0)) (plain_bytes text (λ i. h (suc i)))
+
+-- bytes in place of others
+pub pasted : (text x : List ℕ) (at n : ℕ) → plain text ≡ true → length text ≡ n → at + n ≤ length x → at + n ≤ last → Emits text x at (paste x at text n) (at + n)
+pasted text x at n e l h k =
+    let o : Output = record { buffer = x; at = at } in
+    let out : (emit text o).buffer ≡ paste x at text n = bytes_in text o e (omega arith) ∙ sets-eq text x at (omega arith) ∙ append_assoc (take at x) text (drop (at + length text) x) ∙ sym (paste_all x at text (length text) refl) ∙ ap (paste x at text) l in
+    let to : (emit text o).at ≡ at + n = bytes_count text o e (omega arith) ∙ omega arith in
+    record { emitted = output (sym out) (sym to) }
+
+-- ---- a text by parts
+
+plain_front : (a b : List ℕ) → plain (a ++ b) ≡ true → plain a ≡ true
+unfolding plain
+plain_front [] b e = refl
+plain_front (x ∷ a) b e = rw (and_left (ltb x 256) (plain (a ++ b)) e) (plain_front a b (and_right (ltb x 256) (plain (a ++ b)) e))
+
+plain_behind : (a b : List ℕ) → plain (a ++ b) ≡ true → plain b ≡ true
+unfolding plain
+plain_behind [] b e = e
+plain_behind (x ∷ a) b e = plain_behind a b (and_right (ltb x 256) (plain (a ++ b)) e)
+
+-- what is left of a text of bytes, from where writing has come to, ends as the whole text does
+pub record Left (text before : List ℕ) (at : ℕ) (rest now : List ℕ) (to : ℕ) : Type 0 where
+  pub bytes : plain rest ≡ true
+  pub same : ◌≡◌ {A = Output} (emit rest (record { buffer = now; at = to })) (emit text (record { buffer = before; at = at }))
+
+module _ {text x : List ℕ} {p : ℕ} where
+  pub left_all : ((i : ℕ) → get_or text i 0 < 256) → Left text x p text x p
+  left_all h = record { bytes = plain_bytes text h; same = refl }
+
+  pub left_front : (a more : List ℕ) {rest y : List ℕ} {q : ℕ} → a ++ more ≡ rest → Left text x p rest y q → plain a ≡ true
+  left_front a more e l = plain_front a more (rw (sym e) at l.bytes)
+
+  pub left_less : (a : List ℕ) {rest more y z : List ℕ} {q r : ℕ} → a ++ more ≡ rest → Left text x p rest y q → Emits a y q z r → Left text x p more z r
+  left_less a {rest} {more} {y} {z} {q} {r} e l f = record { bytes = plain_behind a more (rw (sym e) at l.bytes); same = ap (emit more) f.emitted ∙ sym (emit-append a more (record { buffer = y; at = q })) ∙ ap (λ (t : List ℕ). emit t (record { buffer = y; at = q })) e ∙ l.same }
+
+  pub left_none : {y : List ℕ} {q : ℕ} (rest : List ℕ) → length rest ≡ 0 → Left text x p rest y q → Emits text x p y q
+  unfolding emit
+  left_none rest e l = record { emitted = rw (nil_from_length rest e) at l.same }
 
 -- a text of bytes that fits stands in front of what the buffer held
 pub whole : {text x z : List ℕ} {m : ℕ} → plain text ≡ true → length text ≤ length x → length text ≤ last → Emits text x 0 z m → result (written m) z ≡ in_front text x

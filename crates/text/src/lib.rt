@@ -4,7 +4,7 @@
 
 ghost use Rattle.std.specs.Prelude.{[], ◌∷◌};
 ghost use Rattle.text.specs.Text.{number};
-ghost use Rattle.text.specs.Emit.{Writes};
+ghost use Rattle.text.specs.Emit.{Emits, Writes};
 
 use lex::Refusal;
 
@@ -25,33 +25,72 @@ pub struct Writer<'a> {
     pub at: usize,
 }
 
+// A byte into a buffer, and where the next one goes. Writing goes by these functions, which have
+// the buffer and the place as values of their own: each byte by a writer's fields took up to twice
+// the time.
+fn put(b: u8, out: &mut [u8], at: usize) -> usize
+    ensures { Emits (b ∷ []) out.old at out.new result }
+{
+    if at < out.len() {
+        out[at] = b;
+        return at + 1;
+    }
+    at.saturating_add(1)
+}
+
+// Eight bytes at once where there is room for them, and the others one by one.
+fn put_text(text: &[u8], out: &mut [u8], at: usize) -> usize
+    ensures { Emits text.now out.old at out.new result }
+{
+    let mut to = at;
+    let mut rest = text;
+    while let Some((eight, more)) = rest.split_first_chunk::<8>() {
+        if out.len() < 8 || out.len() - 8 < to {
+            break;
+        }
+        out[to..to + 8].copy_from_slice(eight);
+        to += 8;
+        rest = more;
+    }
+    for b in rest {
+        to = put(*b, out, to);
+    }
+    to
+}
+
+// By hand and without `write!` for the reason at `Writer`. `itoa` has its text by the library's
+// `decimal`, which no law here joins with `number`.
+fn put_number(n: usize, out: &mut [u8], at: usize) -> usize
+    ensures { Emits (number n) out.old at out.new result }
+{
+    if n < 10 {
+        return put(b'0' + n as u8, out, at);
+    }
+    let to = put_number(n / 10, out, at);
+    put(b'0' + (n % 10) as u8, out, to)
+}
+
 impl<'a> Writer<'a> {
     pub fn write_byte(&mut self, b: u8)
         ensures { Writes (b ∷ []) self.old self.new }
     {
-        let at = self.at;
-        self.at = at.saturating_add(1);
-        if at < self.out.len() {
-            self.out[at] = b;
-        }
+        self.at = put(b, self.out, self.at);
     }
 
     pub fn write_text(&mut self, text: &[u8])
         ensures { Writes text.now self.old self.new }
     {
-        for b in text {
-            self.write_byte(*b);
-        }
+        self.at = put_text(text, self.out, self.at);
     }
 
-    // A number in decimal, by hand and without `write!` for the reason above. `itoa` has its
-    // text by the library's `decimal`, which no law here joins with `number`.
+    // A number in decimal. One digit, as most numbers have, takes no call.
     pub fn write_number(&mut self, n: usize)
         ensures { Writes (number n) self.old self.new }
     {
-        if 10 <= n {
-            self.write_number(n / 10);
+        if n < 10 {
+            self.write_byte(b'0' + n as u8);
+        } else {
+            self.at = put_number(n, self.out, self.at);
         }
-        self.write_byte(b'0' + (n % 10) as u8);
     }
 }

@@ -4,5 +4,5 @@ use Rattle.practice.proofs.write_line.Goals as goal
 
 pub returns : goal.returns
 returns c =
-    a_line c.args.i c.args.seed.now c.write_text.ensures c.write_number.ensures c.write_text-2.ensures
-    c.write_expression.ensures c.write_byte.ensures
+    a_line c.args.i c.args.seed c.write_text.ensures c.write_number.ensures c.write_text-2.ensures
+    c.write_expression-next.ensures c.write_byte.ensures

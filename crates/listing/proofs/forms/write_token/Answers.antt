@@ -10,4 +10,4 @@ returns-in_err-write_kind c = fails c.from_residual.ensures.0 (unlisted-then c.w
 
 pub returns : goal.returns
 unfolding token fields
-returns c = done (and_then c.write_byte.ensures (and_then c.in_ok-write_kind.ensures.answers (and_then c.write_next_number.ensures (and_then c.write_next_number-2.ensures c.write_byte-2.ensures))))
+returns c = done (and_then c.write_byte.ensures (and_then c.in_ok-write_kind.ensures.answers (and_then (and_then c.write_gap.ensures c.write_number.ensures) (and_then c.write_next_number.ensures c.write_byte-2.ensures))))

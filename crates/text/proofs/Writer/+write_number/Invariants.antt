@@ -1,5 +1,0 @@
--- The number falls.
-use Rattle.text.proofs.Writer.+write_number.Given as goal
-
-abbrev pub decreases-write_number : goal.decreases-write_number
-decreases-write_number l = l.n
