@@ -389,6 +389,13 @@ impl<'l> Lexer<'l> {
     {
         Lexer { pos, ..self }
     }
+
+    // What stands at the position after blanks and comments, with the table of classes lent.
+    pub fn step(&self, classes: &Classes) -> Step
+        ensures { result ≡ step_at self.now.input.now self.now.pos }
+    {
+        step_with(classes, self.input, self.pos)
+    }
 }
 
 // The tokens and faults from the position on. Behind the last the position is the script's end.
@@ -400,7 +407,7 @@ impl<'l> Iterator for Lexer<'l> {
     ghost remaining = { λ s. at_most (length s.input.now - s.pos) };
 
     fn next(&mut self) -> Option<Result<Token, Fault>> {
-        match step(self.input, self.pos) {
+        match self.step(&Classes::new()) {
             Step::Token { token, next } => {
                 self.pos = next;
                 Some(Ok(token))
