@@ -6,8 +6,7 @@ use Rattle.tokens.proofs.fill.Goals as goal
 
 pub loop-token-init : goal.loop-token-init
 loop-token-init c =
-    let at = c.with_pos-lexer.ensures in
-    (
+    let at = c.with_pos-lexer.ensures in (
       rw at.1 (filled-start c.args.script.now c.args.tokens.now c.args.errors.now c.args.from c.args.before c.requires.1),
       rw (at.0, c.new.ensures.0) refl,
       refl,
