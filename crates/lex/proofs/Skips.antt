@@ -44,18 +44,15 @@ comment (b ∷ bs) = go (eqb b 10) refl (comment bs)
     go true q h = rw (eqb-true b 10 q) (omega arith)
     go false q h = simp (q, skipped, count_while, differs_from) (omega arith)
 
--- spaces are blanks
-abbrev pub is_space : ℕ → Bool
-is_space b = eqb b 32
-
-spaces : (bs : List ℕ) → count_while is_space bs + skipped false (drop (count_while is_space bs) bs) ≡ skipped false bs
+-- a run of blanks
+blanks : (bs : List ℕ) → count_while is_ws bs + skipped false (drop (count_while is_ws bs) bs) ≡ skipped false bs
 unfolding skipped count_while
-spaces [] = refl
-spaces (b ∷ bs) = go (eqb b 32) refl (spaces bs)
+blanks [] = refl
+blanks (b ∷ bs) = go (is_ws b) refl (blanks bs)
   where
-    go : (t : Bool) → eqb b 32 ≡ t → count_while is_space bs + skipped false (drop (count_while is_space bs) bs) ≡ skipped false bs
-        → count_while is_space (b ∷ bs) + skipped false (drop (count_while is_space (b ∷ bs)) (b ∷ bs)) ≡ skipped false (b ∷ bs)
-    go true q h = simp (q, space_separates b (eqb-true b 32 q), skipped, count_while) (omega arith)
+    go : (t : Bool) → is_ws b ≡ t → count_while is_ws bs + skipped false (drop (count_while is_ws bs) bs) ≡ skipped false bs
+        → count_while is_ws (b ∷ bs) + skipped false (drop (count_while is_ws (b ∷ bs)) (b ∷ bs)) ≡ skipped false (b ∷ bs)
+    go true q h = simp (q, skipped, count_while) (omega arith)
     go false q h = simp (q, count_while) (zero-add _)
 
 hash : (b next : ℕ) → begins_comment b next ≡ true → b ≡ 35
@@ -80,8 +77,8 @@ module _ (s : List ℕ) (i n : ℕ) (scanned : i + skipped false (drop i s) ≡ 
   unfolding skipped
   skip_end h = omega (arith, rw (drop_of_length-le s h) at scanned)
 
-  pub skip_spaces : (k : ℕ) → k ≡ i + count_while is_space (drop i s) → k + skipped false (drop k s) ≡ n
-  skip_spaces k e = rw (e, ← drop-drop (count_while is_space (drop i s)) i s) (omega (arith, spaces (drop i s)))
+  pub skip_blanks : (k : ℕ) → k ≡ i + count_while is_ws (drop i s) → k + skipped false (drop k s) ≡ n
+  skip_blanks k e = rw (e, ← drop-drop (count_while is_ws (drop i s)) i s) (omega (arith, blanks (drop i s)))
 
   module _ (h : i < length s) where
     pub skip_blank : is_ws (get_or s i 0) ≡ true → i + 1 + skipped false (drop (i + 1) s) ≡ n

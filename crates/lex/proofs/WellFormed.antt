@@ -1,5 +1,5 @@
 -- Laws of a token's well-formedness and of the length of `as_str`, a law for each case.
-use mathlib.Core.Path.{◌≡◌, refl, sym, ◌∙◌}
+use mathlib.Core.Path.{◌≡◌, refl, sym, ap, ◌∙◌}
 use mathlib.Core.Bool.{Bool, true, false, not, ◌&&◌}
 use mathlib.Core.List.{List, []}
 use mathlib.Core.Logic.{◌⊎◌, inl, inr}
@@ -11,7 +11,7 @@ use borrow.Author.Tests.{le-leb, lt-leb, lt-ltb, ltb-true, ltb-false, leb-true}
 use Rattle.std.specs.Prelude.{Option, Some, None, MatchOption, is_some}
 use Rattle.std.specs.Borrow.{Bor}
 use Rattle.lex.specs.Bytes.{between}
-use Rattle.lex.specs.Kind.{k_s, k_doc, keywords, fixed_spellings, fixed_spelling}
+use Rattle.lex.specs.Kind.{k_s, k_doc, keywords, fixed_spellings, fixed_spelling, kind_name, bytes_of, name_of, fixed_text}
 use Rattle.lex.specs.Spelling.{spelling_offset, spelling_start, has_spelling, spelling, well_formed, as_str_length}
 use Rattle.lex.specs.declared.tok.Token.{Token}
 use Rattle.lex.proofs.Laws.{cases, agree}
@@ -33,6 +33,19 @@ pub fixed_some : (k : ℕ) (o : Option (Bor (List ℕ))) → MatchOption o (leng
     → is_some o ≡ ltb 0 (length (fixed_spelling k))
 fixed_some k None h = rw h
 fixed_some k (Some t) h = sym (lt-ltb _ _ h.0)
+
+-- and determines its bytes, as the answer of `Type::name` does
+pub fixed_bytes : (k : ℕ) (o : Option (Bor (List ℕ))) → MatchOption o (length (fixed_spelling k) ≡ 0) (λ t. (0 < length (fixed_spelling k)) × (t.now ≡ fixed_spelling k))
+    → bytes_of o ≡ fixed_text k
+unfolding fixed_text
+fixed_bytes k None h = rw (h, fixed_text)
+fixed_bytes k (Some t) h = rw (lt-ltb 0 (length (fixed_spelling k)) h.0, fixed_text) (ap Some h.1)
+
+pub name_bytes : (k : ℕ) (o : Option (Bor (List ℕ))) → MatchOption o (between 1 43 k ≡ false) (λ n. (between 1 43 k ≡ true) × (n.now ≡ kind_name k))
+    → bytes_of o ≡ name_of k
+unfolding name_of
+name_bytes k None h = rw (h, name_of)
+name_bytes k (Some n) h = rw (h.0, name_of) (ap Some h.1)
 
 -- a kind with a spelling of its own is known
 pub own-known : (k : ℕ) → has_spelling k ≡ true → between 1 43 k ≡ true

@@ -1,8 +1,8 @@
 -- The kinds of token, numbered in the order of `Type`, the signs, the keyword table and the fixed
 -- spellings.
-use Rattle.std.specs.Prelude.{◌≡◌, ◌<◌, Bool, true, false, List, [], ◌∷◌, map, ℕ, eqb, get_or, Some, None, codes}
+use Rattle.std.specs.Prelude.{◌≡◌, ◌<◌, Bool, true, false, List, [], ◌∷◌, map, ℕ, eqb, ltb, length, get_or, Option, Some, None, codes}
 use Rattle.std.specs.Borrow.{Bor}
-use Rattle.lex.specs.Bytes.{find_byte}
+use Rattle.lex.specs.Bytes.{between, find_byte}
 
 abbrev pub k_eof : ℕ
 k_eof = 1
@@ -213,6 +213,10 @@ kind_names =
 unfoldable pub kind_name : ℕ → List ℕ
 kind_name kind = get_or kind_names kind []
 
+-- the name of a kind; none for a number that is no kind
+unfoldable pub name_of : ℕ → Option (List ℕ)
+name_of kind = elim (between 1 43 kind) [ true ↦ Some (kind_name kind) | false ↦ None ]
+
 -- the fixed spelling of each kind from 0 on; empty for S, D, I, Ident and Doc, whose tokens have
 -- their own
 unfoldable pub fixed_spellings : List (List ℕ)
@@ -227,3 +231,16 @@ fixed_spellings =
 -- what `as_str` gives for a kind; empty for a number that is no kind
 unfoldable pub fixed_spelling : ℕ → List ℕ
 fixed_spelling kind = get_or fixed_spellings kind []
+
+-- the fixed spelling of a kind that has one
+unfoldable pub fixed_text : ℕ → Option (List ℕ)
+fixed_text kind =
+    elim (ltb 0 (length (fixed_spelling kind))) [
+      | true ↦ Some (fixed_spelling kind)
+      | false ↦ None
+    ]
+
+-- the bytes of a text that is answered, if one is
+abbrev pub bytes_of : Option (Bor (List ℕ)) → Option (List ℕ)
+bytes_of None = None
+bytes_of (Some t) = Some t.now

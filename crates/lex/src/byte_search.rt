@@ -97,7 +97,8 @@ pub(crate) fn skip_ident_cont(classes: &Classes, haystack: &[u8]) -> usize
 pub(crate) fn skip_plain(needle: u8, haystack: &[u8]) -> usize
     ensures { result ≡ count_while (is_plain needle) haystack.now }
 {
-    let is_plain = |b: u8| (b < 0x80) & (b != needle);
+    // With its needle: lent, the compiled code would store it and read it back at each call.
+    let is_plain = move |b: u8| (b < 0x80) & (b != needle);
     count_front(haystack, is_plain, is_plain)
 }
 

@@ -74,7 +74,7 @@ fn skip_separators(classes: &Classes, script: &[u8], pos: usize) -> usize
     while p < script.len() {
         let b = script[p];
         if classes.separates(b) {
-            p += 1 + count_each(&script[p + 1..], |b| b == b' ');
+            p += 1 + count_each(&script[p + 1..], |b| classes.separates(b));
         } else if begins_comment(b, peek(script, p + 1)) {
             p += line_end(&script[p..]);
         } else {
@@ -309,30 +309,7 @@ fn piece(classes: &Classes, rest: &[u8]) -> Piece
 pub fn step_with(classes: &Classes, script: &[u8], pos: usize) -> Step
     ensures { result ≡ step_at script.now pos }
 {
-    let start = skip_whitespace(classes, script, pos);
-    if script.len() <= start {
-        return Step::End { at: start };
-    }
-    match piece(classes, &script[start..]) {
-        Piece::Token { kind, len, taken } => Step::Token {
-            token: Token { kind, start, len },
-            next: start + taken,
-        },
-        Piece::Fault {
-            number,
-            len,
-            seen,
-            taken,
-        } => Step::Fault {
-            fault: Fault {
-                number,
-                start,
-                len,
-                seen,
-            },
-            next: start + taken,
-        },
-    }
+    Lexer::new(script).with_pos(pos).step(classes)
 }
 
 // What stands at a position after blanks and comments.
@@ -389,6 +366,38 @@ impl<'l> Lexer<'l> {
     {
         Lexer { pos, ..self }
     }
+
+    // What stands at the position after blanks and comments, with the table of classes lent. The
+    // reading itself: of a call to it the compiled code would copy the answer at each turn of a loop.
+    pub fn step(&self, classes: &Classes) -> Step
+        ensures { result ≡ step_at self.now.input.now self.now.pos }
+    {
+        let script = self.input;
+        let start = skip_whitespace(classes, script, self.pos);
+        if script.len() <= start {
+            return Step::End { at: start };
+        }
+        match piece(classes, &script[start..]) {
+            Piece::Token { kind, len, taken } => Step::Token {
+                token: Token { kind, start, len },
+                next: start + taken,
+            },
+            Piece::Fault {
+                number,
+                len,
+                seen,
+                taken,
+            } => Step::Fault {
+                fault: Fault {
+                    number,
+                    start,
+                    len,
+                    seen,
+                },
+                next: start + taken,
+            },
+        }
+    }
 }
 
 // The tokens and faults from the position on. Behind the last the position is the script's end.
@@ -400,7 +409,7 @@ impl<'l> Iterator for Lexer<'l> {
     ghost remaining = { λ s. at_most (length s.input.now - s.pos) };
 
     fn next(&mut self) -> Option<Result<Token, Fault>> {
-        match step(self.input, self.pos) {
+        match self.step(&Classes::new()) {
             Step::Token { token, next } => {
                 self.pos = next;
                 Some(Ok(token))

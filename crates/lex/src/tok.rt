@@ -3,6 +3,7 @@ ghost use Rattle.std.specs.Prelude.{◌≡◌, true, false, [], ◌∷◌, ◌<�
 ghost use Rattle.lex.specs.Bytes.{between};
 ghost use Rattle.lex.specs.Kind.{same_bytes, keywords, name_kind};
 ghost use Rattle.lex.specs.Kind.{punctuator_kind, IsKindOf, text_at, kind_name, fixed_spelling};
+ghost use Rattle.lex.specs.Kind.{bytes_of, name_of, fixed_text};
 ghost use Rattle.lex.specs.Spelling.{spelling_offset, spelling as spelling_of};
 ghost use Rattle.lex.specs.Spelling.{well_formed, as_str_length};
 
@@ -32,12 +33,14 @@ impl Token {
 
 // A fault: its number, where its span starts and how long it is, and the byte that is seen; 0 but
 // for an unknown character. Who takes a fault writes both numbers: an enum would be turned back.
+// The byte stands between start and length: crate `tokens` stores both in a record, and side by
+// side the compiled code loads them in one step, which waits for the two steps that wrote them.
 #[derive(Clone, Copy)]
 pub struct Fault {
     pub number: u32,
     pub start: usize,
-    pub len: usize,
     pub seen: u8,
+    pub len: usize,
 }
 
 // What stands where no blank or comment begins: a token or a fault, its length, and how many bytes
@@ -234,7 +237,8 @@ impl Type {
 
     // The name of a kind in the Rust enum; none for a number that is no kind.
     pub fn name(kind: u32) -> Option<&'static str>
-        ensures { MatchOption result
+        ensures text { bytes_of result ≡ name_of kind }
+        ensures by_cases { MatchOption result
             (between 1 43 kind ≡ false)
             (λ n. (between 1 43 kind ≡ true) × (n.now ≡ kind_name kind)) }
     {
@@ -247,7 +251,8 @@ impl Type {
     // The fixed spelling of a kind; none for a kind whose tokens have spellings of their own, and
     // for a number that is no kind.
     pub fn fixed_spelling(kind: u32) -> Option<&'static str>
-        ensures { MatchOption result
+        ensures text { bytes_of result ≡ fixed_text kind }
+        ensures by_cases { MatchOption result
             (length (fixed_spelling kind) ≡ 0)
             (λ t. (0 < length (fixed_spelling kind)) × (t.now ≡ fixed_spelling kind)) }
     {

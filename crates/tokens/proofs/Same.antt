@@ -3,12 +3,12 @@
 use mathlib.Core.Path.{◌≡◌, refl, ◌∙◌, sym, ap}
 use mathlib.Core.Bool.{Bool, true, false, not, ◌&&◌}
 use mathlib.Core.List.{List, [], ◌∷◌, ◌++◌, flatten, append_assoc}
-use Prim.Native.Nat.{ℕ, ◌+◌, ◌*◌, ◌-◌, ◌≤◌}
+use Prim.Native.Nat.{ℕ, ◌+◌, ◌*◌, ◌-◌, ◌≤◌, ◌<◌}
 use native.Mathlib.Omega.{arith}
 use lib.Dec.{eqb}
 use lib.ListN.{length, take, drop, length-take, length-drop, take-append-drop}
 use lib.Seq.{drop-drop}
-use borrow.Author.Tests.{le-ltb}
+use borrow.Author.Tests.{lt-ltb, le-ltb}
 use Rattle.std.specs.List.{fold}
 use Rattle.lex.specs.Kind.{same_bytes}
 use Rattle.lex.specs.Lex.{cut_at, cut, tokens_of, Occurrence, faults_of}
@@ -181,6 +181,15 @@ module _ {script ts es : List ℕ} {n m pos : ℕ} (g : Agreeing script ts es n 
 -- ---- the answer
 
 module _ (script ts es : List ℕ) where
+  -- no where cutting refuses: over the most bytes, and with a short array
+  pub not_cut_long : 65536 < length script → false ≡ is_cut script ts es
+  unfolding is_cut
+  not_cut_long h = rw (lt-ltb 65536 (length script) h, is_cut)
+
+  pub not_cut_short : length script ≤ 65536 → too_short script ts es ≡ true → false ≡ is_cut script ts es
+  unfolding is_cut
+  not_cut_short h e = rw (le-ltb 65536 (length script) h, is_cut) (rw (e, is_cut))
+
   pub cut_wholly : {r : Bool} → length script ≤ 65536 → too_short script ts es ≡ false → r ≡ wholly script ts es → r ≡ is_cut script ts es
   unfolding is_cut
   cut_wholly h e f = f ∙ rw (le-ltb 65536 (length script) h, is_cut) (rw (e, is_cut))

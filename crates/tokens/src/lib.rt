@@ -13,7 +13,7 @@ ghost use Rattle.tokens.specs.Table.{token_at, token_of, error_at, occurrence_of
 ghost use Rattle.tokens.specs.Filling.{Stops};
 
 use lex::{
-    Classes, Diagnostic, Fault, MAX_BYTES, Refusal, Step, Token, Type, spelling_offset, step_with,
+    Classes, Diagnostic, Fault, Lexer, MAX_BYTES, Refusal, Step, Token, Type, spelling_offset,
 };
 
 // How many records each table has.
@@ -173,16 +173,16 @@ fn fill(
 {
     let mut n: usize = 0;
     let mut m: usize = 0;
-    let mut pos: usize = from;
+    let mut lexer = Lexer::new(script).with_pos(from);
     loop {
-        match step_with(classes, script, pos) {
+        match lexer.step(classes) {
             Step::Token { token, next } => {
                 if tokens.len() < TOKEN_WIDTH * n + TOKEN_WIDTH {
                     break;
                 }
                 put_token(script, tokens, n, token);
                 n += 1;
-                pos = next;
+                lexer.pos = next;
             }
             Step::Fault { fault, next } => {
                 if errors.len() < ERROR_WIDTH * m + ERROR_WIDTH {
@@ -190,7 +190,7 @@ fn fill(
                 }
                 put_error(errors, m, fault, before + n);
                 m += 1;
-                pos = next;
+                lexer.pos = next;
             }
             Step::End { at } => {
                 if tokens.len() < TOKEN_WIDTH * n + TOKEN_WIDTH {
@@ -208,7 +208,7 @@ fn fill(
     Stop {
         tokens: n,
         errors: m,
-        next: Some(pos),
+        next: Some(lexer.pos),
     }
 }
 

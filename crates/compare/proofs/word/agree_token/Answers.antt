@@ -12,7 +12,7 @@ pub returns-then-t-t2 : goal.returns-then-t-t2
 returns-then-t-t2 c = decides_no (λ g. c.if-t-t2.true (agree_kinds _ _ _ _ g))
 
 pub returns-in_default : goal.returns-in_default
-returns-in_default c = rw (c.is_some.ensures, fixed_some _ _ c.fixed_spelling.ensures) (agree_fixed _ _ _ _ c.if-t-t2.false (sym c.spelling.ensures ∙ c.in_default.is))
+returns-in_default c = rw (c.is_some.ensures, fixed_some _ _ c.fixed_spelling.ensures.by_cases) (agree_fixed _ _ _ _ c.if-t-t2.false (sym c.spelling.ensures ∙ c.in_default.is))
 
 pub returns-in_default-spelling : goal.returns-in_default-spelling
 returns-in_default-spelling c = decides_no (agree_lost _ _ _ _ c.if-t-t2.false _ (sym c.spelling.ensures ∙ c.in-Some.is) (sym c.spelling-2.ensures ∙ c.in_default-spelling.is))

@@ -10,4 +10,4 @@ returns-then-is_some c = c.if-is_some.true ∙ sym (well_formed-some _ _ (sym (a
 pub returns-else-is_some : goal.returns-else-is_some
 returns-else-is_some c =
     let nothing = sym (ap is_some c.spelling.ensures) ∙ sym c.is_some.ensures ∙ c.if-is_some.false in
-    c.is_some-else-is_some.ensures ∙ fixed_some _ _ c.fixed_spelling.ensures ∙ sym (well_formed-none _ _ nothing)
+    c.is_some-else-is_some.ensures ∙ fixed_some _ _ c.fixed_spelling.ensures.by_cases ∙ sym (well_formed-none _ _ nothing)
