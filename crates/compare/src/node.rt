@@ -16,7 +16,7 @@ use crate::type_expr::{agree_fns, agree_params, agree_type};
 use crate::view::View;
 use crate::word::{agree_token_at, agree_words, formed_at};
 use ast::decode::{cell, run_at};
-use ast::schema::{CASE_WIDTH, FIELD_WIDTH, NODE_WIDTH};
+use ast::schema::{CASE_WIDTH, NODE_WIDTH, Sort};
 use ast::{Node, NodeId, NodeKind, Run, TypeExprId};
 
 // A part of a node's record, with the cell in which it stands. `Nothing` and no `Option`: the parts
@@ -232,7 +232,11 @@ fn agree_name(a: &View, at: usize, b: &View, at2: usize, named: bool) -> bool
 fn member_cells(named: bool) -> usize
     ensures { result ≡ member_cells named }
 {
-    if named { FIELD_WIDTH } else { NODE_WIDTH }
+    if named {
+        Sort::Fields.width()
+    } else {
+        Sort::Nodes.width()
+    }
 }
 
 // The last part of two nodes in one order: nothing, a node, or a list of fields or of nodes. Only

@@ -37,7 +37,8 @@ pub struct Listed {
 }
 
 // The faults from record `from` of the error table on that are met before the token of record `at`.
-// What is answered is behind these: `from` itself where there are none, also past the table.
+// `errors` of the answer is the record behind these: `from` itself where there are none, also past
+// the table.
 // The count and the place stay parameters: both tables are lent by the caller apart.
 pub fn push_faults(errors: &[u32], diagnostics: &mut [u32], n: u32, from: usize, at: u32) -> Listed
     ensures { let before = diagnostics_of diagnostics.old n in
