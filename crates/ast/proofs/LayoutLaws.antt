@@ -19,6 +19,10 @@ outside : {A : Type 0} (xs : List (Option A)) (t : ℕ) → (0 < t → length xs
 outside xs zero h = refl
 outside xs (suc t) h = get_or-eq_default xs none (let l : length xs < suc t = h (omega arith) in omega arith)
 
+-- a number past k that is not the next one
+pub past : (k x : ℕ) → k < x → (x ≡ suc k → ⊥) → suc k < x
+past k x h n = omega arith
+
 pub node_unknown : (cs : List ℕ) → (0 < get_or cs 0 0 → 14 < get_or cs 0 0) → node_of cs ≡ none
 unfolding node_of nodes_by_kind
 node_unknown cs h = outside (nodes_by_kind cs) (get_or cs 0 0) h

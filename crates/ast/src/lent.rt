@@ -21,7 +21,7 @@ pub struct Tree<'a> {
     pub counts: Counts,
 }
 
-impl Tree<'_> {
+impl<'a> Tree<'a> {
     // Refused where the script is too long or an array too short for it.
     #[tactic(auto, unfolding(crate::specs::Answer::refusal))]
     pub fn refusal(&self) -> Result<(), Refusal>
@@ -41,8 +41,9 @@ impl Tree<'_> {
         Ok(())
     }
 
-    // The list cells in use: the first that are counted, or all where there are fewer.
-    pub fn cells(&self) -> &[u32]
+    // The list cells in use: the first that are counted, or all where there are fewer. They are lent
+    // for as long as the array is, whoever holds the tree.
+    pub fn cells(&self) -> &'a [u32]
         ensures { result.now ≡ cells_of (lent_of self.now) }
     {
         let n = self.counts.cells as usize;

@@ -56,7 +56,7 @@ abbrev pub Walking : {A L : Type 0} → Listing A L → Env → Env → (start s
 Walking k e e' start start' len at at' left = Walk k.sort (k.place e) (k.place e') e.cells e'.cells (Agree (k.list e (run_of start len)) (k.list e' (run_of start' len))) at at' left
 
 module _ {A L : Type 0} (k : Listing A L) {e e' : Env} where
-  begin : {start start' len : ℕ} → start + len * k.sort.size ≤ length e.cells → start' + len * k.sort.size ≤ length e'.cells
+  pub begin : {start start' len : ℕ} → start + len * k.sort.size ≤ length e.cells → start' + len * k.sort.size ≤ length e'.cells
       → start + len * k.sort.size < 18446744073709551616 → start' + len * k.sort.size < 18446744073709551616 → Walking k e e' start start' len start start' len
   begin {start} {start'} {len} h h' b b' = W.begin k.sort _ _ _ _ (k.are e (run_of start len)) (k.are e' (run_of start' len)) h h' b b'
 
@@ -81,17 +81,17 @@ module _ {A L : Type 0} (k : Listing A L) {e e' : Env} where
     not-in_step z f = decides_no (λ b. f (rw z (steps b)))
 
     module _ (m : r.len ≡ r'.len) {at at' left : ℕ} (w : Walking k e e' r.start r'.start r.len at at' left) where
-      step : 0 < left → Agree (k.place e at) (k.place e' at') → Walking k e e' r.start r'.start r.len (at + k.sort.size) (at' + k.sort.size) (left - 1)
+      pub step : 0 < left → Agree (k.place e at) (k.place e' at') → Walking k e e' r.start r'.start r.len (at + k.sort.size) (at' + k.sort.size) (left - 1)
       step h b = W.step k.sort _ _ _ _ w h b
 
-      stop : 0 < left → (Agree (k.place e at) (k.place e' at') → ⊥) → Decides false (Agree (k.list e r) (k.list e' r'))
+      pub stop : 0 < left → (Agree (k.place e at) (k.place e' at') → ⊥) → Decides false (Agree (k.list e r) (k.list e' r'))
       stop h f = as_runs (k.list e) (k.list e') r r' m (decides_no (W.stop k.sort _ _ _ _ w h f))
 
-      done : left ≡ 0 → Decides true (Agree (k.list e r) (k.list e' r'))
+      pub done : left ≡ 0 → Decides true (Agree (k.list e r) (k.list e' r'))
       done z = as_runs (k.list e) (k.list e') r r' m (decides_yes (W.done k.sort _ _ _ _ w z))
 
       -- the last member decides
-      last : {b : Bool} → left ≡ 1 → Decides b (Agree (k.place e at) (k.place e' at')) → Decides b (Agree (k.list e r) (k.list e' r'))
+      pub last : {b : Bool} → left ≡ 1 → Decides b (Agree (k.place e at) (k.place e' at')) → Decides b (Agree (k.list e r) (k.list e' r'))
       last z d = as_runs (k.list e) (k.list e') r r' m (decides_by (λ a. W.done k.sort _ _ _ _ (W.step k.sort _ _ _ _ w (omega arith) a) (omega arith)) (W.first k.sort _ _ _ _ w (omega arith)) d)
 
 -- ---- the walk over pairs of places

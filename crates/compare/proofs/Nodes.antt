@@ -8,7 +8,7 @@ use native.Mathlib.Omega.{arith}
 use native.Mathlib.Nat.{add-zero, zero-add}
 use lib.Dec.{ltb, leb}
 use lib.ListN.{length, get_or, get_or-eq_default}
-use borrow.Author.Tests.{leb-true, leb-false, ltb-true, ltb-false}
+use borrow.Author.Tests.{leb-true, leb-false, ltb-true, ltb-false, ne_eqb}
 use Rattle.lex.proofs.Laws.{agree}
 use Rattle.ast.specs.Layout.{node_width}
 use Rattle.ast.specs.Schema.{node_schema}
@@ -395,6 +395,11 @@ module _ (v v' : View) (n i m j : ℕ) where
 
 pub node-kind_bound : (xs : List ℕ) (i : ℕ) {g : ℕ} → g ≡ node_kind xs i → g < 15
 node-kind_bound xs i e = rw e (let h = kind_bound 14 xs node_width i in omega arith)
+
+-- no other number is that of a sort
+pub part_nothing : (k : ℕ) → (k ≡ 1 → ⊥) → (k ≡ 2 → ⊥) → (k ≡ 3 → ⊥) → (k ≡ 4 → ⊥) → (k ≡ 5 → ⊥) → (k ≡ 6 → ⊥) → (k ≡ 7 → ⊥) → (k ≡ 8 → ⊥) → (k ≡ 9 → ⊥) → part_of k ≡ nothing
+unfolding part_of
+part_nothing k a b c d e f g h i = rw (ne_eqb k 1 a, ne_eqb k 2 b, ne_eqb k 3 c, ne_eqb k 4 d, ne_eqb k 5 e, ne_eqb k 6 f, ne_eqb k 7 g, ne_eqb k 8 h, ne_eqb k 9 i)
 
 -- where nothing stands, nothing differs
 pub nothing_agrees : (e e' : Env) (xs : List ℕ) (o : ℕ) (xs' : List ℕ) (o' : ℕ) → PartAgrees e e' nothing xs o xs' o'

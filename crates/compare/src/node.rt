@@ -16,7 +16,7 @@ use crate::type_expr::{agree_fns, agree_params, agree_type};
 use crate::view::View;
 use crate::word::{agree_token_at, agree_words, formed_at};
 use ast::decode::{cell, run_at};
-use ast::schema::{CASE_WIDTH, FIELD_WIDTH, NODE_WIDTH};
+use ast::schema::{CASE_WIDTH, NODE_WIDTH, Sort};
 use ast::{Node, NodeId, NodeKind, Run, TypeExprId};
 
 // A part of a node's record, with the cell in which it stands. `Nothing` and no `Option`: the parts
@@ -44,9 +44,9 @@ enum Last {
 }
 
 // The orders in which the parts of a node are compared: one for each kind, and two more. Its kind's
-// own one has the left side of an operator and the target of a call last; where that is a name or
-// an atom, it is compared first. Either order decides the same, and so chains on the right and in
-// arguments take no stack either.
+// own one has the left side of an operator and the target of a call last; where that is a name, an
+// atom or no node, it is compared first. Either order decides the same, and so chains on the right
+// and in arguments take no stack either.
 // An enum, no closures: what is last is a call in `agree_node`'s own frame, which takes no stack.
 #[derive(Clone, Copy)]
 enum Order {
@@ -144,9 +144,10 @@ impl Order {
     }
 }
 
-// Node `i` is a name or an atom.
+// Node `i` is a name or an atom, or is no node: then the comparison ends there, and nothing else is
+// gone into before.
 fn is_leaf(nodes: &[u32], i: u32) -> bool {
-    kind_at(nodes, Node::WIDTH, NodeKind::ARRAY, i).is_some_and(|kind| kind <= NodeKind::IDENT)
+    kind_at(nodes, Node::WIDTH, NodeKind::ARRAY, i).is_none_or(|kind| kind <= NodeKind::IDENT)
 }
 
 // The order for node `i` of a known kind: 1 to 14, by `kind_at`. An enum of them would be
@@ -231,7 +232,11 @@ fn agree_name(a: &View, at: usize, b: &View, at2: usize, named: bool) -> bool
 fn member_cells(named: bool) -> usize
     ensures { result ≡ member_cells named }
 {
-    if named { FIELD_WIDTH } else { NODE_WIDTH }
+    if named {
+        Sort::Fields.width()
+    } else {
+        Sort::Nodes.width()
+    }
 }
 
 // The last part of two nodes in one order: nothing, a node, or a list of fields or of nodes. Only

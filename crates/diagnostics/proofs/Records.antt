@@ -15,7 +15,7 @@ use Rattle.diagnostics.specs.Records.{Diagnostics, diagnostics, Holding, max_cou
 -- ---- one record
 
 module _ (cells : List ℕ) (n : ℕ) (d : Diagnostic) where
-  pushed_room : n < max_count → 5 * n + 5 ≤ length cells
+  pub pushed_room : n < max_count → 5 * n + 5 ≤ length cells
       → pushed (diagnostics cells n) d ≡ diagnostics (take (5 * n) cells ++ diagnostic_cells d ++ drop (5 * n + 5) cells) (n + 1)
   unfolding pushed
   pushed_room h k = rw (lt-ltb n max_count h, pushed) (rw (le-leb (5 * n + 5) (length cells) k, pushed))

@@ -2,7 +2,7 @@
 // in which they are met.
 #![tactic(auto)]
 
-ghost use Rattle.std.specs.Prelude.{◌≡◌};
+ghost use Rattle.std.specs.Prelude.{◌≡◌, ◌+◌, length};
 ghost use mathlib.Core.List.{foldl};
 ghost use Rattle.tokens.specs.Table.{errors_from};
 ghost use Rattle.diagnostics.specs.Records.{diagnostics as diagnostics_of, pushed};
@@ -37,13 +37,16 @@ pub struct Listed {
 }
 
 // The faults from record `from` of the error table on that are met before the token of record `at`.
+// `errors` of the answer is the record behind these: `from` itself where there are none, also past
+// the table.
 // The count and the place stay parameters: both tables are lent by the caller apart.
 pub fn push_faults(errors: &[u32], diagnostics: &mut [u32], n: u32, from: usize, at: u32) -> Listed
     ensures { let before = diagnostics_of diagnostics.old n in
         let after = diagnostics_of diagnostics.new result.diagnostics in
         let faults = errors_from errors.now from in
         (after ≡ foldl pushed before (diagnostics_in (early at faults)))
-        × (errors_from errors.now result.errors ≡ late at faults) }
+        × (errors_from errors.now result.errors ≡ late at faults)
+        × (result.errors ≡ from + length (early at faults)) }
 {
     let mut count = n;
     let records = errors.len() / ERROR_WIDTH;
@@ -59,6 +62,6 @@ pub fn push_faults(errors: &[u32], diagnostics: &mut [u32], n: u32, from: usize,
     }
     Listed {
         diagnostics: count,
-        errors: records,
+        errors: records.max(from),
     }
 }

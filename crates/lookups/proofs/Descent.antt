@@ -117,19 +117,19 @@ module _ (script types : List ℕ) where
   unfoldable pub inner : ℕ → ℕ → Option Token
   inner = entries_below (type_token_row script) (type_at types)
 
-  token-none : (i : ℕ) → type_at types i ≡ none → type_token_at script types i ≡ none
+  pub token-none : (i : ℕ) → type_at types i ≡ none → type_token_at script types i ≡ none
   unfolding entry_at and_then
   token-none i e = rw e
 
-  token-some : (i : ℕ) {t : TypeExpr} → type_at types i ≡ some t → type_token_at script types i ≡ type_token_of script (inner i) t
+  pub token-some : (i : ℕ) {t : TypeExpr} → type_at types i ≡ some t → type_token_at script types i ≡ type_token_of script (inner i) t
   unfolding entry_at and_then inner
   token-some i e = rw e
 
-  inner_below : (i j : ℕ) → j < i → inner i j ≡ type_token_at script types j
+  pub inner_below : (i j : ℕ) → j < i → inner i j ≡ type_token_at script types j
   unfolding inner
   inner_below i j h = entries_below_lem (type_token_row script) (type_at types) i j h
 
-  inner_past : (i j : ℕ) → i ≤ j → inner i j ≡ none
+  pub inner_past : (i j : ℕ) → i ≤ j → inner i j ≡ none
   unfolding inner
   inner_past i j h = entries_past (type_token_row script) (type_at types) i j h
 

@@ -1,10 +1,12 @@
 -- What the test of a record says of a lookup's answer.
-use mathlib.Core.Path.{◌≡◌, refl}
+use mathlib.Core.Path.{◌≡◌, refl, sym, ◌∙◌}
 use mathlib.Core.Bool.{Bool, true, false}
 use mathlib.Core.Option.{Option, none, some}
 use mathlib.Core.List.{List}
-use Prim.Native.Nat.{ℕ, zero, suc}
+use Prim.Native.Nat.{ℕ, zero, suc, ◌+◌, ◌*◌, ◌<◌, ◌≤◌}
 use lib.Dec.{ltb}
+use lib.ListN.{length}
+use borrow.Author.Tests.{lt-ltb, le-ltb, lt-leb}
 use Rattle.std.specs.Prelude as R
 use Rattle.std.specs.Prelude.{Ok}
 use Rattle.std.specs.Bool.{⊤}
@@ -48,6 +50,16 @@ pub refused-lent : {A : Type 0} (l : Lent) (count size : ℕ) (xs : List ℕ) (i
 unfolding record_asked unless
 refused-lent l count size xs i a zero e h = absurd (h refl)
 refused-lent l count size xs i a (suc m) e h = rw (← e) refl
+
+-- and where it isn't: 3 for a record that is not in use, or that the array does not hold
+module _ {A : Type 0} (l : Lent) (count size : ℕ) (xs : List ℕ) (i : ℕ) (a : Answer A) (r : ℕ) (e : r ≡ refusal l) where
+  pub refused-count : r ≡ 0 → count ≤ i → refused 3 ≡ record_asked l count size xs i a
+  unfolding record_asked unless
+  refused-count z h = rw (sym e ∙ z, record_asked) (rw (le-ltb i count h))
+
+  pub refused-array : r ≡ 0 → i < count → length xs < size * i + size → refused 3 ≡ record_asked l count size xs i a
+  unfolding record_asked unless
+  refused-array z h o = rw (sym e ∙ z, record_asked) (rw (lt-ltb i count h, lt-leb (size * i + size) (length xs) o))
 
 pub start_answered : (x : Option (Option ℕ)) → start_answer (start_or (Ok R.None) (as_start x)) ≡ unless_malformed x
 unfolding start_answer start_or as_start unless_malformed

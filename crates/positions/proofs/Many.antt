@@ -111,6 +111,10 @@ module _ (script : List ℕ) (short : length script ≤ max_bytes) where
 -- ---- how the call ends
 
 module _ (script ps places : List ℕ) where
+  pub ends_long : max_bytes < length script → outcome (refused 1) places ≡ line_columns script ps places
+  unfolding line_columns
+  ends_long h = rw (lt-ltb max_bytes (length script) h)
+
   module _ (short : length script ≤ max_bytes) where
     pub ends_cramped : length places < 2 * length ps → outcome (refused 50) places ≡ line_columns script ps places
     unfolding line_columns

@@ -2,7 +2,7 @@
 use Rattle.std.proofs.Common.{arith, ◌∙◌, sym, ap}
 use Rattle.lex.specs.Lex.{Occurrence}
 use Rattle.diagnostics.specs.Records.{diagnostics, pushed}
-use Rattle.diagnostics.proofs.Faults.{pushing_none, pushing_all, pushing_out, pushing_on}
+use Rattle.diagnostics.proofs.Faults.{pushing_none, pushing_all, counted_past, pushing_out, pushing_on}
 use Rattle.diagnostics.proofs.push_faults.Goals.{then-e-eq0-via-then-e-eq0, then-e-eq0-via-else-e-eq0+then-at-e}
 use Rattle.diagnostics.proofs.push_faults.Goals as goal
 
@@ -27,4 +27,6 @@ loop-i-preserved c = (
 )
 
 pub returns : goal.returns
-returns c = pushing_all c.loop-i.invariant.0 _ (omega arith) (omega arith)
+returns c =
+    let all = pushing_all c.loop-i.invariant.0 c.max.result (omega arith) (omega arith) in
+    (all.0, all.1, c.max.ensures ∙ counted_past c.loop-i.invariant.0 (omega arith) (λ h. omega arith))
