@@ -21,7 +21,7 @@ use Rattle.rules.specs.Shape.{Word, TypeShape, Params, FnShape, Shape, Shapes, F
 use Rattle.ast.specs.declared.Run.{Run}
 use Rattle.compare.specs.Agree.{Agree, Decides}
 use Rattle.compare.proofs.Agree.{decides_yes, decides_no, decides_not, decides_by}
-use Rattle.compare.specs.Pairs.{InStep, ArePairs, GivesPlaces, TakesLast}
+use Rattle.compare.specs.Pairs.{InStep, ArePairs, Room, GivesPlaces, TakesLast}
 use Rattle.compare.specs.declared.pairs.Pairs.{Pairs}
 use Rattle.compare.proofs.Walk as W
 use Rattle.compare.proofs.Walk.{Sort, IsList, Walk, run_of, as_runs, FnParts}
@@ -143,6 +143,10 @@ module _ {A L : Type 0} (k : Listing A L) {e e' : Env} {r r' : Run} where
     pub differs : Paired k e e' r r' p → (Agree (k.place e at) (k.place e' at') → ⊥) → Decides false (Agree (k.list e r) (k.list e' r'))
     differs w f = stop k w.lengths w.walk g.0 (rw (here q g, here' q g) at f)
 
+    -- it is the last, and decides
+    pub decides-last : {b : Bool} → Paired k e e' r r' p → q.left ≡ 0 → Decides b (Agree (k.place e at) (k.place e' at')) → Decides b (Agree (k.list e r) (k.list e' r'))
+    decides-last w z d = last k w.lengths w.walk (omega (arith, g.4)) (rw (here q g, here' q g) at d)
+
     module _ {last last' : ℕ} (w : Before k e e' r r' last last' p) where
       pub next-before : Agree (k.place e at) (k.place e' at') → Before k e e' r r' last last' q
       next-before b =
@@ -158,6 +162,10 @@ module _ {A L : Type 0} (k : Listing A L) {e e' : Env} {r r' : Run} where
 
       pub differs-before : (Agree (k.place e at) (k.place e' at') → ⊥) → Decides false (Agree (k.list e r) (k.list e' r'))
       differs-before f = stop k w.lengths w.walk (omega arith) (rw (here q g, here' q g) at f)
+
+  -- the places that are left fit a word
+  pub room : {p : Pairs} → Paired k e e' r r' p → Room p
+  room w = rw w.width (w.walk.small, w.walk.small')
 
   -- none is left
   pub over : {p : Pairs} → Paired k e e' r r' p → p.left ≡ 0 → Decides true (Agree (k.list e r) (k.list e' r'))

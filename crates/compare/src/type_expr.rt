@@ -56,26 +56,22 @@ pub(crate) fn agree_type(a: &View, n: u32, i: TypeExprId, b: &View, m: u32, j: T
     let Some(mut pairs) = Pairs::new(a.cells, r, b.cells, r2, PARAM_WIDTH) else {
         return false;
     };
-    let Some((last, last2)) = pairs.take_last() else {
-        return true;
-    };
-    // a `for`, since a closure in a cycle of calls wants a clause that is longer than this loop
-    for (at, at2) in pairs {
+    // A `while`, since the pairs that are left say which field is the last. The places of the last
+    // pair, taken off before a `for`, would take 32 bytes of stack at each level.
+    while let Some((at, at2)) = pairs.next() {
         if !agree_token_at(a, a.cells, at, b, b.cells, at2) {
             return false;
         }
         let field = TypeExprId(cell(a.cells, at, 3));
         let field2 = TypeExprId(cell(b.cells, at2, 3));
+        if pairs.left == 0 {
+            return agree_type(a, i.0, field, b, j.0, field2);
+        }
         if !agree_type(a, i.0, field, b, j.0, field2) {
             return false;
         }
     }
-    if !agree_token_at(a, a.cells, last, b, b.cells, last2) {
-        return false;
-    }
-    let field = TypeExprId(cell(a.cells, last, 3));
-    let field2 = TypeExprId(cell(b.cells, last2, 3));
-    agree_type(a, i.0, field, b, j.0, field2)
+    true
 }
 
 // Names with their types, those below `n` and `m`.

@@ -4,7 +4,7 @@ use Rattle.compare.proofs.Agree.{decides_no, decides_not, decides_by}
 use Rattle.compare.proofs.Types.{type_past_left, type_past_right, type-zero_left, type-zero_right, other_kind, option_agrees, array_agrees, token_differs, token_agrees, record_agrees}
 use Rattle.rules.specs.Shape.{w}
 use Rattle.compare.proofs.Walk.{pair_agree, pair_parts}
-use Rattle.compare.proofs.Listing.{param_lists, not-in_step, paired, over, taken, next-before, differs-before, last-pair}
+use Rattle.compare.proofs.Listing.{param_lists, not-in_step, paired, room, over, next, differs, decides-last}
 use Rattle.compare.proofs.type_expr.+agree_type.Goals as goal
 use Rattle.compare.proofs.type_expr.+agree_type.Goals.{then-kind-eq-OPTION-via-then-kind-eq-OPTION, then-kind-eq-OPTION-via-else-kind-eq-OPTION+then-kind-eq-ARRAY}
 
@@ -37,38 +37,35 @@ returns-then-kind-ne-RECORD t c = token_agrees _ _ _ _ _ _ _ _ _ _ c.if-n-i.fals
 pub returns-in_default-new : goal.returns-in_default-new
 returns-in_default-new t c = record_agrees _ _ _ _ _ _ _ _ _ _ c.if-n-i.false c.if-m-j.false c.in-Some.ensures.0 c.in-Some-kind_at.ensures.0 c.if-kind-kind2.false c.if-kind-ne-RECORD.false (c.agree_token_at.ensures.holds c.if-not-agree_token_at.false) c.run_at-r.ensures c.run_at-r2.ensures (not-in_step param_lists refl c.in_default-new.ensures)
 
-pub returns-in_default-take_last : goal.returns-in_default-take_last
-returns-in_default-take_last t c =
-    let a = rw (c.run_at-r.ensures, c.run_at-r2.ensures) at c.in-Some-new.ensures in
-    record_agrees _ _ _ _ _ _ _ _ _ _ c.if-n-i.false c.if-m-j.false c.in-Some.ensures.0 c.in-Some-kind_at.ensures.0 c.if-kind-kind2.false c.if-kind-ne-RECORD.false (c.agree_token_at.ensures.holds c.if-not-agree_token_at.false) refl refl (over param_lists (paired param_lists refl a refl) c.in_default-take_last.ensures.0)
-
 pub loop-at-init : goal.loop-at-init
 loop-at-init t c =
     let a = rw (c.run_at-r.ensures, c.run_at-r2.ensures) at c.in-Some-new.ensures in
-    rw c.into_iter-at-iterator.ensures.into_iter_gives (taken param_lists _ _ c.take_last.new.self (paired param_lists refl a refl) c.in-Some-take_last.ensures)
+    paired param_lists refl a refl
+
+pub next-requires : goal.next-requires
+next-requires t c = room param_lists c.loop-at.invariant
 
 pub returns-then-not-agree_token_at-2 : goal.returns-then-not-agree_token_at-2
 unfolding w
-returns-then-not-agree_token_at-2 t c = record_agrees _ _ _ _ _ _ _ _ _ _ c.if-n-i.false c.if-m-j.false c.in-Some.ensures.0 c.in-Some-kind_at.ensures.0 c.if-kind-kind2.false c.if-kind-ne-RECORD.false (c.agree_token_at.ensures.holds c.if-not-agree_token_at.false) refl refl (differs-before param_lists _ _ c.next.new.self c.in-Some-2.ensures.steps c.loop-at.invariant (λ b. decides_not _ c.if-not-agree_token_at-2.true c.agree_token_at-in-loop-at.ensures (pair_parts _ _ _ _ b).0))
+returns-then-not-agree_token_at-2 t c = record_agrees _ _ _ _ _ _ _ _ _ _ c.if-n-i.false c.if-m-j.false c.in-Some.ensures.0 c.in-Some-kind_at.ensures.0 c.if-kind-kind2.false c.if-kind-ne-RECORD.false (c.agree_token_at.ensures.holds c.if-not-agree_token_at.false) refl refl (differs param_lists _ _ c.next.new.self c.in-Some-next.ensures.steps c.loop-at.invariant (λ b. decides_not _ c.if-not-agree_token_at-2.true c.agree_token_at-in-Some-next.ensures (pair_parts _ _ _ _ b).0))
+
+pub returns-then-pairs-eq0 : goal.returns-then-pairs-eq0
+unfolding w
+returns-then-pairs-eq0 t c =
+    let q = rw (c.cell-in-Some-next.ensures, c.cell-in-Some-next-2.ensures) at c.agree_type-then-pairs-eq0.ensures in
+    record_agrees _ _ _ _ _ _ _ _ _ _ c.if-n-i.false c.if-m-j.false c.in-Some.ensures.0 c.in-Some-kind_at.ensures.0 c.if-kind-kind2.false c.if-kind-ne-RECORD.false (c.agree_token_at.ensures.holds c.if-not-agree_token_at.false) refl refl (decides-last param_lists _ _ c.next.new.self c.in-Some-next.ensures.steps c.loop-at.invariant c.if-pairs-eq0.true (decides_by (pair_agree (c.agree_token_at-in-Some-next.ensures.holds c.if-not-agree_token_at-2.false)) (λ b. (pair_parts _ _ _ _ b).1) q))
 
 pub returns-then-not-agree_type : goal.returns-then-not-agree_type
 unfolding w
 returns-then-not-agree_type t c =
-    let q = rw (c.cell-in-loop-at.ensures, c.cell-in-loop-at-2.ensures) at c.agree_type-in-loop-at.ensures in
-    record_agrees _ _ _ _ _ _ _ _ _ _ c.if-n-i.false c.if-m-j.false c.in-Some.ensures.0 c.in-Some-kind_at.ensures.0 c.if-kind-kind2.false c.if-kind-ne-RECORD.false (c.agree_token_at.ensures.holds c.if-not-agree_token_at.false) refl refl (differs-before param_lists _ _ c.next.new.self c.in-Some-2.ensures.steps c.loop-at.invariant (λ b. decides_not _ c.if-not-agree_type.true q (pair_parts _ _ _ _ b).1))
+    let q = rw (c.cell-in-Some-next.ensures, c.cell-in-Some-next-2.ensures) at c.agree_type-in-Some-next.ensures in
+    record_agrees _ _ _ _ _ _ _ _ _ _ c.if-n-i.false c.if-m-j.false c.in-Some.ensures.0 c.in-Some-kind_at.ensures.0 c.if-kind-kind2.false c.if-kind-ne-RECORD.false (c.agree_token_at.ensures.holds c.if-not-agree_token_at.false) refl refl (differs param_lists _ _ c.next.new.self c.in-Some-next.ensures.steps c.loop-at.invariant (λ b. decides_not _ c.if-not-agree_type.true q (pair_parts _ _ _ _ b).1))
 
 pub loop-at-preserved : goal.loop-at-preserved
 unfolding w
 loop-at-preserved t c =
-    let q = rw (c.cell-in-loop-at.ensures, c.cell-in-loop-at-2.ensures) at c.agree_type-in-loop-at.ensures in
-    next-before param_lists _ _ c.next.new.self c.in-Some-2.ensures.steps c.loop-at.invariant (pair_agree (c.agree_token_at-in-loop-at.ensures.holds c.if-not-agree_token_at-2.false) (q.holds c.if-not-agree_type.false))
-
-pub returns-then-not-agree_token_at-3 : goal.returns-then-not-agree_token_at-3
-unfolding w
-returns-then-not-agree_token_at-3 t c = record_agrees _ _ _ _ _ _ _ _ _ _ c.if-n-i.false c.if-m-j.false c.in-Some.ensures.0 c.in-Some-kind_at.ensures.0 c.if-kind-kind2.false c.if-kind-ne-RECORD.false (c.agree_token_at.ensures.holds c.if-not-agree_token_at.false) refl refl (last-pair param_lists c.loop-at.invariant c.in-None.ensures.steps.0 (decides_no (λ b. decides_not _ c.if-not-agree_token_at-3.true c.agree_token_at-2.ensures (pair_parts _ _ _ _ b).0)))
+    let q = rw (c.cell-in-Some-next.ensures, c.cell-in-Some-next-2.ensures) at c.agree_type-in-Some-next.ensures in
+    next param_lists _ _ c.next.new.self c.in-Some-next.ensures.steps c.loop-at.invariant (pair_agree (c.agree_token_at-in-Some-next.ensures.holds c.if-not-agree_token_at-2.false) (q.holds c.if-not-agree_type.false))
 
 pub returns : goal.returns
-unfolding w
-returns t c =
-    let q = rw (c.cell-2.ensures, c.cell-3.ensures) at c.agree_type-2.ensures in
-    record_agrees _ _ _ _ _ _ _ _ _ _ c.if-n-i.false c.if-m-j.false c.in-Some.ensures.0 c.in-Some-kind_at.ensures.0 c.if-kind-kind2.false c.if-kind-ne-RECORD.false (c.agree_token_at.ensures.holds c.if-not-agree_token_at.false) refl refl (last-pair param_lists c.loop-at.invariant c.in-None.ensures.steps.0 (decides_by (pair_agree (c.agree_token_at-2.ensures.holds c.if-not-agree_token_at-3.false)) (λ b. (pair_parts _ _ _ _ b).1) q))
+returns t c = record_agrees _ _ _ _ _ _ _ _ _ _ c.if-n-i.false c.if-m-j.false c.in-Some.ensures.0 c.in-Some-kind_at.ensures.0 c.if-kind-kind2.false c.if-kind-ne-RECORD.false (c.agree_token_at.ensures.holds c.if-not-agree_token_at.false) refl refl (over param_lists c.loop-at.invariant c.in_default-next.ensures.steps.0)
