@@ -1,11 +1,12 @@
 -- When two nodes agree: their kinds are the same, and their parts agree.
 use mathlib.Core.Path.{◌≡◌, refl, sym, ◌∙◌, ap, ap₂, subst}
+use mathlib.Core.Logic.{⊎_elim}
 use mathlib.Core.Bool.{Bool, true, false}
 use mathlib.Core.Option.{Option, none, some}
 use mathlib.Core.List.{List, [], ◌∷◌}
 use Prim.Native.Nat.{ℕ, zero, suc, ◌+◌, ◌*◌, ◌<◌, ◌≤◌}
 use native.Mathlib.Omega.{arith}
-use native.Mathlib.Nat.{add-zero, zero-add}
+use native.Mathlib.Nat.{add-zero, zero-add, eq-or-lt_of_le}
 use lib.Dec.{ltb, leb}
 use lib.ListN.{length, get_or, get_or-eq_default}
 use borrow.Author.Tests.{leb-true, leb-false, ltb-true, ltb-false, ne_eqb}
@@ -395,6 +396,10 @@ module _ (v v' : View) (n i m j : ℕ) where
 
 pub node-kind_bound : (xs : List ℕ) (i : ℕ) {g : ℕ} → g ≡ node_kind xs i → g < 15
 node-kind_bound xs i e = rw e (let h = kind_bound 14 xs node_width i in omega arith)
+
+-- one more part
+pub more_parts : (P : ℕ → Type 0) (x : ℕ) → ((y : ℕ) → y < x → P y) → P x → (y : ℕ) → y < x + 1 → P y
+more_parts P x f p y l = ⊎_elim (λ (e : y ≡ x). subst P (sym e) p) (λ (h : y < x). f y h) (eq-or-lt_of_le (let h : y ≤ x = omega arith in h))
 
 -- no other number is that of a sort
 pub part_nothing : (k : ℕ) → (k ≡ 1 → ⊥) → (k ≡ 2 → ⊥) → (k ≡ 3 → ⊥) → (k ≡ 4 → ⊥) → (k ≡ 5 → ⊥) → (k ≡ 6 → ⊥) → (k ≡ 7 → ⊥) → (k ≡ 8 → ⊥) → (k ≡ 9 → ⊥) → part_of k ≡ nothing

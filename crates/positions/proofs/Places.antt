@@ -95,6 +95,10 @@ pub record Counted (n : ℕ) (bs : List ℕ) (i f s : ℕ) : Type 0 where
   pub fed : f + feeds (drop i bs) ≡ feeds bs
   pub passed : since s (drop i bs) ≡ since n bs
 
+-- nothing is counted yet
+pub counted_none : (n : ℕ) (bs : List ℕ) → Counted n bs 0 0 n
+counted_none n bs = record { at = omega arith; lines = omega arith; columns = omega arith; fed = zero-add (feeds bs); passed = refl }
+
 module _ (n : ℕ) (bs : List ℕ) (i f s : ℕ) (h : i < length bs) (c : Counted n bs i f s) where
   next : drop i bs ≡ get_or bs i 0 ∷ drop (i + 1) bs
   next = rw add-one (drop-cons bs i 0 h)
