@@ -34,8 +34,8 @@ use ast::{Counts, DIAGNOSTIC_WIDTH, Node, NodeId, Parsed, ReadError, TypeExpr};
 use diagnostics::{Listed, push_diagnostic, push_faults};
 use lex::{Diagnostic, Refusal, Type};
 use parser_items::{Source, member};
-use parser_state::{Parser, Used};
-use tokens::{ERROR_WIDTH, TOKEN_WIDTH, clear_from, cut, is_cut, token_at};
+use parser_state::Parser;
+use tokens::{ERROR_WIDTH, TOKEN_WIDTH, clear_from, cut, is_cut};
 
 // ---- arrays
 
@@ -305,13 +305,14 @@ fn read_cut(
 {
     // made here and in `read_cut_collect`: tried by a function that makes it, and then no proof
     // has what becomes of the arrays
+    let parser_state::State { cur, at, used } = parser_state::State::begin(tokens);
     let mut p = Parser {
         nodes,
         types,
         lists,
-        cur: token_at(tokens, 0),
-        at: 0,
-        used: Used::default(),
+        cur,
+        at,
+        used,
     };
     let read = parse_roots(&mut p, &Source { script, tokens }, roots);
     finish(&mut p, roots, diagnostics, read)
@@ -340,13 +341,14 @@ fn read_cut_collect(
         outcome (parse_collect stage_one script.now) before
         ≡ record { answer = parsed_of result; arrays = after } }
 {
+    let parser_state::State { cur, at, used } = parser_state::State::begin(tokens);
     let mut p = Parser {
         nodes,
         types,
         lists,
-        cur: token_at(tokens, 0),
-        at: 0,
-        used: Used::default(),
+        cur,
+        at,
+        used,
     };
     let source = Source { script, tokens };
     let read = parse_roots_collect(&mut p, &source, errors, roots, diagnostics);

@@ -44,6 +44,37 @@ pub struct Used {
     pub scratch: u32,
 }
 
+// What a parser has besides its arrays: the token being read, the number of its record, and what is
+// used. A copy of it can be kept.
+#[derive(Clone, Copy)]
+pub struct State {
+    pub cur: Entry,
+    pub at: u32,
+    pub used: Used,
+}
+
+impl State {
+    // At the first token of a table, with nothing used.
+    pub fn begin(tokens: &[u32]) -> State
+        ensures { (token_of result.cur ≡ token_at tokens.now 0)
+            × (result.at ≡ 0)
+            × (result.used ≡ record {
+              nodes = 0;
+              values = 0;
+              types = 0;
+              docs = 0;
+              cells = 0;
+              scratch = 0;
+            }) }
+    {
+        State {
+            cur: token_at(tokens, 0),
+            at: 0,
+            used: Used::default(),
+        }
+    }
+}
+
 // The arrays that are written, the token being read and the number of its record, and what is used
 // of the arrays. The counts stand beside the arrays since these are lent by the C interface and
 // filled in place, types and lists from both ends. The token table is no field: what reads no token

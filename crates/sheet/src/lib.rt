@@ -60,7 +60,7 @@ fn write_heading(p: Place, number: u32, w: &mut Writer)
     ensures { Writes (heading p number) w.old w.new }
 {
     write_right(p.line, w);
-    write_blanks(1, w);
+    write_blanks(1, w); // so that the column stands in places 7 to 11
     write_right(p.column, w);
     write_blanks(1, w);
     w.write_number(number as usize);

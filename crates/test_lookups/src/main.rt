@@ -117,20 +117,21 @@ impl Room {
     }
 }
 
-// ---- the lookups
+// ---- the lookups: room first, for what is made behind a read that can fail is filled with zeros
+// before it
 
 fn start(rt: &impl Print, input: &mut impl Read) -> io::Result<()> {
-    let id = NodeId(read_cell(input)?);
     let mut room = Room::EMPTY;
     let mut script = BLANKS;
+    let id = NodeId(read_cell(input)?);
     let tree = room.read_tree(input, &mut script)?;
     print_start(rt, node_start(&tree, id))
 }
 
 fn token_of_type(rt: &impl Print, input: &mut impl Read) -> io::Result<()> {
-    let id = TypeExprId(read_cell(input)?);
     let mut room = Room::EMPTY;
     let mut script = BLANKS;
+    let id = TypeExprId(read_cell(input)?);
     let tree = room.read_tree(input, &mut script)?;
     print_answer(
         rt,
@@ -140,12 +141,12 @@ fn token_of_type(rt: &impl Print, input: &mut impl Read) -> io::Result<()> {
 }
 
 fn span(rt: &impl Print, input: &mut impl Read) -> io::Result<()> {
+    let mut script = BLANKS;
     let token = Token {
         kind: read_cell(input)?,
         start: read_cell(input)? as usize,
         len: read_cell(input)? as usize,
     };
-    let mut script = BLANKS;
     let script = read_bytes(input, &mut script)?;
     print_answer(
         rt,
@@ -155,8 +156,8 @@ fn span(rt: &impl Print, input: &mut impl Read) -> io::Result<()> {
 }
 
 fn place(rt: &impl Print, input: &mut impl Read) -> io::Result<()> {
-    let at = read_cell(input)?;
     let mut script = BLANKS;
+    let at = read_cell(input)?;
     let script = read_bytes(input, &mut script)?;
     print_answer(
         rt,

@@ -1,11 +1,11 @@
 -- `parser::read_cut` meets its contract.
 use Rattle.std.proofs.Common.{◌≡◌, length, rules, refl, arith}
 use Rattle.parser.specs.Collect.{gathered}
-use Rattle.parser.proofs.Promised.{nothing_used, strict_outcome, left_as}
+use Rattle.parser.proofs.Promised.{strict_outcome, left_as}
 use Rattle.parser.proofs.read_cut.Goals as goal
 
 pub parse_roots-read-requires : goal.parse_roots-read-requires
-parse_roots-read-requires c = (c.requires, record { cur = c.token_at.ensures; at = refl; used = nothing_used _ c.default.ensures; error = refl })
+parse_roots-read-requires c = (c.requires, record { cur = c.begin-at.ensures.0; at = c.begin-at.ensures.1; used = c.begin-at.ensures.2; error = refl })
 
 pub returns : goal.returns
 returns c =

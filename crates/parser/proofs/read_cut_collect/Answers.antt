@@ -1,11 +1,11 @@
 -- `parser::read_cut_collect` meets its contract.
 use Rattle.std.proofs.Common.{◌≡◌, length, rules, refl, arith}
 use Rattle.parser.specs.Collect.{gathered}
-use Rattle.parser.proofs.Promised.{nothing_used, collect_outcome, left_as}
+use Rattle.parser.proofs.Promised.{collect_outcome, left_as}
 use Rattle.parser.proofs.read_cut_collect.Goals as goal
 
 pub parse_roots_collect-read-requires : goal.parse_roots_collect-read-requires
-parse_roots_collect-read-requires c = (c.requires.0, record { cur = c.token_at.ensures; at = refl; used = nothing_used _ c.default.ensures; error = refl }, c.requires.1, c.requires.2)
+parse_roots_collect-read-requires c = (c.requires.0, record { cur = c.begin-at.ensures.0; at = c.begin-at.ensures.1; used = c.begin-at.ensures.2; error = refl }, c.requires.1, c.requires.2)
 
 pub returns : goal.returns
 returns c =
