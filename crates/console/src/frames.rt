@@ -101,7 +101,7 @@ pub fn read_frame(input: &mut impl Read, buf: &mut [u8]) -> Result<Option<usize>
 
 // ---- cases that a tool writes
 
-// As many cases as a program shows: what follows them is not read.
+// As many cases as a program of lookups, readings or sheets shows: what follows is not read.
 pub const MAX_CASES: u64 = 1_000_000;
 
 // Shows case after case, until one answers that there was none. What is malformed ends them, and is
