@@ -35,12 +35,12 @@ use Rattle.diagnostics.proofs.Records.{cells-length, holding-pushed, holding-non
 use Rattle.diagnostics.specs.Faults.{diagnostics_in, early, late}
 use Rattle.diagnostics.proofs.Faults.{late_more, late_out}
 use Rattle.diagnostics.proofs.Order.{Ordered, ordered-start, ordered-error, ordered_end, ordered-room}
-use Rattle.parser_state.specs.Represents.{Failed, Code, is_going, ahead, Represents, FailedAt}
-use Rattle.parser_state.specs.Refines.{Ends, stack_unchanged, Refines, rules_of, deeper, member_follows}
+use Rattle.parser_state.specs.Represents.{Failed, Code, Kept, is_going, ahead, Represents, FailedAt}
+use Rattle.parser_state.specs.Refines.{Ends, stack_unchanged, RefinesBy, rules_of, deeper, member_follows}
 use Rattle.parser_state.proofs.Steps.{true≢false, current_represents, represents_less, represents_going}
 use Rattle.parser_state.proofs.Rounds.{after, iterate-suc, if_kind_is_yes, if_kind_is_no}
 use Rattle.parser_state.proofs.Loops.{member-going, member-eof}
-use Rattle.parser.specs.Whole.{Begun, FirstToken, drop_docs, Resumes, synchronizing}
+use Rattle.parser.specs.Whole.{Begun, FirstToken, drop_docs, ResumesBy, synchronizing}
 use Rattle.parser.specs.Collect.{RootsCollected, collect_step, AllBelow, DiagnosticsAre, GatheredAre, Room, TurnEnds, CollectEnds}
 use Rattle.parser.proofs.Synchronize.{recovered}
 use Rattle.parser.proofs.Roots.{some-ahead, root-pushed, at-eof, tree-held, begun, tokens-few}
@@ -127,12 +127,12 @@ module _ (script : List ℕ) (g : Gathered) (e : Diagnostic) (m : State) where
   recover_goes_on z w = recover_by ∙ ap (λ (b : Bool). by_number b (synchronize_root m)) z ∙ ap (by_number false) w
 
 -- by how the root ends
-pub collect_turn : {script tokens errors roots diagnostics : List ℕ} {s : Code} {id : NodeId} {s' : Code} (c : RootsCollected) (g : Gathered) (m : State) → member_follows s.parser k_eof ≡ true
-    → Represents tokens s 0 0 [] m → Refines tokens 0 0 (deeper (rules_of script) max_levels).prefix (λ a. a ≡ id) stack_unchanged 1 0 8 s s'
+pub collect_turn : {kept : Kept} {script tokens errors roots diagnostics : List ℕ} {s : Code} {id : NodeId} {s' : Code} (c : RootsCollected) (g : Gathered) (m : State) → member_follows s.parser k_eof ≡ true
+    → Represents tokens s 0 0 [] m → RefinesBy kept tokens 0 0 (deeper (rules_of script) max_levels).prefix (λ a. a ≡ id) stack_unchanged 1 0 8 s s'
     → ((a : NodeId) (m₁ : State) → a ≡ id → Represents tokens s' 0 0 [] m₁ → TurnEnds script tokens errors roots diagnostics c (ok (continue (record { roots = g.roots ++ (a.0 ∷ []); errors = g.errors })) m₁))
     → ((e : Diagnostic) (m₁ : State) → FailedAt tokens s' e 0 0 [] m₁ → TurnEnds script tokens errors roots diagnostics c (recover stage_one script g e m₁))
     → TurnEnds script tokens errors roots diagnostics c (collect_step script g m)
-collect_turn {script} {tokens} {errors} {roots = roots} {diagnostics} {s} {id} {s'} c g m w h q f k =
+collect_turn {kept} {script} {tokens} {errors} {roots = roots} {diagnostics} {s} {id} {s'} c g m w h q f k =
     let cur : current m.left ≡ token_of s.parser.cur = current_represents h.related in
     subst (TurnEnds script tokens errors roots diagnostics c) (sym (if_kind_is_no k_eof _ _ m (rw cur (member-eof s.parser k_eof w)))) (go ((deeper (rules_of script) max_levels).prefix m) (q.simulates 0 0 [] m h))
   where
@@ -150,12 +150,12 @@ ended_by_ten script errors {tokens} {d} roots array c g e m failed ten h =
     subst (TurnEnds script tokens errors roots array c) (sym (recover-ends script g e m (ap (λ (x : Diagnostic). eqb x.number 10) (sym named) ∙ ten))) h.status
 
 -- an error is gathered, and the reading goes on
-pub gathered_error : (script : List ℕ) {tokens errors roots array array₁ array₂ : List ℕ} {c : RootsCollected} {n₁ n₂ : ℕ} (listed₁ : ℕ) {d : Diagnostic} {q₁ q₂ : Code} {at : ℕ} (g : Gathered) (e : Diagnostic) (m : State) → at ≡ c.code.parser.at → c.code.parser.error ≡ Some d → eqb d.number 10 ≡ false
+pub gathered_error : {kept : Kept} (script : List ℕ) {tokens errors roots array array₁ array₂ : List ℕ} {c : RootsCollected} {n₁ n₂ : ℕ} (listed₁ : ℕ) {d : Diagnostic} {q₁ q₂ : Code} {at : ℕ} (g : Gathered) (e : Diagnostic) (m : State) → at ≡ c.code.parser.at → c.code.parser.error ≡ Some d → eqb d.number 10 ≡ false
     → diagnostics array₁ n₁ ≡ foldl pushed (diagnostics array c.diagnostics) (diagnostics_in (early at (errors_from errors c.listed))) → errors_from errors listed₁ ≡ late at (errors_from errors c.listed) → length array₁ ≡ length array → diagnostics array₂ n₂ ≡ pushed (diagnostics array₁ n₁) d
-    → Resumes tokens c.code q₁ → Refines tokens 0 0 synchronizing (λ n. n ≡ 0) stack_unchanged 0 0 0 q₁ q₂
+    → ResumesBy kept tokens c.code q₁ → RefinesBy kept tokens 0 0 synchronizing (λ n. n ≡ 0) stack_unchanged 0 0 0 q₁ q₂
     → Room script roots array g → tokens_from tokens 0 ≡ tokens_of (cut script) → FailedAt tokens c.code e 0 0 [] m → GatheredAre script tokens errors roots array c g
     → TurnEnds script tokens errors roots array₂ (record { code = q₂; members = c.members; diagnostics = n₂; listed = listed₁ }) (recover stage_one script g e m)
-gathered_error script {tokens} {errors} {roots} {array} {array₁} {array₂} {c} {n₁} {n₂} listed₁ {d} {q₁} {q₂} {at} g e m place failed ten faults leaves same pushes resumes goes room all h z =
+gathered_error {kept} script {tokens} {errors} {roots} {array} {array₁} {array₂} {c} {n₁} {n₂} listed₁ {d} {q₁} {q₂} {at} g e m place failed ten faults leaves same pushes resumes goes room all h z =
     let both : Some d ≡ Some e = sym failed ∙ h.status in
     let named : d ≡ e = cc in
     let r = recovered h resumes goes in
@@ -179,12 +179,12 @@ pub gathers_on : {script tokens errors roots array : List ℕ} {c : RootsCollect
 gathers_on z h = record { roots_held = record { held = z.roots_held.held; counted = z.roots_held.counted; few = omega (arith, z.roots_held.few) }; diagnostics_held = z.diagnostics_held }
 
 -- a root is read
-pub gathered_root : {script tokens errors roots roots' array : List ℕ} {c : RootsCollected} {q : Code} {n : ℕ} {id : NodeId} {m : State} (g : Gathered) (a : NodeId) (m₁ : State) → a ≡ id → Room script roots array g
+pub gathered_root : {kept : Kept} {script tokens errors roots roots' array : List ℕ} {c : RootsCollected} {q : Code} {n : ℕ} {id : NodeId} {m : State} (g : Gathered) (a : NodeId) (m₁ : State) → a ≡ id → Room script roots array g
     → Represents tokens c.code 0 0 [] m → GatheredAre script tokens errors roots array c g
-    → Refines tokens 0 0 (deeper (rules_of script) max_levels).prefix (λ a. a ≡ id) stack_unchanged 1 0 8 c.code q → Represents tokens q 0 0 [] m₁
+    → RefinesBy kept tokens 0 0 (deeper (rules_of script) max_levels).prefix (λ a. a ≡ id) stack_unchanged 1 0 8 c.code q → Represents tokens q 0 0 [] m₁
     → (c.members < length roots → c.members < max_bytes → (roots' ≡ set roots c.members id.0) × (n ≡ c.members + 1))
     → TurnEnds script tokens errors roots' array (record { code = q; members = n; diagnostics = c.diagnostics; listed = c.listed }) (ok (continue (record { roots = g.roots ++ (a.0 ∷ []); errors = g.errors })) m₁)
-gathered_root {script} {tokens} {errors} {c = c} {q} g a m₁ e room h z p k f = (
+gathered_root {kept} {script} {tokens} {errors} {c = c} {q} g a m₁ e room h z p k f = (
   k,
   record {
     roots_held = root-pushed script tokens c.code q g.roots a e z.roots_held room.small room.roots_long (p.progress (represents_going k)) (some-ahead k.related) f;
@@ -310,12 +310,12 @@ module _ (script tokens errors : List ℕ) where
   ended_by {roots} {diagnostics} {c} g (over e m z s) = subst (CollectEnds script roots diagnostics c) (sym z) s
 
   -- all roots are read
-  pub ends : {roots array array' : List ℕ} {c : RootsCollected} {q : Code} {n : ℕ} (listed : ℕ) {at : ℕ} → at ≡ c.code.parser.at → member_follows c.code.parser k_eof ≡ false → is_going c.code.parser.error ≡ true → length script ≤ max_bytes → diagnostic_width * length script ≤ length array → tokens_from tokens 0 ≡ tokens_of (cut script) → Progress roots array c
+  pub ends : {kept : Kept} {roots array array' : List ℕ} {c : RootsCollected} {q : Code} {n : ℕ} (listed : ℕ) {at : ℕ} → at ≡ c.code.parser.at → member_follows c.code.parser k_eof ≡ false → is_going c.code.parser.error ≡ true → length script ≤ max_bytes → diagnostic_width * length script ≤ length array → tokens_from tokens 0 ≡ tokens_of (cut script) → Progress roots array c
       → diagnostics array' n ≡ foldl pushed (diagnostics array c.diagnostics) (diagnostics_in (early at (errors_from errors c.listed))) → errors_from errors listed ≡ late at (errors_from errors c.listed) → length array' ≡ length array
-      → Refines tokens 0 0 drop_docs (λ n. n ≡ 0) stack_unchanged 0 0 0 c.code q
+      → RefinesBy kept tokens 0 0 drop_docs (λ n. n ≡ 0) stack_unchanged 0 0 0 c.code q
       → CollectEnds script roots array' (record { code = q; members = c.members; diagnostics = n; listed = listed }) (parse_roots_collect stage_one script (begin script))
   unfolding after pure
-  ends {roots} {array} {array'} {c} {q} {n} listed {at} place w g small room all i p leaves same d = go i
+  ends {kept} {roots} {array} {array'} {c} {q} {n} listed {at} place w g small room all i p leaves same d = go i
     where
       last : RootsCollected
       last = record { code = q; members = c.members; diagnostics = n; listed = listed }

@@ -25,13 +25,13 @@ use Rattle.rules.specs.Rules.{max_levels, stage_one}
 use Rattle.rules.specs.Parse.{begin, parse_roots}
 use Rattle.ast.specs.Layout.{node_width, type_width, node_cells, type_cells}
 use Rattle.ast.specs.declared.NodeId.{NodeId}
-use Rattle.parser_state.specs.Represents.{Failed, with_used, with_error, error_of, Code, going, is_going, ahead, from, Near, doc_cells, Related, Represents}
-use Rattle.parser_state.specs.Refines.{Ends, stack_unchanged, Refines, rules_of, deeper, member_follows}
+use Rattle.parser_state.specs.Represents.{Failed, with_used, with_error, error_of, Code, Kept, going, is_going, ahead, from, Near, doc_cells, Related, Represents}
+use Rattle.parser_state.specs.Refines.{Ends, stack_unchanged, RefinesBy, rules_of, deeper, member_follows}
 use Rattle.parser_state.specs.declared.Used.{Used}
 use Rattle.parser_state.proofs.Steps.{Passed, passed_on, fails_as, either, true≢false, and_both, left-some, current_represents, represents_less, represents_going, failed-fails}
 use Rattle.parser_state.proofs.Leaves.{from_at}
 use Rattle.parser_state.proofs.Cells.{types-length, nodes-length}
-use Rattle.parser_state.proofs.Rounds.{Again, Turned, LoopInvariant, again_stops, round_start_at, round_out, if_kind_is_yes, if_kind_is_no}
+use Rattle.parser_state.proofs.Rounds.{AgainBy, Turned, LoopInvariantBy, again_stops, round_start_at, round_out, if_kind_is_yes, if_kind_is_no}
 use Rattle.parser_state.proofs.Loops.{member-going, member-eof, no_member}
 use Rattle.parser.specs.Whole.{RootsRead, has_cell, RootPushed, Begun, FirstToken, root_step, RootsAre, drop_docs, Holds, RootsEnd}
 
@@ -40,8 +40,8 @@ use Rattle.parser.specs.Whole.{RootsRead, has_cell, RootPushed, Begun, FirstToke
 abbrev pub undocumented : Used → Used
 undocumented u = record { nodes = u.nodes; values = u.values; types = u.types; docs = 0; cells = u.cells; scratch = u.scratch }
 
-pub dropping : (tokens : List ℕ) (s : Code) → going s ≡ true
-    → Refines tokens 0 0 drop_docs (λ n. n ≡ 0) stack_unchanged 0 0 0 s (with_used s (undocumented s.parser.used))
+pub dropping : {kept : Kept} (tokens : List ℕ) (s : Code) → going s ≡ true
+    → RefinesBy kept tokens 0 0 drop_docs (λ n. n ≡ 0) stack_unchanged 0 0 0 s (with_used s (undocumented s.parser.used))
 unfolding drop_docs with_docs flatten
 dropping tokens s g = record {
   same = refl;
@@ -120,10 +120,10 @@ root-pushed script tokens {roots} {roots'} {n} {n'} {id} s s' xs a e q small lon
       few = omega (arith, q.few);
     }
 
-module _ (script : List ℕ) {tokens roots roots' : List ℕ} {n n' : ℕ} {id : NodeId} {s s' : Code} where
-  pub root_again : member_follows s.parser k_eof ≡ true → length script ≤ max_bytes → length script ≤ length roots → Refines tokens 0 0 (deeper (rules_of script) max_levels).prefix (λ a. a ≡ id) stack_unchanged 1 0 8 s s'
+module _ {kept : Kept} (script : List ℕ) {tokens roots roots' : List ℕ} {n n' : ℕ} {id : NodeId} {s s' : Code} where
+  pub root_again : member_follows s.parser k_eof ≡ true → length script ≤ max_bytes → length script ≤ length roots → RefinesBy kept tokens 0 0 (deeper (rules_of script) max_levels).prefix (λ a. a ≡ id) stack_unchanged 1 0 8 s s'
       → (going s' ≡ true → n < length roots → n < max_bytes → (roots' ≡ set roots n id.0) × (n' ≡ n + 1))
-      → Again tokens (root_step script) stack_unchanged (RootsAre script tokens roots n s) (RootsAre script tokens roots' n' s') s s'
+      → AgainBy kept tokens (root_step script) stack_unchanged (RootsAre script tokens roots n s) (RootsAre script tokens roots' n' s') s s'
   unfolding ◌>>=◌ pure
   root_again w small long p f = record {
     same = p.same;
@@ -153,12 +153,12 @@ at-eof {s = s} w g =
     (λ z. absurd (true≢false (no_member s.parser k_eof (represents_going g) w z) z))
 
 -- the arrays hold the tree once the docs that wait are dropped
-pub tree-held : {script tokens roots xs : List ℕ} {s : Code} {r : RootsRead} {m : State}
+pub tree-held : {kept : Kept} {script tokens roots xs : List ℕ} {s : Code} {r : RootsRead} {m : State}
     → Represents tokens s 0 0 [] m → RootsAre script tokens roots r.members s xs
-    → Refines tokens 0 0 drop_docs (λ n. n ≡ 0) stack_unchanged 0 0 0 s r.code
+    → RefinesBy kept tokens 0 0 drop_docs (λ n. n ≡ 0) stack_unchanged 0 0 0 s r.code
     → Holds roots r xs m
 unfolding drop_docs with_docs flatten
-tree-held {script} {tokens} {roots} {xs} {r = r} {m} h k p =
+tree-held {kept} {script} {tokens} {roots} {xs} {r = r} {m} h k p =
     let d : Represents tokens r.code 0 0 [] (with_docs [] m) = (p.simulates 0 0 [] m h).1 in
     let u : Used = r.code.parser.used in
     let ns = d.related.nodes in
@@ -224,13 +224,13 @@ module _ {script tokens roots : List ℕ} (s : Code) (h : Begun script tokens s.
         };
       }
 
-  pub roots-start : LoopInvariant tokens (root_step script) stack_unchanged [] (RootsAre script tokens roots 0 s) s s
+  pub roots-start : {kept : Kept} → LoopInvariantBy kept tokens (root_step script) stack_unchanged [] (RootsAre script tokens roots 0 s) s s
   roots-start = round_start_at (λ R L stack m k. record { held = refl; counted = refl; few = omega (arith, k.related.taken, tokens-few script h.lent.small h.tabled, ap length k.related.left) })
 
-  module _ {roots' : List ℕ} {s' : Code} {r : RootsRead} where
-    pub roots_end : LoopInvariant tokens (root_step script) stack_unchanged [] (RootsAre script tokens roots' r.members s') s s'
+  module _ {kept : Kept} {roots' : List ℕ} {s' : Code} {r : RootsRead} where
+    pub roots_end : LoopInvariantBy kept tokens (root_step script) stack_unchanged [] (RootsAre script tokens roots' r.members s') s s'
         → member_follows s'.parser k_eof ≡ false
-        → Refines tokens 0 0 drop_docs (λ n. n ≡ 0) stack_unchanged 0 0 0 s' r.code
+        → RefinesBy kept tokens 0 0 drop_docs (λ n. n ≡ 0) stack_unchanged 0 0 0 s' r.code
         → RootsEnd roots' r (parse_roots stage_one script (begin script))
     unfolding parse_roots pure
     roots_end i w d = go (loop (root_step script) [] (begin script)) ((round_out i (λ stack. refl) out).simulates 0 0 [] (begin script) begun)
@@ -243,9 +243,9 @@ module _ {script tokens roots : List ℕ} (s : Code) (h : Begun script tokens s.
         go (err e m) k = ap (λ (t : Code). t.parser.error) (d.sticky (failed-fails k)) ∙ k.status
 
   -- a root that fails ends the reading
-  module _ {A : Type 0} {P : NodeId → Type 0} {roots' : List ℕ} {n d r' l' : ℕ} {s₁ s₂ : Code} {x : Diagnostic} (res : Std.Result A Diagnostic) (k : ℕ) where
-    pub roots_stop : LoopInvariant tokens (root_step script) stack_unchanged [] (RootsAre script tokens roots' n s₁) s s₁ → member_follows s₁.parser k_eof ≡ true → length script ≤ max_bytes → length script ≤ length roots'
-        → Refines tokens 0 0 (deeper (rules_of script) max_levels).prefix P stack_unchanged d r' l' s₁ s₂ → s₂.parser.error ≡ Failed x → Passed x res
+  module _ {kept : Kept} {A : Type 0} {P : NodeId → Type 0} {roots' : List ℕ} {n d r' l' : ℕ} {s₁ s₂ : Code} {x : Diagnostic} (res : Std.Result A Diagnostic) (k : ℕ) where
+    pub roots_stop : LoopInvariantBy kept tokens (root_step script) stack_unchanged [] (RootsAre script tokens roots' n s₁) s s₁ → member_follows s₁.parser k_eof ≡ true → length script ≤ max_bytes → length script ≤ length roots'
+        → RefinesBy kept tokens 0 0 (deeper (rules_of script) max_levels).prefix P stack_unchanged d r' l' s₁ s₂ → s₂.parser.error ≡ Failed x → Passed x res
         → RootsEnd roots' (record { code = with_error s₂ (error_of res); members = k }) (parse_roots stage_one script (begin script))
     unfolding parse_roots
     roots_stop i w small long p f g =

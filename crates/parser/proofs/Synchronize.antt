@@ -16,13 +16,13 @@ use Rattle.rules.specs.Tree.{State, Result, ok, err}
 use Rattle.rules.specs.Combinators.{Rule, ◌>>◌, pure, advance, choose, with_docs, ControlFlow, continue, break}
 use Rattle.rules.specs.Parse.{synchronize_by_kind, synchronize_step, synchronize_root}
 use Rattle.rules.proofs.Results as Results
-use Rattle.parser_state.specs.Represents.{Reading, Going, with_used, with_error, Code, is_going, Represents, FailedAt}
-use Rattle.parser_state.specs.Refines.{Ends, stack_unchanged, Refines}
+use Rattle.parser_state.specs.Represents.{Reading, Going, with_used, with_error, Code, Kept, is_going, Represents, FailedAt}
+use Rattle.parser_state.specs.Refines.{Ends, stack_unchanged, RefinesBy}
 use Rattle.parser_state.specs.declared.Used.{Used}
 use Rattle.parser_state.proofs.Steps.{either, true≢false, and_both, at-kind, then, done, enough, represents_less}
 use Rattle.parser_state.proofs.Leaves.{idle}
 use Rattle.parser_operators.proofs.Tables.{past, past_all}
-use Rattle.parser.specs.Whole.{Resumes, root_boundary, skips, synchronizing}
+use Rattle.parser.specs.Whole.{ResumesBy, root_boundary, skips, synchronizing}
 
 -- ---- what was under construction is given up
 
@@ -123,15 +123,15 @@ module _ (p : Reading) where
   skips-some e z = true≢false (ap root_boundary z) (skips-both e).1
 
 -- a step of the rule, by where the code stands
-module _ {tokens : List ℕ} {s s' : Code} where
-  pub continues : skips s.parser ≡ true → Refines tokens 0 0 advance (λ t. t ≡ token_of s.parser.cur) stack_unchanged 1 1 8 s s' → Refines tokens 0 0 (synchronize_step 0) (λ t. t ≡ continue 0) stack_unchanged 1 0 0 s s'
+module _ {kept : Kept} {tokens : List ℕ} {s s' : Code} where
+  pub continues : skips s.parser ≡ true → RefinesBy kept tokens 0 0 advance (λ t. t ≡ token_of s.parser.cur) stack_unchanged 1 1 8 s s' → RefinesBy kept tokens 0 0 (synchronize_step 0) (λ t. t ≡ continue 0) stack_unchanged 1 0 0 s s'
   continues e p = at-kind (synchronize_by_kind 0) s.parser.cur.kind (rw (by_tests_lem 0 s.parser.cur.kind, (skips-both s.parser e).1) (enough (then p done) tt)) refl
 
-  pub breaks_past : Refines tokens 0 0 advance (λ t. t ≡ token_of s.parser.cur) stack_unchanged 1 1 8 s s' → s.parser.cur.kind ≡ k_curly_right → Refines tokens 0 0 (synchronize_step 0) (λ t. t ≡ break 0) stack_unchanged 0 0 0 s s'
+  pub breaks_past : RefinesBy kept tokens 0 0 advance (λ t. t ≡ token_of s.parser.cur) stack_unchanged 1 1 8 s s' → s.parser.cur.kind ≡ k_curly_right → RefinesBy kept tokens 0 0 (synchronize_step 0) (λ t. t ≡ break 0) stack_unchanged 0 0 0 s s'
   unfolding choose
   breaks_past p e = at-kind (synchronize_by_kind 0) k_curly_right (enough (then p done) tt) e
 
-pub breaks_before : {tokens : List ℕ} (s : Code) → skips s.parser ≡ false → (s.parser.cur.kind ≡ k_curly_right → ⊥) → Refines tokens 0 0 (synchronize_step 0) (λ t. t ≡ break 0) stack_unchanged 0 0 0 s s
+pub breaks_before : {kept : Kept} {tokens : List ℕ} (s : Code) → skips s.parser ≡ false → (s.parser.cur.kind ≡ k_curly_right → ⊥) → RefinesBy kept tokens 0 0 (synchronize_step 0) (λ t. t ≡ break 0) stack_unchanged 0 0 0 s s
 breaks_before s e f = either (is_going s.parser.error)
     (λ g. at-kind (synchronize_by_kind 0) s.parser.cur.kind (rw (by_tests_lem 0 s.parser.cur.kind, skips_not s.parser e g, ne_eqb s.parser.cur.kind k_curly_right f) done) refl)
     (λ g. idle g)
@@ -162,9 +162,9 @@ pub record Recovered (tokens : List ℕ) (s : Code) (R L : ℕ) (m : State) : Ty
   pub represents : Represents tokens s R L [] after
   pub fewer : length after.left ≤ length m.left
 
-pub recovered : {tokens : List ℕ} {s s₁ s₂ : Code} {e : Diagnostic} {R L : ℕ} {stack : List ℕ} {m : State} → FailedAt tokens s e R L stack m → Resumes tokens s s₁ → Refines tokens 0 0 synchronizing (λ n. n ≡ 0) stack_unchanged 0 0 0 s₁ s₂ → Recovered tokens s₂ R L m
+pub recovered : {kept : Kept} {tokens : List ℕ} {s s₁ s₂ : Code} {e : Diagnostic} {R L : ℕ} {stack : List ℕ} {m : State} → FailedAt tokens s e R L stack m → ResumesBy kept tokens s s₁ → RefinesBy kept tokens 0 0 synchronizing (λ n. n ≡ 0) stack_unchanged 0 0 0 s₁ s₂ → Recovered tokens s₂ R L m
 unfolding synchronizing synchronize_root
-recovered {tokens} {s} {s₁} {s₂} {e} {R} {L} {stack} {m} h r p = go (synchronizing (with_docs [] m)) refl (never_fails (with_docs [] m)) (p.simulates R L [] (with_docs [] m) (represents_less _ _ (omega arith) (omega arith) (r.resumes e R L stack m h)))
+recovered {kept} {tokens} {s} {s₁} {s₂} {e} {R} {L} {stack} {m} h r p = go (synchronizing (with_docs [] m)) refl (never_fails (with_docs [] m)) (p.simulates R L [] (with_docs [] m) (represents_less _ _ (omega arith) (omega arith) (r.resumes e R L stack m h)))
   where
     go : (res : Result ℕ) → synchronizing (with_docs [] m) ≡ res → Results.Ends (λ n s'. Unit {0}) (λ s'. ⊥) res → Ends tokens (λ n. n ≡ 0) stack_unchanged s₂ R L 0 0 [] res → Recovered tokens s₂ R L m
     go (ok n m₂) c w d = record {

@@ -15,7 +15,7 @@ use Rattle.rules.specs.Combinators.{Rule, ◌>>=◌, pure, if_kind, with_docs, C
 use Rattle.rules.specs.Rules.{max_levels}
 use Rattle.rules.specs.Parse.{synchronize_step}
 use Rattle.ast.specs.Layout.{node_width, type_width, diagnostic_width, cells_per_byte, node_cells, type_cells}
-use Rattle.parser_state.specs.Represents.{Reading, Going, Failed, Code, loan, ahead, is_going, EnoughLent, Represents, FailedAt}
+use Rattle.parser_state.specs.Represents.{Reading, Going, Failed, Code, Kept, AsLent, kept_of, loan, ahead, is_going, EnoughLent, Represents, FailedAt}
 use Rattle.parser_state.specs.Refines.{rules_of, deeper}
 
 -- the number of a refusal, or 0, for a script of `n` bytes and the lengths of the arrays and tables
@@ -95,10 +95,13 @@ RootsEnd roots r (err e m) = r.code.parser.error ≡ Failed e
 
 -- a failed reading, whatever is under construction, goes on at the same token with nothing under
 -- construction and no pending docs
-pub record Resumes (tokens : List ℕ) (s s' : Code) : Type 0 where
-  pub lent : loan s' ≡ loan s
+pub record ResumesBy (kept : Kept) (tokens : List ℕ) (s s' : Code) : Type 0 where
+  pub lent : kept_of kept (loan s') ≡ kept_of kept (loan s)
   pub same : ahead tokens s' ≡ ahead tokens s
   pub resumes : (e : Diagnostic) (R L : ℕ) (stack : List ℕ) (m : State) → FailedAt tokens s e R L stack m → Represents tokens s' R L [] (with_docs [] m)
+
+abbrev pub Resumes : (tokens : List ℕ) (s s' : Code) → Type 0
+Resumes tokens s s' = ResumesBy AsLent tokens s s'
 
 -- what may begin a root, or ends a block or the script
 unfoldable pub root_boundary : ℕ → Bool

@@ -13,8 +13,8 @@ use Rattle.rules.specs.Tree.{State, ok}
 use Rattle.rules.specs.Combinators.{Rule, Readers, ◌>>=◌, pure, cur, current, ControlFlow, break}
 use Rattle.rules.specs.Rules.{stage_one, breaks_off, callable, call, call_step, postfix_step, binary, sign_step, infix_step}
 use Rattle.ast.specs.declared.NodeId.{NodeId}
-use Rattle.parser_state.specs.Represents.{Reading, Code, is_going, Represents}
-use Rattle.parser_state.specs.Refines.{Ends, stack_unchanged, Refines}
+use Rattle.parser_state.specs.Represents.{Reading, Code, Kept, is_going, Represents}
+use Rattle.parser_state.specs.Refines.{Ends, stack_unchanged, RefinesBy}
 use Rattle.parser_state.proofs.Steps.{either, true≢false, current_represents, represents_going, seq, looks, if_kind-yes, if_kind-no}
 use Rattle.parser_state.proofs.Rounds.{if_kind_is_yes, if_kind_is_no}
 use Rattle.parser_operators.specs.Tests.{call_at, postfix_follows, postfix_by, infix_follows, infix_by, sign_follows}
@@ -50,8 +50,8 @@ module _ (nodes : List ℕ) (p : Reading) (x : NodeId) where
   postfix_calls : postfix_follows nodes p x ≡ true → (p.cur.kind ≡ k_dot → ⊥) → call_at nodes p.used.nodes x ≡ true
   postfix_calls e f = (postfix_when (is_going p.error) (eqb p.cur.kind k_dot) (eqb p.cur.kind k_brace_left) (call_at nodes p.used.nodes x) e (borrow.Author.Tests.ne_eqb _ _ f)).2
 
-module _ (d : Readers) {tokens : List ℕ} {Q : ControlFlow NodeId → Type 0} {r l k r' l' : ℕ} {s s' : Code} (x : NodeId) where
-  callable_then : call_at s.nodes s.parser.used.nodes x ≡ true → Refines tokens r l (call d x) Q stack_unchanged k r' l' s s' → Refines tokens r l (callable x >>= call_step d x) Q stack_unchanged k r' l' s s'
+module _ {kept : Kept} (d : Readers) {tokens : List ℕ} {Q : ControlFlow NodeId → Type 0} {r l k r' l' : ℕ} {s s' : Code} (x : NodeId) where
+  callable_then : call_at s.nodes s.parser.used.nodes x ≡ true → RefinesBy kept tokens r l (call d x) Q stack_unchanged k r' l' s s' → RefinesBy kept tokens r l (callable x >>= call_step d x) Q stack_unchanged k r' l' s s'
   unfolding callable ◌>>=◌
   callable_then e p = record {
     sticky = p.sticky;
@@ -61,7 +61,7 @@ module _ (d : Readers) {tokens : List ℕ} {Q : ControlFlow NodeId → Type 0} {
     simulates = λ R L stack m h. subst (λ (b : Bool). Ends tokens Q stack_unchanged s' R L r' l' stack (call_step d x b m)) (sym (sym (call-at x h) ∙ e)) (p.simulates R L stack m h);
   }
 
-  pub post_call : postfix_follows s.nodes s.parser x ≡ true → (s.parser.cur.kind ≡ k_dot → ⊥) → Refines tokens r l (call d x) Q stack_unchanged k r' l' s s' → Refines tokens r l (postfix_step d x) Q stack_unchanged k r' l' s s'
+  pub post_call : postfix_follows s.nodes s.parser x ≡ true → (s.parser.cur.kind ≡ k_dot → ⊥) → RefinesBy kept tokens r l (call d x) Q stack_unchanged k r' l' s s' → RefinesBy kept tokens r l (postfix_step d x) Q stack_unchanged k r' l' s s'
   post_call e f p = if_kind-no _ _ (if_kind-yes _ _ (callable_then (postfix_calls s.nodes s.parser x e f) p) (postfix_brace s.nodes s.parser x e f)) f
 
 module _ (d : Readers) {tokens : List ℕ} {s : Code} (x : NodeId) where
@@ -131,13 +131,13 @@ module _ (script : List ℕ) (p : Reading) (least : ℕ) where
   pub is_cast : infix_follows script p least ≡ true → none ≡ stage_one p.cur.kind → p.cur.kind ≡ k_as
   is_cast e n = either (eqb p.cur.kind k_as) (λ b. eqb-true _ _ b) (λ b. absurd (no_sign e (borrow.Author.Tests.eqb-false _ _ b) (sym n)))
 
-module _ (d : Readers) (script : List ℕ) {tokens : List ℕ} {Q : ControlFlow NodeId → Type 0} {s s' : Code} (least : ℕ) (x : NodeId) (o : ℕ) where
-  pub infix_sign : infix_follows script s.parser least ≡ true → (s.parser.cur.kind ≡ k_as → ⊥) → stage_one s.parser.cur.kind ≡ some o → Refines tokens 0 0 (binary d x o) Q stack_unchanged 1 0 0 s s'
-      → Refines tokens 0 0 (infix_step d stage_one script least x) Q stack_unchanged 1 0 0 s s'
+module _ {kept : Kept} (d : Readers) (script : List ℕ) {tokens : List ℕ} {Q : ControlFlow NodeId → Type 0} {s s' : Code} (least : ℕ) (x : NodeId) (o : ℕ) where
+  pub infix_sign : infix_follows script s.parser least ≡ true → (s.parser.cur.kind ≡ k_as → ⊥) → stage_one s.parser.cur.kind ≡ some o → RefinesBy kept tokens 0 0 (binary d x o) Q stack_unchanged 1 0 0 s s'
+      → RefinesBy kept tokens 0 0 (infix_step d stage_one script least x) Q stack_unchanged 1 0 0 s s'
   infix_sign e f w p =
       let same : sign_step d stage_one script least x (token_of s.parser.cur) ≡ binary d x o = sign_by_lem d script least x (token_of s.parser.cur) ∙ ap (sign_by d x least (breaks_off script (token_of s.parser.cur))) w
       ∙ sign_when d x least (breaks_off script (token_of s.parser.cur)) o (subst (λ (q : Option ℕ). sign_follows (breaks_off script (token_of s.parser.cur)) least q ≡ true) w (sign_follows_lem script s.parser least e f)) in
-      let q : Refines tokens 0 0 (sign_step d stage_one script least x (token_of s.parser.cur)) Q stack_unchanged 1 0 0 s s' = subst (λ (y : Rule (ControlFlow NodeId)). Refines tokens 0 0 y Q stack_unchanged 1 0 0 s s') (sym same) p in
+      let q : RefinesBy kept tokens 0 0 (sign_step d stage_one script least x (token_of s.parser.cur)) Q stack_unchanged 1 0 0 s s' = subst (λ (y : Rule (ControlFlow NodeId)). RefinesBy kept tokens 0 0 y Q stack_unchanged 1 0 0 s s') (sym same) p in
       if_kind-no _ _ (seq (sign_step d stage_one script least x) looks q) f
 
 module _ (d : Readers) (script : List ℕ) {tokens : List ℕ} {s : Code} (least : ℕ) (x : NodeId) where

@@ -19,11 +19,11 @@ use Rattle.ast.specs.Layout.{token_cells, run_cells}
 use Rattle.rules.specs.Rules.{Cases, note_after_default, default_case, condition_case, next_case, parse_body}
 use Rattle.ast.specs.declared.Run.{Run}
 use Rattle.ast.specs.declared.NodeId.{NodeId}
-use Rattle.parser_state.specs.Represents.{Code, loan, going, ahead, Represents, FailedAt}
-use Rattle.parser_state.specs.Refines.{Ends, stack_unchanged, grown, Refines, ReadsMember, Lists, fail_at, member_follows, closed}
+use Rattle.parser_state.specs.Represents.{Code, Kept, kept_of, loan, going, ahead, Represents, FailedAt}
+use Rattle.parser_state.specs.Refines.{Ends, stack_unchanged, grown, RefinesBy, ReadsMemberBy, ListsBy, fail_at, member_follows, closed}
 use Rattle.parser_state.proofs.Steps.{either, represents_less, represents_going, failed-fails, represents_noted, noted, current_represents, seq, read, looks, done, enough, stops, if_kind-yes}
 use Rattle.parser_state.proofs.Cells.{flatten_snoc}
-use Rattle.parser_state.proofs.Rounds.{Again, Turned, LoopInvariant, again_stops, round_out, if_kind_is_yes, if_kind_is_no}
+use Rattle.parser_state.proofs.Rounds.{AgainBy, Turned, LoopInvariantBy, again_stops, round_out, if_kind_is_yes, if_kind_is_no}
 use Rattle.parser_state.proofs.Loops.{member-going, member-eof, member_stop, no_member}
 use Rattle.parser_operators.specs.Matches.{default_of, cases_grown, CasesAre, case_cells, match_node, match_end, match_rest}
 use Rattle.parser_operators.specs.declared.DefaultBlock.{DefaultBlock}
@@ -31,7 +31,7 @@ use Rattle.parser_operators.specs.declared.DefaultBlock.{DefaultBlock}
 -- ---- the default
 
 -- what fails gives no value, of whatever type
-pub fail_any : {A : Type 0} {tokens : List ℕ} {Q : A → Type 0} {s s' : Code} (number : ℕ) (t : Token) → Refines {A = ℕ} tokens 0 0 (fail_at number t) (λ n. n ≡ 0) stack_unchanged 0 0 0 s s' → Refines {A = A} tokens 0 0 (fail_at number t) Q stack_unchanged 0 0 0 s s'
+pub fail_any : {kept : Kept} {A : Type 0} {tokens : List ℕ} {Q : A → Type 0} {s s' : Code} (number : ℕ) (t : Token) → RefinesBy {A = ℕ} kept tokens 0 0 (fail_at number t) (λ n. n ≡ 0) stack_unchanged 0 0 0 s s' → RefinesBy {A = A} kept tokens 0 0 (fail_at number t) Q stack_unchanged 0 0 0 s s'
 unfolding fail_at
 fail_any number t p = record { sticky = p.sticky; same = p.same; monotone = p.monotone; progress = p.progress; simulates = λ R L stack m h. p.simulates R L stack m h }
 
@@ -75,10 +75,10 @@ module _ (deeper : Readers) where
       go t (ok n s) = body t n (parse_body deeper s)
       go t (err e s) = refl
 
-  module _ {tokens : List ℕ} {n n' : ℕ} {s s' : Code} (d d' : Answer DefaultBlock) where
-    case_again : member_follows s.parser k_curly_right ≡ true → loan s' ≡ loan s → length (ahead tokens s') ≤ length (ahead tokens s) → (going s' ≡ true → length (ahead tokens s') + 1 ≤ length (ahead tokens s))
+  module _ {kept : Kept} {tokens : List ℕ} {n n' : ℕ} {s s' : Code} (d d' : Answer DefaultBlock) where
+    case_again : member_follows s.parser k_curly_right ≡ true → kept_of kept (loan s') ≡ kept_of kept (loan s) → length (ahead tokens s') ≤ length (ahead tokens s) → (going s' ≡ true → length (ahead tokens s') + 1 ≤ length (ahead tokens s))
         → ((R L : ℕ) (stack : List ℕ) (c : Cases) (m : State) → CasesAre tokens d n s c → Represents tokens s R L (stack ++ flatten c.cases) m → Turned tokens (next_case deeper) cases_grown (CasesAre tokens d' n' s') s' R L stack (block c m))
-        → Again tokens (next_case deeper) cases_grown (CasesAre tokens d n s) (CasesAre tokens d' n' s') s s'
+        → AgainBy kept tokens (next_case deeper) cases_grown (CasesAre tokens d n s) (CasesAre tokens d' n' s') s s'
     unfolding next_case
     case_again w e a b f = record {
       same = e;
@@ -92,12 +92,12 @@ module _ (deeper : Readers) where
     }
 
   -- the default, which replaces an earlier one
-  module _ {tokens : List ℕ} {n : ℕ} {run : Run} {s s' : Code} (d : Answer DefaultBlock) where
-    default-own : member_follows s.parser k_curly_right ≡ true → s.parser.cur.kind ≡ k_curly_left → Refines tokens 0 0 (parse_body deeper) (λ a. a ≡ run) stack_unchanged 1 1 8 s s'
-        → Again tokens (next_case deeper) cases_grown (CasesAre tokens d n s) (CasesAre tokens (Some (record { token = s.parser.cur; run = run })) n s') s s'
+  module _ {kept : Kept} {tokens : List ℕ} {n : ℕ} {run : Run} {s s' : Code} (d : Answer DefaultBlock) where
+    default-own : member_follows s.parser k_curly_right ≡ true → s.parser.cur.kind ≡ k_curly_left → RefinesBy kept tokens 0 0 (parse_body deeper) (λ a. a ≡ run) stack_unchanged 1 1 8 s s'
+        → AgainBy kept tokens (next_case deeper) cases_grown (CasesAre tokens d n s) (CasesAre tokens (Some (record { token = s.parser.cur; run = run })) n s') s s'
     unfolding default_case
     default-own w k p = case_again d (Some (record { token = s.parser.cur; run = run })) w p.same p.monotone p.progress (λ R L stack c m q h.
-        let x : Refines tokens 0 0 (block c) (λ e. e ≡ continue (record { cases = c.cases; default = some (token_of s.parser.cur, run) })) stack_unchanged 1 0 0 s s' =
+        let x : RefinesBy kept tokens 0 0 (block c) (λ e. e ≡ continue (record { cases = c.cases; default = some (token_of s.parser.cur, run) })) stack_unchanged 1 0 0 s s' =
         enough (seq (λ e. pure (continue e)) (if_kind-yes (default_case deeper c) (condition_case deeper c) (read _ looks refl (seq _ p done)) k) done) tt in
         go R L stack c q (block c m) (x.simulates R L (stack ++ flatten c.cases) m (represents_less _ _ (omega arith) (omega arith) h)))
       where
@@ -111,14 +111,14 @@ module _ (deeper : Readers) where
         go R L stack c q (ok (break b) m) h = let e : break b ≡ continue (record { cases = c.cases; default = some (token_of s.parser.cur, run) }) = h.0 in let z : ◌≡◌ {A = ℕ} 0 1 = cc in omega arith
         go R L stack c q (err e m) h = record { status = h.status; over = flatten c.cases ++ h.over; related = rw (← append_assoc stack (flatten c.cases) h.over) h.related }
 
-    pub default_again : {t : Entry} → member_follows s.parser k_curly_right ≡ true → t ≡ s.parser.cur → s.parser.cur.kind ≡ k_curly_left → Refines tokens 0 0 (parse_body deeper) (λ a. a ≡ run) stack_unchanged 1 1 8 s s'
-        → Again tokens (next_case deeper) cases_grown (CasesAre tokens d n s) (CasesAre tokens (Some (record { token = t; run = run })) n s') s s'
-    default_again w e k p = subst (λ (t : Entry). Again tokens (next_case deeper) cases_grown (CasesAre tokens d n s) (CasesAre tokens (Some (record { token = t; run = run })) n s') s s') (sym e) (default-own w k p)
+    pub default_again : {t : Entry} → member_follows s.parser k_curly_right ≡ true → t ≡ s.parser.cur → s.parser.cur.kind ≡ k_curly_left → RefinesBy kept tokens 0 0 (parse_body deeper) (λ a. a ≡ run) stack_unchanged 1 1 8 s s'
+        → AgainBy kept tokens (next_case deeper) cases_grown (CasesAre tokens d n s) (CasesAre tokens (Some (record { token = t; run = run })) n s') s s'
+    default_again w e k p = subst (λ (t : Entry). AgainBy kept tokens (next_case deeper) cases_grown (CasesAre tokens d n s) (CasesAre tokens (Some (record { token = t; run = run })) n s') s s') (sym e) (default-own w k p)
 
   -- a case
-  module _ {tokens : List ℕ} {n n' : ℕ} {s s' : Code} (d : Answer DefaultBlock) where
-    pub condition_again : member_follows s.parser k_curly_right ≡ true → (s.parser.cur.kind ≡ k_curly_left → ⊥) → ReadsMember tokens (case_cells deeper) s s' → n' ≡ (n + 1) % 2 ^ 32
-        → Again tokens (next_case deeper) cases_grown (CasesAre tokens d n s) (CasesAre tokens d n' s') s s'
+  module _ {kept : Kept} {tokens : List ℕ} {n n' : ℕ} {s s' : Code} (d : Answer DefaultBlock) where
+    pub condition_again : member_follows s.parser k_curly_right ≡ true → (s.parser.cur.kind ≡ k_curly_left → ⊥) → ReadsMemberBy kept tokens (case_cells deeper) s s' → n' ≡ (n + 1) % 2 ^ 32
+        → AgainBy kept tokens (next_case deeper) cases_grown (CasesAre tokens d n s) (CasesAre tokens d n' s') s s'
     condition_again w k p count = case_again d d w p.same p.monotone p.progress (λ R L stack c m q h.
         let cur : current m.left ≡ token_of s.parser.cur = current_represents h.related in
         subst (Turned tokens (next_case deeper) cases_grown (CasesAre tokens d n' s') s' R L stack) (sym (block_condition c m (rw cur (ne_eqb s.parser.cur.kind k_curly_left k))))
@@ -134,9 +134,9 @@ module _ (deeper : Readers) where
 
   -- ---- the end
 
-  module _ {tokens : List ℕ} {n mark d₂ r₂ l₂ : ℕ} {Q : NodeId → Type 0} {s₀ s s₂ : Code} (t : Token) (d : Answer DefaultBlock) where
-    pub match_end_lem : LoopInvariant tokens (next_case deeper) cases_grown (record { cases = []; default = none }) (CasesAre tokens d n s) s₀ s → member_follows s.parser k_curly_right ≡ false → mark ≡ s₀.parser.used.scratch
-        → Lists tokens (match_end t (default_of d)) Q d₂ r₂ l₂ mark n s s₂ → Refines tokens 0 0 (match_rest deeper t) Q stack_unchanged d₂ r₂ l₂ s₀ s₂
+  module _ {kept : Kept} {tokens : List ℕ} {n mark d₂ r₂ l₂ : ℕ} {Q : NodeId → Type 0} {s₀ s s₂ : Code} (t : Token) (d : Answer DefaultBlock) where
+    pub match_end_lem : LoopInvariantBy kept tokens (next_case deeper) cases_grown (record { cases = []; default = none }) (CasesAre tokens d n s) s₀ s → member_follows s.parser k_curly_right ≡ false → mark ≡ s₀.parser.used.scratch
+        → ListsBy kept tokens (match_end t (default_of d)) Q d₂ r₂ l₂ mark n s s₂ → RefinesBy kept tokens 0 0 (match_rest deeper t) Q stack_unchanged d₂ r₂ l₂ s₀ s₂
     unfolding match_rest ◌>>=◌ next_case pure flatten
     match_end_lem i w k q = record {
       sticky = λ e. let e₁ : s ≡ s₀ = p.sticky e in q.sticky (ap going e₁ ∙ e) ∙ e₁;
@@ -153,7 +153,7 @@ module _ (deeper : Readers) where
             (λ g. if_kind_is_yes k_eof _ _ m (rw cur g))
             (λ g. if_kind_is_no k_eof _ _ m (rw cur g) ∙ if_kind_is_yes k_curly_right _ _ m (rw cur (no_member s.parser k_curly_right (represents_going h) w g)))
 
-        p : Refines tokens 0 0 (loop (next_case deeper) (record { cases = []; default = none })) (CasesAre tokens d n s) cases_grown 0 0 0 s₀ s
+        p : RefinesBy kept tokens 0 0 (loop (next_case deeper) (record { cases = []; default = none })) (CasesAre tokens d n s) cases_grown 0 0 0 s₀ s
         p = round_out i (λ stack. append-nil stack) out
 
         go : (R L : ℕ) (stack : List ℕ) → length stack ≡ mark → (r : Result Cases) → Ends tokens (CasesAre tokens d n s) cases_grown s R L 0 0 stack r
@@ -164,9 +164,9 @@ module _ (deeper : Readers) where
         go R L stack j (err e m) h = subst (λ (x : Code). FailedAt tokens x e R L stack m) (sym (q.sticky (failed-fails h))) h
 
   -- a block that fails ends it
-  module _ {tokens : List ℕ} {n : ℕ} {Q : Cases → Type 0} {s₀ s s' : Code} (t : Token) (d : Answer DefaultBlock) where
-    pub match_stops : LoopInvariant tokens (next_case deeper) cases_grown (record { cases = []; default = none }) (CasesAre tokens d n s) s₀ s → member_follows s.parser k_curly_right ≡ true
-        → Again tokens (next_case deeper) cases_grown (CasesAre tokens d n s) Q s s' → going s' ≡ false → Refines tokens 0 0 (match_rest deeper t) (λ _. Unit {0}) stack_unchanged 0 0 0 s₀ s'
+  module _ {kept : Kept} {tokens : List ℕ} {n : ℕ} {Q : Cases → Type 0} {s₀ s s' : Code} (t : Token) (d : Answer DefaultBlock) where
+    pub match_stops : LoopInvariantBy kept tokens (next_case deeper) cases_grown (record { cases = []; default = none }) (CasesAre tokens d n s) s₀ s → member_follows s.parser k_curly_right ≡ true
+        → AgainBy kept tokens (next_case deeper) cases_grown (CasesAre tokens d n s) Q s s' → going s' ≡ false → RefinesBy kept tokens 0 0 (match_rest deeper t) (λ _. Unit {0}) stack_unchanged 0 0 0 s₀ s'
     unfolding match_rest flatten
     match_stops i w p g = stops _ (again_stops i (member-going s.parser k_curly_right w) p g (λ stack. append-nil stack)) g
 

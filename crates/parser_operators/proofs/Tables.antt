@@ -12,8 +12,8 @@ use borrow.Author.Tests.{eqb-true, eq-eqb, ne_eqb, ltb-true, ltb-false, le-ltb, 
 use Rattle.lex.specs.Kind.{k_doc, k_match, k_as}
 use Rattle.rules.specs.Combinators.{Rule, Readers, choose}
 use Rattle.rules.specs.Rules.{stage_one, right_power, prefix_power, operand_by_kind}
-use Rattle.parser_state.specs.Represents.{Reading, Code}
-use Rattle.parser_state.specs.Refines.{Refines}
+use Rattle.parser_state.specs.Represents.{Reading, Code, Kept}
+use Rattle.parser_state.specs.Refines.{RefinesBy}
 use Rattle.parser_state.proofs.Steps.{either, true≢false, and_both}
 use Rattle.parser_operators.specs.Tests.{operand_classes, operand_class, operand_of, operator_numbers, operator_number, operator_of, power_at, left_powers, begins_expr, sign_follows, infix_by}
 
@@ -144,10 +144,10 @@ least_test least left = either (ltb left least)
 
 -- ---- a rule by a table
 
-module _ {A : Type 0} {script : List ℕ} {Q : A → Type 0} {grow : A → List ℕ → List ℕ} {r l d r' l' : ℕ} {s s' : Code} {k n : ℕ} (x other : Rule A) (xs : List (ℕ × Rule A)) where
-  pub entry_past : (k ≡ n → ⊥) → Refines script r l (choose xs other k) Q grow d r' l' s s' → Refines script r l (choose ((n, x) ∷ xs) other k) Q grow d r' l' s s'
+module _ {kept : Kept} {A : Type 0} {script : List ℕ} {Q : A → Type 0} {grow : A → List ℕ → List ℕ} {r l d r' l' : ℕ} {s s' : Code} {k n : ℕ} (x other : Rule A) (xs : List (ℕ × Rule A)) where
+  pub entry_past : (k ≡ n → ⊥) → RefinesBy kept script r l (choose xs other k) Q grow d r' l' s s' → RefinesBy kept script r l (choose ((n, x) ∷ xs) other k) Q grow d r' l' s s'
   entry_past e p = rw (past x other xs e) p
 
-module _ {A : Type 0} {script : List ℕ} {Q : A → Type 0} {grow : A → List ℕ → List ℕ} {r l d r' l' : ℕ} {s s' : Code} (k : ℕ) (other : Rule A) where
-  pub entry_other : Refines script r l other Q grow d r' l' s s' → Refines script r l (choose [] other k) Q grow d r' l' s s'
+module _ {kept : Kept} {A : Type 0} {script : List ℕ} {Q : A → Type 0} {grow : A → List ℕ → List ℕ} {r l d r' l' : ℕ} {s s' : Code} (k : ℕ) (other : Rule A) where
+  pub entry_other : RefinesBy kept script r l other Q grow d r' l' s s' → RefinesBy kept script r l (choose [] other k) Q grow d r' l' s s'
   entry_other p = rw (past_all k other) p

@@ -11,8 +11,8 @@ use Rattle.ast.specs.declared.Node.{Node}
 use Rattle.ast.specs.declared.Node.TheVariants as N
 use Rattle.ast.specs.declared.TypeExpr.{TypeExpr}
 use Rattle.ast.specs.declared.TypeExpr.TheVariants as TE
-use Rattle.parser_state.specs.Represents.{Code, loan, with_used, with_nodes, with_types, with_lists, going, doc_cells, NodesLaid, TypesLaid, ListsLaid}
-use Rattle.parser_state.specs.Refines.{stack_unchanged, Refines, Pushes, Lists}
+use Rattle.parser_state.specs.Represents.{Code, Kept, AsNamed, AsLent, kept_of, loan, with_used, with_nodes, with_types, with_lists, going, doc_cells, NodesLaid, TypesLaid, ListsLaid}
+use Rattle.parser_state.specs.Refines.{stack_unchanged, RefinesBy, PushesBy, ListsBy}
 use Rattle.parser_state.specs.declared.Used.{Used}
 use Rattle.parser_state.proofs.Steps.{either, true≢false, left-some}
 
@@ -57,16 +57,24 @@ laid-last xs vs between back n h e =
     ∙ laid-over (xs ++ front) vs rest back n (omega (arith, length-append xs front, length-take-le k between (omega arith))) (omega arith)
     ∙ rw none (simp append_assoc)
 
--- the loan stays where what is written is as long as before
+-- an array is as long as before, where that is said
+abbrev pub Long : Kept → List ℕ → List ℕ → Type 0
+Long AsNamed xs ys = Unit {0}
+Long AsLent xs ys = length xs ≡ length ys
+
+-- what is said of the loan holds where what is written is so
 module _ (xs : List ℕ) (s : Code) where
-  pub nodes_as_long : length xs ≡ length s.nodes → loan (with_nodes s xs) ≡ loan s
-  nodes_as_long e = λ i. record { names = s.names; nodes = e i; types = length s.types; lists = length s.lists }
+  pub nodes_as_long : (kept : Kept) → Long kept xs s.nodes → kept_of kept (loan (with_nodes s xs)) ≡ kept_of kept (loan s)
+  nodes_as_long AsNamed e = refl
+  nodes_as_long AsLent e = λ i. record { names = s.names; nodes = e i; types = length s.types; lists = length s.lists }
 
-  pub types_as_long : length xs ≡ length s.types → loan (with_types s xs) ≡ loan s
-  types_as_long e = λ i. record { names = s.names; nodes = length s.nodes; types = e i; lists = length s.lists }
+  pub types_as_long : (kept : Kept) → Long kept xs s.types → kept_of kept (loan (with_types s xs)) ≡ kept_of kept (loan s)
+  types_as_long AsNamed e = refl
+  types_as_long AsLent e = λ i. record { names = s.names; nodes = length s.nodes; types = e i; lists = length s.lists }
 
-  pub lists_as_long : length xs ≡ length s.lists → loan (with_lists s xs) ≡ loan s
-  lists_as_long e = λ i. record { names = s.names; nodes = length s.nodes; types = length s.types; lists = e i }
+  pub lists_as_long : (kept : Kept) → Long kept xs s.lists → kept_of kept (loan (with_lists s xs)) ≡ kept_of kept (loan s)
+  lists_as_long AsNamed e = refl
+  lists_as_long AsLent e = λ i. record { names = s.names; nodes = length s.nodes; types = length s.types; lists = e i }
 
 -- one more record, `cells` being those of each
 module _ {A : Type 0} (cells : A → List ℕ) (xs : List A) (x : A) (array array' between back vs : List ℕ) (n : ℕ) where
@@ -112,12 +120,12 @@ types-room {types} {c} {k} {arena} {docs} h =
 abbrev pub type_made : Used → Used
 type_made u = record { nodes = u.nodes; values = u.values; types = u.types + 1; docs = u.docs; cells = u.cells; scratch = u.scratch }
 
-pub making : (tokens cells : List ℕ) {types' : List ℕ} (s : Code) (t : TypeExpr) → going s ≡ true → cells ≡ type_cells t → types' ≡ paste s.types (type_width * s.parser.used.types) cells (length cells) → length types' ≡ length s.types
-    → Refines tokens 1 0 (push_type t) (λ i. i ≡ record { 0 = s.parser.used.types }) stack_unchanged 0 0 0 s (with_types (with_used s (type_made s.parser.used)) types')
+pub making : {kept : Kept} (tokens cells : List ℕ) {types' : List ℕ} (s : Code) (t : TypeExpr) → going s ≡ true → cells ≡ type_cells t → types' ≡ paste s.types (type_width * s.parser.used.types) cells (length cells) → Long kept types' s.types
+    → RefinesBy kept tokens 1 0 (push_type t) (λ i. i ≡ record { 0 = s.parser.used.types }) stack_unchanged 0 0 0 s (with_types (with_used s (type_made s.parser.used)) types')
 unfolding push_type with_arena
-making tokens cells {types'} s t g w e long = record {
+making {kept} tokens cells {types'} s t g w e long = record {
   sticky = λ f. absurd (true≢false g f);
-  same = types_as_long _ s long;
+  same = types_as_long _ s kept long;
   monotone = omega arith;
   progress = λ _. omega arith;
   simulates = λ R L stack m h.
@@ -187,12 +195,12 @@ pub nodes-room : {nodes : List ℕ} {c v : ℕ} {arena : List Node} {given : ℕ
 nodes-room {nodes} {c} {v} {arena} {given} h =
     omega (arith, h.counted, nodes-length arena, ap length h.laid ∙ length-append (flatten (map node_cells arena)) _, length-append h.between [])
 
-pub node_making : (tokens cells : List ℕ) {nodes' : List ℕ} (s : Code) (f : ℕ → Node) (more rooms : ℕ) → 1 + more ≤ 40000 * rooms → going s ≡ true → cells ≡ node_cells (f s.parser.used.values) → nodes' ≡ paste s.nodes (node_width * s.parser.used.nodes) cells (length cells) → length nodes' ≡ length s.nodes
-    → Refines tokens rooms 0 (push_node_and more f) (λ i. i ≡ record { 0 = s.parser.used.nodes }) stack_unchanged 0 0 0 s (with_nodes (with_used s (node_made s.parser.used more)) nodes')
+pub node_making : {kept : Kept} (tokens cells : List ℕ) {nodes' : List ℕ} (s : Code) (f : ℕ → Node) (more rooms : ℕ) → 1 + more ≤ 40000 * rooms → going s ≡ true → cells ≡ node_cells (f s.parser.used.values) → nodes' ≡ paste s.nodes (node_width * s.parser.used.nodes) cells (length cells) → Long kept nodes' s.nodes
+    → RefinesBy kept tokens rooms 0 (push_node_and more f) (λ i. i ≡ record { 0 = s.parser.used.nodes }) stack_unchanged 0 0 0 s (with_nodes (with_used s (node_made s.parser.used more)) nodes')
 unfolding push_node_and with_arena
-node_making tokens cells {nodes'} s f more rooms few g w e long = record {
+node_making {kept} tokens cells {nodes'} s f more rooms few g w e long = record {
   sticky = λ f. absurd (true≢false g f);
-  same = nodes_as_long _ s long;
+  same = nodes_as_long _ s kept long;
   monotone = omega arith;
   progress = λ _. omega arith;
   simulates = λ R L stack m h.
@@ -243,12 +251,12 @@ lists-room {lists} {c} {k} {cells} {stack} h =
     omega (arith, h.counted, h.stacked, ap length h.laid ∙ length-append cells _, length-append h.between (reverse stack), length-reverse stack)
 
 -- cells that are written the last first before those are pushed
-pub pushing : (tokens vs : List ℕ) {lists' : List ℕ} (s : Code) → going s ≡ true → lists' ≡ paste s.lists (length s.lists - (s.parser.used.scratch + length vs)) vs (length vs) → length lists' ≡ length s.lists
-    → Pushes tokens (2 * length vs) (reverse vs) s (with_lists (with_used s (pushed s.parser.used (length vs))) lists')
+pub pushing : {kept : Kept} (tokens vs : List ℕ) {lists' : List ℕ} (s : Code) → going s ≡ true → lists' ≡ paste s.lists (length s.lists - (s.parser.used.scratch + length vs)) vs (length vs) → Long kept lists' s.lists
+    → PushesBy kept tokens (2 * length vs) (reverse vs) s (with_lists (with_used s (pushed s.parser.used (length vs))) lists')
 unfolding pure
-pushing tokens vs {lists'} s g e long = record {
+pushing {kept} tokens vs {lists'} s g e long = record {
   sticky = λ f. absurd (true≢false g f);
-  same = lists_as_long _ s long;
+  same = lists_as_long _ s kept long;
   monotone = omega arith;
   progress = λ _. omega arith;
   simulates = λ R L stack m h.
@@ -308,12 +316,12 @@ moved_list between top base n scratch e k fits =
     let w : n ≡ length top = sym e in
     ap (λ (l : List ℕ). paste part 0 l n) cells ∙ rw w (laid-over [] top between (reverse top ++ base) 0 refl (omega arith))
 
-pub allocating : (tokens : List ℕ) {lists' : List ℕ} (s : Code) (mark members : ℕ) → going s ≡ true → lists' ≡ take s.parser.used.cells s.lists ++ moved (drop s.parser.used.cells s.lists) (s.parser.used.scratch - mark) s.parser.used.scratch → length lists' ≡ length s.lists
-    → Lists tokens alloc_slice (λ run. run ≡ record { start = s.parser.used.cells; len = members }) 0 0 0 mark members s (with_lists (with_used s (finished s.parser.used mark)) lists')
+pub allocating : {kept : Kept} (tokens : List ℕ) {lists' : List ℕ} (s : Code) (mark members : ℕ) → going s ≡ true → lists' ≡ take s.parser.used.cells s.lists ++ moved (drop s.parser.used.cells s.lists) (s.parser.used.scratch - mark) s.parser.used.scratch → Long kept lists' s.lists
+    → ListsBy kept tokens alloc_slice (λ run. run ≡ record { start = s.parser.used.cells; len = members }) 0 0 0 mark members s (with_lists (with_used s (finished s.parser.used mark)) lists')
 unfolding alloc_slice with_arena
-allocating tokens {lists'} s mark members g e long = record {
+allocating {kept} tokens {lists'} s mark members g e long = record {
   sticky = λ f. absurd (true≢false g f);
-  same = lists_as_long _ s long;
+  same = lists_as_long _ s kept long;
   monotone = omega arith;
   progress = λ _. omega arith;
   simulates = λ R L stack xs m a b few h.

@@ -12,12 +12,12 @@ use Rattle.rules.specs.Tree.{State, Result, ok, err}
 use Rattle.rules.specs.Combinators.{Rule, ◌>>◌, current, pure, if_kind, at_token, keep_doc, with_docs, with_arena, take_docs, alloc_slice, continue}
 use Rattle.ast.specs.Layout.{token_cells, type_cells}
 use Rattle.rules.specs.Rules.{last_of, require_no_docs}
-use Rattle.parser_state.specs.Represents.{Code, with_used, with_types, with_lists, going, doc_cells, Near, AllNear, Represents}
-use Rattle.parser_state.specs.Refines.{Ends, stack_unchanged, Refines, no_docs_wait, failed, at_entry, doc_at}
+use Rattle.parser_state.specs.Represents.{Code, Kept, with_used, with_types, with_lists, going, doc_cells, Near, AllNear, Represents}
+use Rattle.parser_state.specs.Refines.{Ends, stack_unchanged, RefinesBy, no_docs_wait, failed, at_entry, doc_at}
 use Rattle.parser_state.specs.declared.Used.{Used}
 use Rattle.parser_state.proofs.Steps.{as_rule, either, true≢false, left-some, current_represents, represents_less}
 use Rattle.parser_state.proofs.Leaves.{failing_at, at-entry}
-use Rattle.parser_state.proofs.Cells.{types_as_long, lists_as_long, laid-last, laid-over, flatten_snoc, map_snoc, types-length, docs-length, types-room, lists-room}
+use Rattle.parser_state.proofs.Cells.{Long, types_as_long, lists_as_long, laid-last, laid-over, flatten_snoc, map_snoc, types-length, docs-length, types-room, lists-room}
 use Rattle.parser_state.proofs.Rounds.{if_kind_is_yes, if_kind_is_no}
 
 docs-snoc : (ds : List Token) (d : Token) → doc_cells (ds ++ (d ∷ [])) ≡ doc_cells ds ++ token_cells d
@@ -40,12 +40,12 @@ near-snoc : (ds : List Token) (d : Token) → AllNear ds → Near d → AllNear 
 near-snoc [] d h e = (e, tt)
 near-snoc (x ∷ ds) d h e = (h.0, near-snoc ds d h.1 e)
 
-pub keeping : (tokens : List ℕ) {types' : List ℕ} (s : Code) (i n : ℕ) (t : Entry) → going s ≡ true → token_of t ≡ token_at tokens i → types' ≡ paste s.types (length s.types - (3 * s.parser.used.docs + 3)) (t.len ∷ t.start ∷ t.kind ∷ []) 3 → length types' ≡ length s.types
-    → Refines tokens 1 3 (keep_doc n (token_at tokens i)) (λ c. c ≡ continue n) stack_unchanged 0 0 0 s (with_types (with_used s (doc_kept s.parser.used)) types')
+pub keeping : {kept : Kept} (tokens : List ℕ) {types' : List ℕ} (s : Code) (i n : ℕ) (t : Entry) → going s ≡ true → token_of t ≡ token_at tokens i → types' ≡ paste s.types (length s.types - (3 * s.parser.used.docs + 3)) (t.len ∷ t.start ∷ t.kind ∷ []) 3 → Long kept types' s.types
+    → RefinesBy kept tokens 1 3 (keep_doc n (token_at tokens i)) (λ c. c ≡ continue n) stack_unchanged 0 0 0 s (with_types (with_used s (doc_kept s.parser.used)) types')
 unfolding with_docs
-keeping tokens {types'} s i n t g named e long = record {
+keeping {kept} tokens {types'} s i n t g named e long = record {
   sticky = λ f. absurd (true≢false g f);
-  same = types_as_long _ s long;
+  same = types_as_long _ s kept long;
   monotone = omega arith;
   progress = λ _. omega arith;
   simulates = λ R L stack m h.
@@ -104,12 +104,12 @@ docs_moved-length types lists at n h k =
     let cells : List ℕ = drop (length types - n) types in
     length-paste lists at (reverse cells) n k (omega (arith, length-reverse cells, length-drop (length types - n) types))
 
-pub attaching : (tokens : List ℕ) {lists' : List ℕ} (s : Code) → going s ≡ true → lists' ≡ docs_moved s.types s.lists s.parser.used.cells (3 * s.parser.used.docs) → length lists' ≡ length s.lists
-    → Refines tokens 0 0 take_docs (λ t. t ≡ record { start = s.parser.used.cells; len = s.parser.used.docs }) stack_unchanged 0 0 0 s (with_lists (with_used s (docs_taken s.parser.used)) lists')
+pub attaching : {kept : Kept} (tokens : List ℕ) {lists' : List ℕ} (s : Code) → going s ≡ true → lists' ≡ docs_moved s.types s.lists s.parser.used.cells (3 * s.parser.used.docs) → Long kept lists' s.lists
+    → RefinesBy kept tokens 0 0 take_docs (λ t. t ≡ record { start = s.parser.used.cells; len = s.parser.used.docs }) stack_unchanged 0 0 0 s (with_lists (with_used s (docs_taken s.parser.used)) lists')
 unfolding take_docs with_docs alloc_slice with_arena flatten
-attaching tokens {lists'} s g e long = record {
+attaching {kept} tokens {lists'} s g e long = record {
   sticky = λ z. absurd (true≢false g z);
-  same = lists_as_long _ s long;
+  same = lists_as_long _ s kept long;
   monotone = omega arith;
   progress = λ _. omega arith;
   simulates = λ R L stack m h.
@@ -209,7 +209,7 @@ last-near d (e ∷ es) h = last-near e es h.1
 by_docs : State → List Token → Result ℕ
 by_docs m ds = elim ds [ [] ↦ ok 0 m | d ∷ ds ↦ if_kind k_eof (λ t. err (at_token 13 0 (last_of d ds)) t) (λ t. err (at_token 14 0 d) t) m ]
 
-pub docs-none : (tokens : List ℕ) (s : Code) → s.parser.used.docs ≡ 0 → Refines tokens 0 0 no_docs_wait (λ n. n ≡ 0) stack_unchanged 0 0 0 s s
+pub docs-none : {kept : Kept} (tokens : List ℕ) (s : Code) → s.parser.used.docs ≡ 0 → RefinesBy kept tokens 0 0 no_docs_wait (λ n. n ≡ 0) stack_unchanged 0 0 0 s s
 unfolding no_docs_wait require_no_docs pure by_docs
 docs-none tokens s e = record {
   sticky = λ _. refl;
@@ -224,9 +224,9 @@ docs-none tokens s e = record {
     go R L stack m h [] n = (refl, h)
     go R L stack m h (d ∷ ds) n = absurd (omega arith)
 
-docs_bad : (tokens : List ℕ) (s : Code) (number at : ℕ) → going s ≡ true → (s.parser.used.docs ≡ 0 → ⊥)
+docs_bad : {kept : Kept} (tokens : List ℕ) (s : Code) (number at : ℕ) → going s ≡ true → (s.parser.used.docs ≡ 0 → ⊥)
     → (eqb s.parser.cur.kind k_eof ≡ true → (number ≡ 13) × (at ≡ length s.types - 3 * s.parser.used.docs)) → (eqb s.parser.cur.kind k_eof ≡ false → (number ≡ 14) × (at ≡ length s.types - 3))
-    → Refines tokens 0 0 no_docs_wait (λ n. n ≡ 0) stack_unchanged 0 0 0 s (failed s (at_entry number 0 (token_of (doc_at s.types at))))
+    → RefinesBy kept tokens 0 0 no_docs_wait (λ n. n ≡ 0) stack_unchanged 0 0 0 s (failed s (at_entry number 0 (token_of (doc_at s.types at))))
 unfolding no_docs_wait require_no_docs pure by_docs
 docs_bad tokens s number at g waits at_eof elsewhere = record {
   sticky = λ f. absurd (true≢false g f);
@@ -257,16 +257,16 @@ docs_bad tokens s number at g waits at_eof elsewhere = record {
         (λ f. subst (Ends {A = ℕ} tokens (λ n. n ≡ 0) stack_unchanged after R L 0 0 stack) (sym (if_kind_is_no k_eof (λ t. err (at_token 13 0 (last_of d ds)) t) (λ t. err (at_token 14 0 d) t) m (rw kind f)))
         (failing_at _ _ (named 14 d (elsewhere f).0 (ap (λ (k : ℕ). token_of (doc_at s.types k)) (elsewhere f).1 ∙ first-doc s.types front d ds e) near.0) h₀))
 
-pub docs-fail : (tokens : List ℕ) {s : Code} {e : Diagnostic} (number at : ℕ) (d : Entry) → d ≡ doc_at s.types at → e ≡ at_entry number 0 (token_of d) → going s ≡ true → (s.parser.used.docs ≡ 0 → ⊥)
+pub docs-fail : {kept : Kept} (tokens : List ℕ) {s : Code} {e : Diagnostic} (number at : ℕ) (d : Entry) → d ≡ doc_at s.types at → e ≡ at_entry number 0 (token_of d) → going s ≡ true → (s.parser.used.docs ≡ 0 → ⊥)
     → (eqb s.parser.cur.kind k_eof ≡ true → (number ≡ 13) × (at ≡ length s.types - 3 * s.parser.used.docs)) → (eqb s.parser.cur.kind k_eof ≡ false → (number ≡ 14) × (at ≡ length s.types - 3))
-    → Refines tokens 0 0 no_docs_wait (λ n. n ≡ 0) stack_unchanged 0 0 0 s (failed s e)
-docs-fail tokens {s} number at d e f g waits at_eof elsewhere =
-    subst (Refines tokens 0 0 no_docs_wait (λ n. n ≡ 0) stack_unchanged 0 0 0 s) (sym (ap (failed s) f ∙ ap (λ (t : Entry). failed s (at_entry number 0 (token_of t))) e))
+    → RefinesBy kept tokens 0 0 no_docs_wait (λ n. n ≡ 0) stack_unchanged 0 0 0 s (failed s e)
+docs-fail {kept} tokens {s} number at d e f g waits at_eof elsewhere =
+    subst (RefinesBy kept tokens 0 0 no_docs_wait (λ n. n ≡ 0) stack_unchanged 0 0 0 s) (sym (ap (failed s) f ∙ ap (λ (t : Entry). failed s (at_entry number 0 (token_of t))) e))
     (docs_bad tokens s number at g waits at_eof elsewhere)
 
 -- the rule goes on where no docs wait
-module _ {A : Type 0} {tokens : List ℕ} {Q : A → Type 0} {grow : A → List ℕ → List ℕ} {r l d r' l' : ℕ} {s s' : Code} (x : Rule A) where
-  pub require_then : Refines tokens r l (no_docs_wait >> x) Q grow d r' l' s s' → Refines tokens r l (require_no_docs x) Q grow d r' l' s s'
+module _ {kept : Kept} {A : Type 0} {tokens : List ℕ} {Q : A → Type 0} {grow : A → List ℕ → List ℕ} {r l d r' l' : ℕ} {s s' : Code} (x : Rule A) where
+  pub require_then : RefinesBy kept tokens r l (no_docs_wait >> x) Q grow d r' l' s s' → RefinesBy kept tokens r l (require_no_docs x) Q grow d r' l' s s'
   unfolding no_docs_wait require_no_docs pure ◌>>◌
   require_then p = as_rule (λ m. go m m.docs) p
     where

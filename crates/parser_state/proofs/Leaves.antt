@@ -11,8 +11,8 @@ use Rattle.tokens.specs.declared.Entry.{Entry}
 use Rattle.tokens.proofs.Records.{tokens-last, tokens_more}
 use Rattle.rules.specs.Tree.{State}
 use Rattle.rules.specs.Combinators.{Rule, rest, advance, at_token}
-use Rattle.parser_state.specs.Represents.{Failed, with_token, with_used, Near, Code, going, from, Related, Represents, FailedAt}
-use Rattle.parser_state.specs.Refines.{stack_unchanged, Refines, Refuses, Takes, Lists, fail_at, failed, at_entry}
+use Rattle.parser_state.specs.Represents.{Failed, with_token, with_used, Near, Code, Kept, going, from, Related, Represents, FailedAt}
+use Rattle.parser_state.specs.Refines.{stack_unchanged, RefinesBy, RefusesBy, TakesBy, ListsBy, fail_at, failed, at_entry}
 use Rattle.parser_state.specs.declared.Used.{Used}
 use Rattle.parser_state.proofs.Steps.{either, true≢false, some-from, represents_going, represents_less, current_represents}
 
@@ -25,7 +25,7 @@ through_used s f P {u} e w h = subst (λ (r : Code). P u r) (sym w) (subst (λ (
 -- ---- nothing is done
 
 -- the code has failed before
-pub idle : {A : Type 0} {tokens : List ℕ} {x : Rule A} {Q : A → Type 0} {grow : A → List ℕ → List ℕ} {r l d r' l' : ℕ} {s : Code} → going s ≡ false → Refines tokens r l x Q grow d r' l' s s
+pub idle : {kept : Kept} {A : Type 0} {tokens : List ℕ} {x : Rule A} {Q : A → Type 0} {grow : A → List ℕ → List ℕ} {r l d r' l' : ℕ} {s : Code} → going s ≡ false → RefinesBy kept tokens r l x Q grow d r' l' s s
 idle g = record {
   sticky = λ e. refl;
   same = refl;
@@ -35,8 +35,8 @@ idle g = record {
 }
 
 -- there is no room, which does not happen
-pub full : {A : Type 0} {tokens : List ℕ} {x : Rule A} {Q : A → Type 0} {grow : A → List ℕ → List ℕ} {r l r' l' : ℕ} {s : Code}
-    → ((R L : ℕ) (stack : List ℕ) (m : State) → Related tokens s (R + r) (L + l) stack m → ⊥) → Refines tokens r l x Q grow 0 r' l' s s
+pub full : {kept : Kept} {A : Type 0} {tokens : List ℕ} {x : Rule A} {Q : A → Type 0} {grow : A → List ℕ → List ℕ} {r l r' l' : ℕ} {s : Code}
+    → ((R L : ℕ) (stack : List ℕ) (m : State) → Related tokens s (R + r) (L + l) stack m → ⊥) → RefinesBy kept tokens r l x Q grow 0 r' l' s s
 full f = record {
   sticky = λ e. refl;
   same = refl;
@@ -46,12 +46,12 @@ full f = record {
 }
 
 -- there is no place, which happens only where the reading has failed
-pub no_place : {A : Type 0} {tokens : List ℕ} {x : Rule A} {Q : A → Type 0} {grow : A → List ℕ → List ℕ} {r l r' l' : ℕ} {s : Code} {Few Fits : Type 0}
-    → (going s ≡ true → Few → Fits → ⊥) → ((R L : ℕ) (stack : List ℕ) (m : State) → Related tokens s (R + r) (L + l) stack m → Few × Fits) → Refines tokens r l x Q grow 0 r' l' s s
+pub no_place : {kept : Kept} {A : Type 0} {tokens : List ℕ} {x : Rule A} {Q : A → Type 0} {grow : A → List ℕ → List ℕ} {r l r' l' : ℕ} {s : Code} {Few Fits : Type 0}
+    → (going s ≡ true → Few → Fits → ⊥) → ((R L : ℕ) (stack : List ℕ) (m : State) → Related tokens s (R + r) (L + l) stack m → Few × Fits) → RefinesBy kept tokens r l x Q grow 0 r' l' s s
 no_place {s = s} none f = either (going s) (λ g. full (λ R L stack m h. let room = f R L stack m h in none g room.0 room.1)) idle
 
-pub lists_full : {A : Type 0} {tokens : List ℕ} {x : List (List ℕ) → Rule A} {Q : A → Type 0} {r' l' mark n : ℕ} {s : Code}
-    → ((R L : ℕ) (stack : List ℕ) (xs : List (List ℕ)) (m : State) → length stack ≡ mark → length xs ≡ n → length xs + length m.left ≤ max_bytes + 1 → Related tokens s R L (stack ++ flatten xs) m → ⊥) → Lists tokens x Q 0 r' l' mark n s s
+pub lists_full : {kept : Kept} {A : Type 0} {tokens : List ℕ} {x : List (List ℕ) → Rule A} {Q : A → Type 0} {r' l' mark n : ℕ} {s : Code}
+    → ((R L : ℕ) (stack : List ℕ) (xs : List (List ℕ)) (m : State) → length stack ≡ mark → length xs ≡ n → length xs + length m.left ≤ max_bytes + 1 → Related tokens s R L (stack ++ flatten xs) m → ⊥) → ListsBy kept tokens x Q 0 r' l' mark n s s
 lists_full f = record {
   sticky = λ e. refl;
   same = refl;
@@ -81,9 +81,9 @@ rest_from tokens c t at = go (eqb t.kind k_eof)
     go true = refl
     go false = refl
 
-module _ (tokens : List ℕ) (s : Code) (t : Entry) where
+module _ {kept : Kept} (tokens : List ℕ) (s : Code) (t : Entry) where
   -- the token of the next record
-  pub taking : going s ≡ true → (s.parser.cur.kind ≡ k_eof → ⊥) → token_of t ≡ token_at tokens (s.parser.at + 1) → Takes tokens advance s (with_token s t (s.parser.at + 1))
+  pub taking : going s ≡ true → (s.parser.cur.kind ≡ k_eof → ⊥) → token_of t ≡ token_at tokens (s.parser.at + 1) → TakesBy kept tokens advance s (with_token s t (s.parser.at + 1))
   unfolding advance
   taking g k e = record {
     sticky = λ f. absurd (true≢false g f);
@@ -121,7 +121,7 @@ module _ (tokens : List ℕ) (s : Code) (t : Entry) where
       more = from_more tokens (token_of s.parser.cur) s.parser.at (ne_eqb s.parser.cur.kind k_eof k) ∙ ap (λ (ts : List Token). token_of s.parser.cur ∷ ts) (ap (tokens_from tokens) {x = suc s.parser.at} {y = s.parser.at + 1} (omega arith) ∙ from_at tokens (s.parser.at + 1) ∙ ap (λ (u : Token). from tokens u (s.parser.at + 1)) (sym e))
 
 -- no script has so many tokens
-pub taking_past : (tokens : List ℕ) (s : Code) (start len : ℕ) → going s ≡ true → (s.parser.cur.kind ≡ k_eof → ⊥) → max_bytes ≤ s.parser.at → Takes tokens advance s (with_token s (record { kind = k_eof; start = start; len = len }) s.parser.at)
+pub taking_past : {kept : Kept} (tokens : List ℕ) (s : Code) (start len : ℕ) → going s ≡ true → (s.parser.cur.kind ≡ k_eof → ⊥) → max_bytes ≤ s.parser.at → TakesBy kept tokens advance s (with_token s (record { kind = k_eof; start = start; len = len }) s.parser.at)
 unfolding from
 taking_past tokens s start len g k z = record {
   sticky = λ f. absurd (true≢false g f);
@@ -157,8 +157,8 @@ failing_at e e' w h = record {
   related = rw append-nil (record { left = h.related.left; here = h.related.here; near = h.related.near; taken = h.related.taken; few = h.related.few; nodes = h.related.nodes; types = h.related.types; lists = h.related.lists; bytes = h.related.bytes; credit = h.related.credit; lent = h.related.lent });
 }
 
-module _ {tokens : List ℕ} {number wanted : ℕ} {s : Code} {e : Diagnostic} where
-  pub failing : going s ≡ true → e ≡ at_entry number wanted (token_of s.parser.cur) → Refuses tokens number wanted s (failed s e)
+module _ {kept : Kept} {tokens : List ℕ} {number wanted : ℕ} {s : Code} {e : Diagnostic} where
+  pub failing : going s ≡ true → e ≡ at_entry number wanted (token_of s.parser.cur) → RefusesBy kept tokens number wanted s (failed s e)
   failing g w = record {
     sticky = λ z. absurd (true≢false g z);
     same = refl;
@@ -169,8 +169,8 @@ module _ {tokens : List ℕ} {number wanted : ℕ} {s : Code} {e : Diagnostic} w
         failing_at _ _ (w ∙ at-entry number wanted (token_of s.parser.cur) near ∙ ap (at_token number wanted) (sym (current_represents h.related))) h;
   }
 
-module _ {A : Type 0} {Q : A → Type 0} {d r' l' : ℕ} {tokens : List ℕ} {s : Code} {e : Diagnostic} (number i : ℕ) (t : Entry) (named : token_of t ≡ token_at tokens i) where
-  pub failing_before : going s ≡ true → e ≡ at_entry number 0 (token_of t) → Refines {A = A} tokens 0 0 (fail_at number (token_at tokens i)) Q stack_unchanged d r' l' s (failed s e)
+module _ {kept : Kept} {A : Type 0} {Q : A → Type 0} {d r' l' : ℕ} {tokens : List ℕ} {s : Code} {e : Diagnostic} (number i : ℕ) (t : Entry) (named : token_of t ≡ token_at tokens i) where
+  pub failing_before : going s ≡ true → e ≡ at_entry number 0 (token_of t) → RefinesBy {A = A} kept tokens 0 0 (fail_at number (token_at tokens i)) Q stack_unchanged d r' l' s (failed s e)
   unfolding fail_at
   failing_before g w = record {
     sticky = λ z. absurd (true≢false g z);

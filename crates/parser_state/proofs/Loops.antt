@@ -10,10 +10,10 @@ use Rattle.tokens.specs.Table.{token_of}
 use Rattle.rules.specs.Tree.{State, Result, ok, err}
 use Rattle.rules.specs.Combinators.{Rule, ◌>>=◌, ◌>>◌, pure, current, expect, alloc_slice, if_kind, ControlFlow, continue, break, iterate, loop, members, list_until}
 use Rattle.ast.specs.declared.Run.{Run}
-use Rattle.parser_state.specs.Represents.{Reading, Code, loan, going, is_going, ahead, Represents, FailedAt}
-use Rattle.parser_state.specs.Refines.{Ends, stack_unchanged, grown, all_grown, Collected, Refines, ReadsMember, Lists, member_follows, follows_by, closed}
-use Rattle.parser_state.specs.Members.{members_until}
-use Rattle.parser_state.proofs.Steps.{lists-after, either, true≢false, represents_going, represents_less, failed-fails, current_represents, left-some}
+use Rattle.parser_state.specs.Represents.{Reading, Code, Kept, AsNamed, AsLent, kept_of, loan, going, is_going, ahead, Represents, FailedAt}
+use Rattle.parser_state.specs.Refines.{Ends, stack_unchanged, grown, all_grown, Collected, RefinesBy, ReadsMemberBy, ListsBy, member_follows, follows_by, closed}
+use Rattle.parser_state.specs.Members.{members_until, Calls, ReadsEachBy, ReadsEach}
+use Rattle.parser_state.proofs.Steps.{as_kept, lists-after, either, true≢false, represents_going, represents_less, failed-fails, current_represents, left-some}
 use Rattle.parser_state.proofs.Cells.{flatten_snoc}
 use Rattle.parser_state.proofs.Rounds.{weight, lighter, if_kind_is_yes, if_kind_is_no}
 
@@ -64,13 +64,13 @@ pub data Way (tokens : List ℕ) (stop : ℕ) (item : Rule (List ℕ)) (s : Code
   lost : Lost tokens s r l stack res → Way tokens stop item s n r l stack res
 
 -- the loop's invariant
-pub record MembersInvariant (tokens : List ℕ) (stop : ℕ) (item : Rule (List ℕ)) (s₀ s : Code) (n : ℕ) : Type 0 where
+pub record MembersInvariant (kept : Kept) (tokens : List ℕ) (stop : ℕ) (item : Rule (List ℕ)) (s₀ s : Code) (n : ℕ) : Type 0 where
   pub sticky : going s₀ ≡ false → s ≡ s₀
-  pub same : loan s ≡ loan s₀
+  pub same : kept_of kept (loan s) ≡ kept_of kept (loan s₀)
   pub monotone : length (ahead tokens s) ≤ length (ahead tokens s₀)
   pub way : (R L : ℕ) (stack : List ℕ) (m : State) → Represents tokens s₀ R L stack m → Way tokens stop item s n R L stack (members stop item m)
 
-pub midway_start : {tokens : List ℕ} {stop : ℕ} {item : Rule (List ℕ)} {s : Code} → MembersInvariant tokens stop item s s 0
+pub midway_start : {kept : Kept} {tokens : List ℕ} {stop : ℕ} {item : Rule (List ℕ)} {s : Code} → MembersInvariant kept tokens stop item s s 0
 unfolding members loop flatten
 midway_start = record {
   sticky = λ e. refl;
@@ -103,11 +103,11 @@ module _ (p : Reading) (stop : ℕ) where
   no_member g e f = no-member_when (eqb p.cur.kind k_eof) (eqb p.cur.kind stop) (subst (λ (b : Bool). follows_by b (eqb p.cur.kind k_eof) (eqb p.cur.kind stop) ≡ false) g e) f
 
 -- a turn lowers the measure
-pub falls : {tokens : List ℕ} (stop : ℕ) {item : Rule (List ℕ)} {s s' : Code} → member_follows s.parser stop ≡ true → ReadsMember tokens item s s' → weight tokens s' < weight tokens s
+pub falls : {kept : Kept} {tokens : List ℕ} (stop : ℕ) {item : Rule (List ℕ)} {s s' : Code} → member_follows s.parser stop ≡ true → ReadsMemberBy kept tokens item s s' → weight tokens s' < weight tokens s
 falls stop {s = s} w p = lighter (member-going s.parser stop w) p
 
-module _ {tokens : List ℕ} {stop : ℕ} {item : Rule (List ℕ)} {s₀ s s' : Code} {n n' : ℕ} where
-  pub midway_turn : MembersInvariant tokens stop item s₀ s n → member_follows s.parser stop ≡ true → ReadsMember tokens item s s' → n' ≡ (n + 1) % 2 ^ 32 → MembersInvariant tokens stop item s₀ s' n'
+module _ {kept : Kept} {tokens : List ℕ} {stop : ℕ} {item : Rule (List ℕ)} {s₀ s s' : Code} {n n' : ℕ} where
+  pub midway_turn : MembersInvariant kept tokens stop item s₀ s n → member_follows s.parser stop ≡ true → ReadsMemberBy kept tokens item s s' → n' ≡ (n + 1) % 2 ^ 32 → MembersInvariant kept tokens stop item s₀ s' n'
   unfolding more
   midway_turn i w p k = record {
     sticky = λ e. absurd (true≢false (member-going s.parser stop w) (ap going (i.sticky e) ∙ e));
@@ -147,8 +147,8 @@ module _ {tokens : List ℕ} {stop : ℕ} {item : Rule (List ℕ)} {s₀ s s' : 
       go R L stack res (simulates v) = one R L stack v.fuel v.xs v.m res v.comes v.fuelled v.count v.few v.represents
       go R L stack res (lost v) = absurd (true≢false (member-going s.parser stop w) (failed-fails v.failed_at))
 
-module _ {tokens : List ℕ} {stop : ℕ} {item : Rule (List ℕ)} {s₀ s : Code} {n : ℕ} where
-  pub members_end : MembersInvariant tokens stop item s₀ s n → member_follows s.parser stop ≡ false → Refines tokens 0 0 (members stop item) (Collected tokens n s) all_grown 0 0 0 s₀ s
+module _ {kept : Kept} {tokens : List ℕ} {stop : ℕ} {item : Rule (List ℕ)} {s₀ s : Code} {n : ℕ} where
+  pub members_end : MembersInvariant kept tokens stop item s₀ s n → member_follows s.parser stop ≡ false → RefinesBy kept tokens 0 0 (members stop item) (Collected tokens n s) all_grown 0 0 0 s₀ s
   unfolding pure
   members_end i w = record {
     sticky = i.sticky;
@@ -173,10 +173,16 @@ module _ {tokens : List ℕ} {stop : ℕ} {item : Rule (List ℕ)} {s₀ s : Cod
       go R L stack res (simulates v) = one R L stack v.fuel v.xs v.m res v.comes v.fuelled v.count v.few v.represents
       go R L stack res (lost v) = subst (Ends tokens (Collected tokens n s) all_grown s R L 0 0 stack) (sym v.comes) v.failed_at
 
-module _ {tokens : List ℕ} {stop : ℕ} {item : Rule (List ℕ)} {Q : Run → Type 0} {s₀ s s' : Code} {mark n : ℕ} where
-  pub midway_end : MembersInvariant tokens stop item s₀ s n → member_follows s.parser stop ≡ false → mark ≡ s₀.parser.used.scratch → Lists tokens (closed stop) Q 1 1 8 mark n s s' → Refines tokens 0 0 (list_until stop item) Q stack_unchanged 1 1 8 s₀ s'
+module _ {kept : Kept} {tokens : List ℕ} {stop : ℕ} {item : Rule (List ℕ)} {Q : Run → Type 0} {s₀ s s' : Code} {mark n : ℕ} where
+  pub midway_end : MembersInvariant kept tokens stop item s₀ s n → member_follows s.parser stop ≡ false → mark ≡ s₀.parser.used.scratch → ListsBy kept tokens (closed stop) Q 1 1 8 mark n s s' → RefinesBy kept tokens 0 0 (list_until stop item) Q stack_unchanged 1 1 8 s₀ s'
   unfolding list_until closed
   midway_end i w k p = lists-after (closed stop) (members_end i w) p k
+
+-- what is asked of a closure, whatever it says of lengths
+module _ {tokens : List ℕ} {item : Rule (List ℕ)} {post : Calls} where
+  pub each-asked : (kept : Kept) → ReadsEachBy kept tokens item post → ReadsEach tokens item post
+  each-asked AsNamed each = each
+  each-asked AsLent each = λ u r v h. as_kept AsNamed (each u r v h)
 
 -- a list is its members, and then the cells of a list
 pub list_as_members : (stop : ℕ) (item : Rule (List ℕ)) (m : State) → list_until stop item m ≡ (members_until stop item >>= alloc_slice) m
@@ -194,6 +200,6 @@ list_as_members stop item m = go (members stop item m)
     go (err e s) = refl
 
 -- a member that fails ends the loop
-module _ {tokens : List ℕ} {stop : ℕ} {item : Rule (List ℕ)} {s₀ s s' : Code} {n : ℕ} where
-  pub members_stop : MembersInvariant tokens stop item s₀ s n → member_follows s.parser stop ≡ true → ReadsMember tokens item s s' → going s' ≡ false → Refines tokens 0 0 (members stop item) (Collected tokens ((n + 1) % 2 ^ 32) s') all_grown 0 0 0 s₀ s'
+module _ {kept : Kept} {tokens : List ℕ} {stop : ℕ} {item : Rule (List ℕ)} {s₀ s s' : Code} {n : ℕ} where
+  pub members_stop : MembersInvariant kept tokens stop item s₀ s n → member_follows s.parser stop ≡ true → ReadsMemberBy kept tokens item s s' → going s' ≡ false → RefinesBy kept tokens 0 0 (members stop item) (Collected tokens ((n + 1) % 2 ^ 32) s') all_grown 0 0 0 s₀ s'
   members_stop i w p g = members_end (midway_turn i w p refl) (subst (λ (b : Bool). follows_by b (eqb s'.parser.cur.kind k_eof) (eqb s'.parser.cur.kind stop) ≡ false) (sym g) refl)

@@ -5,8 +5,8 @@ use Rattle.lex.specs.declared.diagnostic.Diagnostic.{Diagnostic}
 use Rattle.lex.specs.Kind.{k_doc}
 use Rattle.rules.specs.Tree.{State, Result, ok, err}
 use Rattle.rules.specs.Combinators.{Rule, current, by_kind, if_kind, ControlFlow, continue, break, iterate, loop, struck}
-use Rattle.parser_state.specs.Represents.{Failed, Reading, Code, loan, with_error, error_of, going, is_going, ahead, Represents, FailedAt}
-use Rattle.parser_state.specs.Refines.{Ends, stack_unchanged, Refines, doc_follows}
+use Rattle.parser_state.specs.Represents.{Failed, Reading, Code, Kept, AsLent, kept_of, loan, with_error, error_of, going, is_going, ahead, Represents, FailedAt}
+use Rattle.parser_state.specs.Refines.{Ends, stack_unchanged, RefinesBy, doc_follows}
 use Rattle.parser_state.proofs.Steps.{Passed, passed_on, represents_noted, either, true≢false, and_both, represents_going, represents_less, failed-fails, left-some}
 
 -- after a turn
@@ -45,24 +45,11 @@ module _ {A : Type 0} (tokens : List ℕ) (f : A → Rule (ControlFlow A)) (grow
     simulates : Live Q s r l stack res → Way Q s r l stack res
     lost : Lost s r l stack res → Way Q s r l stack res
 
-  -- the loop's invariant
-  pub record LoopInvariant (a₀ : A) (Q : A → Type 0) (s₀ s : Code) : Type 0 where
-    pub sticky : going s₀ ≡ false → s ≡ s₀
-    pub same : loan s ≡ loan s₀
-    pub monotone : length (ahead tokens s) ≤ length (ahead tokens s₀)
-    pub way : (R L : ℕ) (stack : List ℕ) (m : State) → Represents tokens s₀ R L (grow a₀ stack) m → Way Q s R L stack (loop f a₀ m)
-
   -- a turn that goes on
   abbrev pub Turned : (A → Type 0) → Code → ℕ → ℕ → List ℕ → Result (ControlFlow A) → Type 0
   Turned Q s' r l stack (ok (continue b) m) = Q b × Represents tokens s' r l (grow b stack) m
   Turned Q s' r l stack (ok (break b) m) = ⊥
   Turned Q s' r l stack (err e m) = FailedAt tokens s' e r l stack m
-
-  pub record Again (Q Q' : A → Type 0) (s s' : Code) : Type 0 where
-    pub same : loan s' ≡ loan s
-    pub monotone : length (ahead tokens s') ≤ length (ahead tokens s)
-    pub progress : going s' ≡ true → length (ahead tokens s') + 1 ≤ length (ahead tokens s)
-    pub flow_value : (R L : ℕ) (stack : List ℕ) (a : A) (m : State) → Q a → Represents tokens s R L (grow a stack) m → Turned Q' s' R L stack (f a m)
 
   -- a turn at which the loop is left
   abbrev pub Stopped : (A → Type 0) → Code → ℕ → ℕ → List ℕ → Result (ControlFlow A) → Type 0
@@ -70,14 +57,41 @@ module _ {A : Type 0} (tokens : List ℕ) (f : A → Rule (ControlFlow A)) (grow
   Stopped Q s' r l stack (ok (break b) m) = Q b × Represents tokens s' r l (grow b stack) m
   Stopped Q s' r l stack (err e m) = FailedAt tokens s' e r l stack m
 
-  pub record Last (Q Q' : A → Type 0) (s s' : Code) : Type 0 where
-    pub sticky : going s ≡ false → s' ≡ s
-    pub same : loan s' ≡ loan s
-    pub monotone : length (ahead tokens s') ≤ length (ahead tokens s)
-    pub flow_value : (R L : ℕ) (stack : List ℕ) (a : A) (m : State) → Q a → Represents tokens s R L (grow a stack) m → Stopped Q' s' R L stack (f a m)
+module _ {A : Type 0} (kept : Kept) (tokens : List ℕ) (f : A → Rule (ControlFlow A)) (grow : A → List ℕ → List ℕ) where
+  -- the loop's invariant
+  pub record LoopInvariantBy (a₀ : A) (Q : A → Type 0) (s₀ s : Code) : Type 0 where
+    pub sticky : going s₀ ≡ false → s ≡ s₀
+    pub same : kept_of kept (loan s) ≡ kept_of kept (loan s₀)
+    pub monotone : length (ahead tokens s) ≤ length (ahead tokens s₀)
+    pub way : (R L : ℕ) (stack : List ℕ) (m : State) → Represents tokens s₀ R L (grow a₀ stack) m → Way tokens f grow Q s R L stack (loop f a₀ m)
 
-module _ {A : Type 0} {tokens : List ℕ} {f : A → Rule (ControlFlow A)} {grow : A → List ℕ → List ℕ} where
-  pub round_start : {a₀ : A} {s : Code} → LoopInvariant tokens f grow a₀ (λ a. a ≡ a₀) s s
+  -- a turn that goes on
+  pub record AgainBy (Q Q' : A → Type 0) (s s' : Code) : Type 0 where
+    pub same : kept_of kept (loan s') ≡ kept_of kept (loan s)
+    pub monotone : length (ahead tokens s') ≤ length (ahead tokens s)
+    pub progress : going s' ≡ true → length (ahead tokens s') + 1 ≤ length (ahead tokens s)
+    pub flow_value : (R L : ℕ) (stack : List ℕ) (a : A) (m : State) → Q a → Represents tokens s R L (grow a stack) m → Turned tokens f grow Q' s' R L stack (f a m)
+
+  -- a turn at which the loop is left
+  pub record LastBy (Q Q' : A → Type 0) (s s' : Code) : Type 0 where
+    pub sticky : going s ≡ false → s' ≡ s
+    pub same : kept_of kept (loan s') ≡ kept_of kept (loan s)
+    pub monotone : length (ahead tokens s') ≤ length (ahead tokens s)
+    pub flow_value : (R L : ℕ) (stack : List ℕ) (a : A) (m : State) → Q a → Represents tokens s R L (grow a stack) m → Stopped tokens f grow Q' s' R L stack (f a m)
+
+-- where the arrays stay as long
+module _ {A : Type 0} (tokens : List ℕ) (f : A → Rule (ControlFlow A)) (grow : A → List ℕ → List ℕ) where
+  abbrev pub LoopInvariant : (a₀ : A) (Q : A → Type 0) (s₀ s : Code) → Type 0
+  LoopInvariant a₀ Q s₀ s = LoopInvariantBy AsLent tokens f grow a₀ Q s₀ s
+
+  abbrev pub Again : (Q Q' : A → Type 0) (s s' : Code) → Type 0
+  Again Q Q' s s' = AgainBy AsLent tokens f grow Q Q' s s'
+
+  abbrev pub Last : (Q Q' : A → Type 0) (s s' : Code) → Type 0
+  Last Q Q' s s' = LastBy AsLent tokens f grow Q Q' s s'
+
+module _ {kept : Kept} {A : Type 0} {tokens : List ℕ} {f : A → Rule (ControlFlow A)} {grow : A → List ℕ → List ℕ} where
+  pub round_start : {a₀ : A} {s : Code} → LoopInvariantBy kept tokens f grow a₀ (λ a. a ≡ a₀) s s
   unfolding loop
   round_start {a₀} = record {
     sticky = λ e. refl;
@@ -87,7 +101,7 @@ module _ {A : Type 0} {tokens : List ℕ} {f : A → Rule (ControlFlow A)} {grow
   }
 
   -- where what the code holds gives the property
-  pub round_start_at : {a₀ : A} {Q : A → Type 0} {s : Code} → ((R L : ℕ) (stack : List ℕ) (m : State) → Represents tokens s R L (grow a₀ stack) m → Q a₀) → LoopInvariant tokens f grow a₀ Q s s
+  pub round_start_at : {a₀ : A} {Q : A → Type 0} {s : Code} → ((R L : ℕ) (stack : List ℕ) (m : State) → Represents tokens s R L (grow a₀ stack) m → Q a₀) → LoopInvariantBy kept tokens f grow a₀ Q s s
   unfolding loop
   round_start_at {a₀} q = record {
     sticky = λ e. refl;
@@ -97,7 +111,7 @@ module _ {A : Type 0} {tokens : List ℕ} {f : A → Rule (ControlFlow A)} {grow
   }
 
   module _ {a₀ : A} {Q Q' : A → Type 0} {s₀ s s' : Code} where
-    pub round_again : LoopInvariant tokens f grow a₀ Q s₀ s → going s ≡ true → Again tokens f grow Q Q' s s' → LoopInvariant tokens f grow a₀ Q' s₀ s'
+    pub round_again : LoopInvariantBy kept tokens f grow a₀ Q s₀ s → going s ≡ true → AgainBy kept tokens f grow Q Q' s s' → LoopInvariantBy kept tokens f grow a₀ Q' s₀ s'
     unfolding after
     round_again i g p = record {
       sticky = λ e. absurd (true≢false g (ap going (i.sticky e) ∙ e));
@@ -123,7 +137,7 @@ module _ {A : Type 0} {tokens : List ℕ} {f : A → Rule (ControlFlow A)} {grow
         go R L stack res (lost w) = absurd (true≢false g (failed-fails w.failed_at))
 
   module _ {a₀ : A} {Q Q' : A → Type 0} {s₀ s s' : Code} where
-    pub round_last : LoopInvariant tokens f grow a₀ Q s₀ s → ((stack : List ℕ) → grow a₀ stack ≡ stack) → Last tokens f grow Q Q' s s' → Refines tokens 0 0 (loop f a₀) Q' grow 0 0 0 s₀ s'
+    pub round_last : LoopInvariantBy kept tokens f grow a₀ Q s₀ s → ((stack : List ℕ) → grow a₀ stack ≡ stack) → LastBy kept tokens f grow Q Q' s s' → RefinesBy kept tokens 0 0 (loop f a₀) Q' grow 0 0 0 s₀ s'
     unfolding after
     round_last i z p = record {
       sticky = λ e. let e₁ : s ≡ s₀ = i.sticky e in p.sticky (ap going e₁ ∙ e) ∙ e₁;
@@ -148,8 +162,8 @@ module _ {A : Type 0} {tokens : List ℕ} {f : A → Rule (ControlFlow A)} {grow
 
   -- a last turn that changes nothing
   module _ {a₀ : A} {Q : A → Type 0} {s₀ s : Code} where
-    pub round_out : LoopInvariant tokens f grow a₀ Q s₀ s → ((stack : List ℕ) → grow a₀ stack ≡ stack)
-        → ((R L : ℕ) (stack : List ℕ) (a : A) (m : State) → Q a → Represents tokens s R L stack m → f a m ≡ ok (break a) m) → Refines tokens 0 0 (loop f a₀) Q grow 0 0 0 s₀ s
+    pub round_out : LoopInvariantBy kept tokens f grow a₀ Q s₀ s → ((stack : List ℕ) → grow a₀ stack ≡ stack)
+        → ((R L : ℕ) (stack : List ℕ) (a : A) (m : State) → Q a → Represents tokens s R L stack m → f a m ≡ ok (break a) m) → RefinesBy kept tokens 0 0 (loop f a₀) Q grow 0 0 0 s₀ s
     round_out i z p = round_last i z (record {
       sticky = λ e. refl;
       same = refl;
@@ -159,13 +173,13 @@ module _ {A : Type 0} {tokens : List ℕ} {f : A → Rule (ControlFlow A)} {grow
 
   -- a turn that fails is the last
   module _ {a₀ : A} {Q Q' : A → Type 0} {s₀ s s' : Code} where
-    pub again_stops : LoopInvariant tokens f grow a₀ Q s₀ s → going s ≡ true → Again tokens f grow Q Q' s s' → going s' ≡ false → ((stack : List ℕ) → grow a₀ stack ≡ stack) → Refines tokens 0 0 (loop f a₀) Q' grow 0 0 0 s₀ s'
+    pub again_stops : LoopInvariantBy kept tokens f grow a₀ Q s₀ s → going s ≡ true → AgainBy kept tokens f grow Q Q' s s' → going s' ≡ false → ((stack : List ℕ) → grow a₀ stack ≡ stack) → RefinesBy kept tokens 0 0 (loop f a₀) Q' grow 0 0 0 s₀ s'
     again_stops i g p g' z = round_out (round_again i g p) z (λ R L stack a m q h. absurd (true≢false (represents_going h) g'))
 
   -- and gives no value: its error is passed on
   module _ {B : Type 0} {Q Q' Q'' : A → Type 0} {s s' : Code} {e : Diagnostic} (res : Std.Result B Diagnostic) where
-    pub again_fails : Again tokens f grow Q Q' s s' → s'.parser.error ≡ Failed e → Passed e res → Again tokens f grow Q Q'' s (with_error s' (error_of res))
-    again_fails p t k = subst (Again tokens f grow Q Q'' s) (passed_on res t k) (record {
+    pub again_fails : AgainBy kept tokens f grow Q Q' s s' → s'.parser.error ≡ Failed e → Passed e res → AgainBy kept tokens f grow Q Q'' s (with_error s' (error_of res))
+    again_fails p t k = subst (AgainBy kept tokens f grow Q Q'' s) (passed_on res t k) (record {
       same = p.same;
       monotone = p.monotone;
       progress = p.progress;
@@ -178,8 +192,8 @@ module _ {A : Type 0} {tokens : List ℕ} {f : A → Rule (ControlFlow A)} {grow
         go R L stack (err e m) h = h
 
 -- a step that fails ends the loop
-module _ {A : Type 0} {tokens : List ℕ} {a₀ v : A} {P : ControlFlow A → Type 0} {d r' l' : ℕ} {s₀ s s' : Code} (f : A → Rule (ControlFlow A)) where
-  pub loop_stops : LoopInvariant tokens f stack_unchanged a₀ (λ a. a ≡ v) s₀ s → Refines tokens 0 0 (f v) P stack_unchanged d r' l' s s' → going s' ≡ false → Refines tokens 0 0 (loop f a₀) (λ _. Unit {0}) stack_unchanged 0 0 0 s₀ s'
+module _ {kept : Kept} {A : Type 0} {tokens : List ℕ} {a₀ v : A} {P : ControlFlow A → Type 0} {d r' l' : ℕ} {s₀ s s' : Code} (f : A → Rule (ControlFlow A)) where
+  pub loop_stops : LoopInvariantBy kept tokens f stack_unchanged a₀ (λ a. a ≡ v) s₀ s → RefinesBy kept tokens 0 0 (f v) P stack_unchanged d r' l' s s' → going s' ≡ false → RefinesBy kept tokens 0 0 (loop f a₀) (λ _. Unit {0}) stack_unchanged 0 0 0 s₀ s'
   loop_stops i p g = round_last i (λ stack. refl) (record {
     sticky = p.sticky;
     same = p.same;
@@ -193,9 +207,9 @@ module _ {A : Type 0} {tokens : List ℕ} {a₀ v : A} {P : ControlFlow A → Ty
       go R L stack (err e m) h = h
 
 -- a turn from what a step of the code meets
-pub again_of : {A : Type 0} {tokens : List ℕ} {v w : A} {r' l' : ℕ} {s s' : Code} (f : A → Rule (ControlFlow A)) → Refines tokens 0 0 (f v) (λ t. t ≡ continue w) stack_unchanged 1 r' l' s s'
-    → Again tokens f stack_unchanged (λ a. a ≡ v) (λ b. b ≡ w) s s'
-again_of {A} {tokens} {v} {w} {r'} {l'} {s} {s'} f p = record {
+pub again_of : {kept : Kept} {A : Type 0} {tokens : List ℕ} {v w : A} {r' l' : ℕ} {s s' : Code} (f : A → Rule (ControlFlow A)) → RefinesBy kept tokens 0 0 (f v) (λ t. t ≡ continue w) stack_unchanged 1 r' l' s s'
+    → AgainBy kept tokens f stack_unchanged (λ a. a ≡ v) (λ b. b ≡ w) s s'
+again_of {kept} {A} {tokens} {v} {w} {r'} {l'} {s} {s'} f p = record {
   same = p.same;
   monotone = p.monotone;
   progress = p.progress;
@@ -209,9 +223,9 @@ again_of {A} {tokens} {v} {w} {r'} {l'} {s} {s'} f p = record {
     go R L stack (err e m) h = h
 
 -- a last turn likewise
-pub last_of : {A : Type 0} {tokens : List ℕ} {v w : A} {d r' l' : ℕ} {s s' : Code} (f : A → Rule (ControlFlow A)) → Refines tokens 0 0 (f v) (λ t. t ≡ break w) stack_unchanged d r' l' s s'
-    → Last tokens f stack_unchanged (λ a. a ≡ v) (λ b. b ≡ w) s s'
-last_of {A} {tokens} {v} {w} {d} {r'} {l'} {s} {s'} f p = record {
+pub last_of : {kept : Kept} {A : Type 0} {tokens : List ℕ} {v w : A} {d r' l' : ℕ} {s s' : Code} (f : A → Rule (ControlFlow A)) → RefinesBy kept tokens 0 0 (f v) (λ t. t ≡ break w) stack_unchanged d r' l' s s'
+    → LastBy kept tokens f stack_unchanged (λ a. a ≡ v) (λ b. b ≡ w) s s'
+last_of {kept} {A} {tokens} {v} {w} {d} {r'} {l'} {s} {s'} f p = record {
   sticky = p.sticky;
   same = p.same;
   monotone = p.monotone;
@@ -225,8 +239,8 @@ last_of {A} {tokens} {v} {w} {d} {r'} {l'} {s} {s'} f p = record {
     go R L stack (err e m) h = h
 
 -- what is struck out is in no array
-module _ {A : Type 0} {tokens : List ℕ} {x : Rule A} {Q : A → Type 0} {grow : A → List ℕ → List ℕ} {r l d r' l' : ℕ} {s s' : Code} where
-  pub struck_as : Refines tokens r l x Q grow d r' l' s s' → Refines tokens r l (struck x) Q grow d r' l' s s'
+module _ {kept : Kept} {A : Type 0} {tokens : List ℕ} {x : Rule A} {Q : A → Type 0} {grow : A → List ℕ → List ℕ} {r l d r' l' : ℕ} {s s' : Code} where
+  pub struck_as : RefinesBy kept tokens r l x Q grow d r' l' s s' → RefinesBy kept tokens r l (struck x) Q grow d r' l' s s'
   unfolding struck
   struck_as p = record { sticky = p.sticky; same = p.same; monotone = p.monotone; progress = p.progress; simulates = λ R L stack m h. go R L stack m (x m) (p.simulates R L stack m h) }
     where
@@ -250,8 +264,8 @@ if_kind_is_no {A} k x y m e = ap (λ (b : Bool). (elim b as (λ _. Rule A) [ tru
 abbrev pub weight : List ℕ → Code → ℕ
 weight tokens s = length (ahead tokens s) + elim (going s) as (λ _. ℕ) [ true ↦ 1 | false ↦ 0 ]
 
-pub lighter : {A : Type 0} {tokens : List ℕ} {r l r' l' : ℕ} {x : Rule A} {Q : A → Type 0} {grow : A → List ℕ → List ℕ} {s s' : Code}
-    → going s ≡ true → Refines tokens r l x Q grow 1 r' l' s s' → weight tokens s' < weight tokens s
+pub lighter : {kept : Kept} {A : Type 0} {tokens : List ℕ} {r l r' l' : ℕ} {x : Rule A} {Q : A → Type 0} {grow : A → List ℕ → List ℕ} {s s' : Code}
+    → going s ≡ true → RefinesBy kept tokens r l x Q grow 1 r' l' s s' → weight tokens s' < weight tokens s
 lighter {tokens = tokens} {s = s} {s'} g p = either (going s') (λ g'. rw (g, g') (omega (arith, p.progress g'))) (λ g'. rw (g, g') (omega (arith, p.monotone)))
 
 -- ---- the test of such a loop

@@ -12,8 +12,8 @@ use Rattle.rules.specs.Tree.{Notes, State, Result, ok, err}
 use Rattle.rules.specs.Combinators.{Rule, ◌>>=◌, ◌>>◌, pure, current, cur, by_kind, if_kind, fail_expecting}
 use Rattle.lex.specs.declared.tok.Token.{Token}
 use Rattle.lex.specs.Answer.{max_bytes}
-use Rattle.parser_state.specs.Represents.{Failed, Code, with_error, error_of, going, is_going, from, ahead, Related, Represents, FailedAt}
-use Rattle.parser_state.specs.Refines.{Ends, stack_unchanged, all_grown, Collected, Refines, Refuses, Pushes, Lists}
+use Rattle.parser_state.specs.Represents.{Failed, Code, Kept, kept_of, with_error, error_of, going, is_going, from, ahead, Related, Represents, FailedAt}
+use Rattle.parser_state.specs.Refines.{Ends, stack_unchanged, all_grown, Collected, Refines, RefinesBy, RefusesBy, PushesBy, Lists, ListsBy}
 
 -- ---- room that is left over
 
@@ -73,9 +73,9 @@ T_true false t = absurd t
 
 -- ---- one step and then another
 
-module _ {A B : Type 0} {tokens : List ℕ} {x : Rule A} {v : A} {Q : B → Type 0} {grow : B → List ℕ → List ℕ} {r l d r₁ l₁ r₂ l₂ d₂ r₃ l₃ : ℕ} {s s₁ s₂ : Code} (f : A → Rule B) where
-  pub seq : Refines tokens r l x (λ a. a ≡ v) stack_unchanged d r₁ l₁ s s₁ → Refines tokens r₂ l₂ (f v) Q grow d₂ r₃ l₃ s₁ s₂
-      → Refines tokens (r + (r₂ - r₁)) (l + (l₂ - l₁)) (x >>= f) Q grow (d + d₂) (r₃ + (r₁ - r₂)) (l₃ + (l₁ - l₂)) s s₂
+module _ {kept : Kept} {A B : Type 0} {tokens : List ℕ} {x : Rule A} {v : A} {Q : B → Type 0} {grow : B → List ℕ → List ℕ} {r l d r₁ l₁ r₂ l₂ d₂ r₃ l₃ : ℕ} {s s₁ s₂ : Code} (f : A → Rule B) where
+  pub seq : RefinesBy kept tokens r l x (λ a. a ≡ v) stack_unchanged d r₁ l₁ s s₁ → RefinesBy kept tokens r₂ l₂ (f v) Q grow d₂ r₃ l₃ s₁ s₂
+      → RefinesBy kept tokens (r + (r₂ - r₁)) (l + (l₂ - l₁)) (x >>= f) Q grow (d + d₂) (r₃ + (r₁ - r₂)) (l₃ + (l₁ - l₂)) s s₂
   unfolding ◌>>=◌
   seq p q = record {
     sticky = λ e. let e₁ : s₁ ≡ s = p.sticky e in q.sticky (ap going e₁ ∙ e) ∙ e₁;
@@ -98,21 +98,21 @@ module _ {A B : Type 0} {tokens : List ℕ} {x : Rule A} {v : A} {Q : B → Type
           (q.simulates (R + (r₁ - r₂)) (L + (l₁ - l₂)) stack m (represents_less _ _ (omega arith) (omega arith) h.1)))
       go R L stack (err e m) h = subst (λ (t : Code). FailedAt tokens t e R L stack m) (sym (q.sticky (failed-fails h))) (failed_less _ _ (omega arith) (omega arith) h)
 
-module _ {A B : Type 0} {tokens : List ℕ} {x : Rule A} {y : Rule B} {v : A} {Q : B → Type 0} {grow : B → List ℕ → List ℕ} {r l d r₁ l₁ r₂ l₂ d₂ r₃ l₃ : ℕ} {s s₁ s₂ : Code} where
-  pub then : Refines tokens r l x (λ a. a ≡ v) stack_unchanged d r₁ l₁ s s₁ → Refines tokens r₂ l₂ y Q grow d₂ r₃ l₃ s₁ s₂
-      → Refines tokens (r + (r₂ - r₁)) (l + (l₂ - l₁)) (x >> y) Q grow (d + d₂) (r₃ + (r₁ - r₂)) (l₃ + (l₁ - l₂)) s s₂
+module _ {kept : Kept} {A B : Type 0} {tokens : List ℕ} {x : Rule A} {y : Rule B} {v : A} {Q : B → Type 0} {grow : B → List ℕ → List ℕ} {r l d r₁ l₁ r₂ l₂ d₂ r₃ l₃ : ℕ} {s s₁ s₂ : Code} where
+  pub then : RefinesBy kept tokens r l x (λ a. a ≡ v) stack_unchanged d r₁ l₁ s s₁ → RefinesBy kept tokens r₂ l₂ y Q grow d₂ r₃ l₃ s₁ s₂
+      → RefinesBy kept tokens (r + (r₂ - r₁)) (l + (l₂ - l₁)) (x >> y) Q grow (d + d₂) (r₃ + (r₁ - r₂)) (l₃ + (l₁ - l₂)) s s₂
   unfolding ◌>>◌ ◌>>=◌
   then p q = seq (λ _. y) p q
 
 -- a token is read that the code keeps
-module _ {B : Type 0} {tokens : List ℕ} {x : Rule Token} {Q : B → Type 0} {grow : B → List ℕ → List ℕ} {r l d r₁ l₁ r₂ l₂ d₂ r₃ l₃ : ℕ} {s s₁ s₂ : Code} (f : Token → Rule B) where
-  pub read : {t : Entry} → Refines tokens r l x (λ t. t ≡ token_of s.parser.cur) stack_unchanged d r₁ l₁ s s₁ → t ≡ s.parser.cur → Refines tokens r₂ l₂ (f (token_of t)) Q grow d₂ r₃ l₃ s₁ s₂
-      → Refines tokens (r + (r₂ - r₁)) (l + (l₂ - l₁)) (x >>= f) Q grow (d + d₂) (r₃ + (r₁ - r₂)) (l₃ + (l₁ - l₂)) s s₂
-  read p e q = seq f p (subst (λ (t : Entry). Refines tokens r₂ l₂ (f (token_of t)) Q grow d₂ r₃ l₃ s₁ s₂) e q)
+module _ {kept : Kept} {B : Type 0} {tokens : List ℕ} {x : Rule Token} {Q : B → Type 0} {grow : B → List ℕ → List ℕ} {r l d r₁ l₁ r₂ l₂ d₂ r₃ l₃ : ℕ} {s s₁ s₂ : Code} (f : Token → Rule B) where
+  pub read : {t : Entry} → RefinesBy kept tokens r l x (λ t. t ≡ token_of s.parser.cur) stack_unchanged d r₁ l₁ s s₁ → t ≡ s.parser.cur → RefinesBy kept tokens r₂ l₂ (f (token_of t)) Q grow d₂ r₃ l₃ s₁ s₂
+      → RefinesBy kept tokens (r + (r₂ - r₁)) (l + (l₂ - l₁)) (x >>= f) Q grow (d + d₂) (r₃ + (r₁ - r₂)) (l₃ + (l₁ - l₂)) s s₂
+  read p e q = seq f p (subst (λ (t : Entry). RefinesBy kept tokens r₂ l₂ (f (token_of t)) Q grow d₂ r₃ l₃ s₁ s₂) e q)
 
   -- or the number of whose record it keeps
-  pub read_at : {i : ℕ} → Refines tokens r l x (λ t. t ≡ token_of s.parser.cur) stack_unchanged d r₁ l₁ s s₁ → i ≡ s.parser.at → Refines tokens r₂ l₂ (f (token_at tokens i)) Q grow d₂ r₃ l₃ s₁ s₂
-      → Refines tokens (r + (r₂ - r₁)) (l + (l₂ - l₁)) (x >>= f) Q grow (d + d₂) (r₃ + (r₁ - r₂)) (l₃ + (l₁ - l₂)) s s₂
+  pub read_at : {i : ℕ} → RefinesBy kept tokens r l x (λ t. t ≡ token_of s.parser.cur) stack_unchanged d r₁ l₁ s s₁ → i ≡ s.parser.at → RefinesBy kept tokens r₂ l₂ (f (token_at tokens i)) Q grow d₂ r₃ l₃ s₁ s₂
+      → RefinesBy kept tokens (r + (r₂ - r₁)) (l + (l₂ - l₁)) (x >>= f) Q grow (d + d₂) (r₃ + (r₁ - r₂)) (l₃ + (l₁ - l₂)) s s₂
   read_at {i} p e q =
       let any = seq (λ _. f (token_at tokens i)) p q in
       record {
@@ -121,15 +121,15 @@ module _ {B : Type 0} {tokens : List ℕ} {x : Rule Token} {Q : B → Type 0} {g
         monotone = any.monotone;
         progress = any.progress;
         simulates = λ R L stack m h.
-            (seq f p (subst (λ (t : Token). Refines tokens r₂ l₂ (f t) Q grow d₂ r₃ l₃ s₁ s₂) (ap (token_at tokens) e ∙ sym h.related.here) q)).simulates R L stack m h;
+            (seq f p (subst (λ (t : Token). RefinesBy kept tokens r₂ l₂ (f t) Q grow d₂ r₃ l₃ s₁ s₂) (ap (token_at tokens) e ∙ sym h.related.here) q)).simulates R L stack m h;
       }
 
 -- the numbers of a contract, where those of the steps suffice: less room is asked, and as many tokens are taken and as much room is left
 abbrev pub suffices : ℕ → ℕ → ℕ → ℕ → ℕ → ℕ → ℕ → ℕ → ℕ → ℕ → Bool
 suffices r l d r' l' r₀ l₀ d₀ r₀' l₀' = leb r r₀ && (leb l l₀ && (leb d₀ d && (leb r₀' r' && leb l₀' l')))
 
-module _ {A : Type 0} {tokens : List ℕ} {x : Rule A} {Q : A → Type 0} {grow : A → List ℕ → List ℕ} {r l d r' l' r₀ l₀ d₀ r₀' l₀' : ℕ} {s s' : Code} where
-  pub enough : Refines tokens r l x Q grow d r' l' s s' → T (suffices r l d r' l' r₀ l₀ d₀ r₀' l₀') → Refines tokens r₀ l₀ x Q grow d₀ r₀' l₀' s s'
+module _ {kept : Kept} {A : Type 0} {tokens : List ℕ} {x : Rule A} {Q : A → Type 0} {grow : A → List ℕ → List ℕ} {r l d r' l' r₀ l₀ d₀ r₀' l₀' : ℕ} {s s' : Code} where
+  pub enough : RefinesBy kept tokens r l x Q grow d r' l' s s' → T (suffices r l d r' l' r₀ l₀ d₀ r₀' l₀') → RefinesBy kept tokens r₀ l₀ x Q grow d₀ r₀' l₀' s s'
   enough p w₀ =
       let w₁ = and_both (leb r r₀) (leb l l₀ && (leb d₀ d && (leb r₀' r' && leb l₀' l'))) (T_true _ w₀) in
       let w₂ = and_both (leb l l₀) (leb d₀ d && (leb r₀' r' && leb l₀' l')) w₁.1 in
@@ -152,14 +152,23 @@ module _ {A : Type 0} {tokens : List ℕ} {x : Rule A} {Q : A → Type 0} {grow 
       go R L stack (ok a m) e f h = (h.0, represents_less _ _ (omega arith) (omega arith) h.1)
       go R L stack (err e m) _ _ h = h
 
+-- where the arrays stay as long, less may be said of them
+module _ {A : Type 0} {tokens : List ℕ} {x : Rule A} {Q : A → Type 0} {grow : A → List ℕ → List ℕ} {r l d r' l' : ℕ} {s s' : Code} where
+  pub as_kept : (kept : Kept) → Refines tokens r l x Q grow d r' l' s s' → RefinesBy kept tokens r l x Q grow d r' l' s s'
+  as_kept kept p = record { sticky = p.sticky; same = ap (kept_of kept) p.same; monotone = p.monotone; progress = p.progress; simulates = p.simulates }
+
+module _ {A : Type 0} {tokens : List ℕ} {x : List (List ℕ) → Rule A} {Q : A → Type 0} {d r' l' mark n : ℕ} {s s' : Code} where
+  pub lists_as_kept : (kept : Kept) → Lists tokens x Q d r' l' mark n s s' → ListsBy kept tokens x Q d r' l' mark n s s'
+  lists_as_kept kept p = record { sticky = p.sticky; same = ap (kept_of kept) p.same; monotone = p.monotone; progress = p.progress; simulates = p.simulates }
+
 -- ---- no step, and a step that fails
 
-pub done : {A : Type 0} {tokens : List ℕ} {v : A} {s : Code} → Refines tokens 0 0 (pure v) (λ a. a ≡ v) stack_unchanged 0 0 0 s s
+pub done : {kept : Kept} {A : Type 0} {tokens : List ℕ} {v : A} {s : Code} → RefinesBy kept tokens 0 0 (pure v) (λ a. a ≡ v) stack_unchanged 0 0 0 s s
 unfolding pure
 done = record { sticky = λ e. refl; same = refl; monotone = omega arith; progress = λ e. omega arith; simulates = λ R L stack m h. (refl, h) }
 
-pub refused : {A : Type 0} {tokens : List ℕ} {number wanted : ℕ} {Q : A → Type 0} {grow : A → List ℕ → List ℕ} {d r' l' : ℕ} {s s' : Code}
-    → Refuses tokens number wanted s s' → Refines tokens 0 0 (fail_expecting {A = A} number wanted) Q grow d r' l' s s'
+pub refused : {kept : Kept} {A : Type 0} {tokens : List ℕ} {number wanted : ℕ} {Q : A → Type 0} {grow : A → List ℕ → List ℕ} {d r' l' : ℕ} {s s' : Code}
+    → RefusesBy kept tokens number wanted s s' → RefinesBy kept tokens 0 0 (fail_expecting {A = A} number wanted) Q grow d r' l' s s'
 unfolding fail_expecting
 refused p = record {
   sticky = p.sticky;
@@ -170,8 +179,8 @@ refused p = record {
 }
 
 -- a step that fails ends the rule
-module _ {A B : Type 0} {tokens : List ℕ} {x : Rule A} {P : A → Type 0} {grow : A → List ℕ → List ℕ} {r l d r' l' : ℕ} {s s' : Code} where
-  pub stops : (f : A → Rule B) → Refines tokens r l x P grow d r' l' s s' → going s' ≡ false → Refines tokens r l (x >>= f) (λ _. Unit {0}) stack_unchanged 0 0 0 s s'
+module _ {kept : Kept} {A B : Type 0} {tokens : List ℕ} {x : Rule A} {P : A → Type 0} {grow : A → List ℕ → List ℕ} {r l d r' l' : ℕ} {s s' : Code} where
+  pub stops : (f : A → Rule B) → RefinesBy kept tokens r l x P grow d r' l' s s' → going s' ≡ false → RefinesBy kept tokens r l (x >>= f) (λ _. Unit {0}) stack_unchanged 0 0 0 s s'
   unfolding ◌>>=◌
   stops f p g = record {
     sticky = p.sticky;
@@ -185,7 +194,7 @@ module _ {A B : Type 0} {tokens : List ℕ} {x : Rule A} {P : A → Type 0} {gro
       go R L stack (ok a m) h = absurd (true≢false (represents_going h.1) g)
       go R L stack (err e m) h = h
 
-  pub stops_then : (y : Rule B) → Refines tokens r l x P grow d r' l' s s' → going s' ≡ false → Refines tokens r l (x >> y) (λ _. Unit {0}) stack_unchanged 0 0 0 s s'
+  pub stops_then : (y : Rule B) → RefinesBy kept tokens r l x P grow d r' l' s s' → going s' ≡ false → RefinesBy kept tokens r l (x >> y) (λ _. Unit {0}) stack_unchanged 0 0 0 s s'
   unfolding ◌>>◌ ◌>>=◌
   stops_then y p g = stops (λ _. y) p g
 
@@ -201,8 +210,8 @@ pub passed_on : {A : Type 0} {s : Code} {e : Diagnostic} (res : Std.Result A Dia
 passed_on {s = s} res f k = ap (with_error s) (f ∙ ap error_of (sym (passed res k.1)))
 
 -- where a step fails, it gives no value, and no token need be taken, nor room be left
-module _ {A : Type 0} {tokens : List ℕ} {x : Rule A} {P Q : A → Type 0} {grow grow' : A → List ℕ → List ℕ} {r l d r' l' d₀ r₀' l₀' : ℕ} {s s' : Code} where
-  pub fails_as : Refines tokens r l x P grow d r' l' s s' → going s' ≡ false → Refines tokens r l x Q grow' d₀ r₀' l₀' s s'
+module _ {kept : Kept} {A : Type 0} {tokens : List ℕ} {x : Rule A} {P Q : A → Type 0} {grow grow' : A → List ℕ → List ℕ} {r l d r' l' d₀ r₀' l₀' : ℕ} {s s' : Code} where
+  pub fails_as : RefinesBy kept tokens r l x P grow d r' l' s s' → going s' ≡ false → RefinesBy kept tokens r l x Q grow' d₀ r₀' l₀' s s'
   fails_as q g = record {
     sticky = q.sticky;
     same = q.same;
@@ -216,14 +225,14 @@ module _ {A : Type 0} {tokens : List ℕ} {x : Rule A} {P Q : A → Type 0} {gro
       go R L stack (err e m) h = h
 
 -- an error that is passed on
-module _ {A B : Type 0} {tokens : List ℕ} {x : Rule A} {P Q : A → Type 0} {grow grow' : A → List ℕ → List ℕ} {r l d r' l' r₀ l₀ d₀ r₀' l₀' : ℕ} {s s' : Code} {e : Diagnostic} (res : Std.Result B Diagnostic) where
-  pub fails : Refines tokens r l x P grow d r' l' s s' → s'.parser.error ≡ Failed e → Passed e res → T (leb r r₀ && leb l l₀) → Refines tokens r₀ l₀ x Q grow' d₀ r₀' l₀' s (with_error s' (error_of res))
+module _ {kept : Kept} {A B : Type 0} {tokens : List ℕ} {x : Rule A} {P Q : A → Type 0} {grow grow' : A → List ℕ → List ℕ} {r l d r' l' r₀ l₀ d₀ r₀' l₀' : ℕ} {s s' : Code} {e : Diagnostic} (res : Std.Result B Diagnostic) where
+  pub fails : RefinesBy kept tokens r l x P grow d r' l' s s' → s'.parser.error ≡ Failed e → Passed e res → T (leb r r₀ && leb l l₀) → RefinesBy kept tokens r₀ l₀ x Q grow' d₀ r₀' l₀' s (with_error s' (error_of res))
   fails q f k w₀ =
       let w = and_both (leb r r₀) (leb l l₀) (T_true _ w₀) in
       let a : r ≤ r₀ = leb-true _ _ w.0 in
       let b : l ≤ l₀ = leb-true _ _ w.1 in
-      let p : Refines tokens r l x Q grow' d₀ r₀' l₀' s s' = fails_as q (ap is_going f) in
-      subst (Refines tokens r₀ l₀ x Q grow' d₀ r₀' l₀' s) (passed_on res f k) (record {
+      let p : RefinesBy kept tokens r l x Q grow' d₀ r₀' l₀' s s' = fails_as q (ap is_going f) in
+      subst (RefinesBy kept tokens r₀ l₀ x Q grow' d₀ r₀' l₀' s) (passed_on res f k) (record {
         sticky = p.sticky;
         same = p.same;
         monotone = p.monotone;
@@ -256,8 +265,8 @@ left-some {tokens} {s} h = omega (arith, ap length h.left, some-from tokens (tok
 pub current_represents : {tokens : List ℕ} {s : Code} {r l : ℕ} {stack : List ℕ} {m : State} → Related tokens s r l stack m → current m.left ≡ token_of s.parser.cur
 current_represents {tokens} {s} h = ap current h.left ∙ current-from tokens (token_of s.parser.cur) s.parser.at
 
-module _ {A : Type 0} {tokens : List ℕ} {Q : A → Type 0} {grow : A → List ℕ → List ℕ} {r l d r' l' : ℕ} {s s' : Code} (f : ℕ → Rule A) where
-  pub at-kind : (n : ℕ) → Refines tokens r l (f n) Q grow d r' l' s s' → s.parser.cur.kind ≡ n → Refines tokens r l (by_kind f) Q grow d r' l' s s'
+module _ {kept : Kept} {A : Type 0} {tokens : List ℕ} {Q : A → Type 0} {grow : A → List ℕ → List ℕ} {r l d r' l' : ℕ} {s s' : Code} (f : ℕ → Rule A) where
+  pub at-kind : (n : ℕ) → RefinesBy kept tokens r l (f n) Q grow d r' l' s s' → s.parser.cur.kind ≡ n → RefinesBy kept tokens r l (by_kind f) Q grow d r' l' s s'
   unfolding by_kind
   at-kind n p e = record {
     sticky = p.sticky;
@@ -267,19 +276,19 @@ module _ {A : Type 0} {tokens : List ℕ} {Q : A → Type 0} {grow : A → List 
     simulates = λ R L stack m h. subst (λ (k : ℕ). Ends tokens Q grow s' R L r' l' stack (f k m)) (sym (ap (λ (t : Token). t.kind) (current_represents h.related) ∙ e)) (p.simulates R L stack m h);
   }
 
-module _ {A : Type 0} {tokens : List ℕ} {k : ℕ} {Q : A → Type 0} {grow : A → List ℕ → List ℕ} {r l d r' l' : ℕ} {s s' : Code} (x y : Rule A) where
-  pub if_kind-yes : Refines tokens r l x Q grow d r' l' s s' → s.parser.cur.kind ≡ k → Refines tokens r l (if_kind k x y) Q grow d r' l' s s'
+module _ {kept : Kept} {A : Type 0} {tokens : List ℕ} {k : ℕ} {Q : A → Type 0} {grow : A → List ℕ → List ℕ} {r l d r' l' : ℕ} {s s' : Code} (x y : Rule A) where
+  pub if_kind-yes : RefinesBy kept tokens r l x Q grow d r' l' s s' → s.parser.cur.kind ≡ k → RefinesBy kept tokens r l (if_kind k x y) Q grow d r' l' s s'
   unfolding if_kind
   if_kind-yes p e = at-kind _ s.parser.cur.kind (rw (eq-eqb s.parser.cur.kind k e) p) refl
 
-  pub if_kind-no : Refines tokens r l y Q grow d r' l' s s' → (s.parser.cur.kind ≡ k → ⊥) → Refines tokens r l (if_kind k x y) Q grow d r' l' s s'
+  pub if_kind-no : RefinesBy kept tokens r l y Q grow d r' l' s s' → (s.parser.cur.kind ≡ k → ⊥) → RefinesBy kept tokens r l (if_kind k x y) Q grow d r' l' s s'
   unfolding if_kind
   if_kind-no p e = at-kind _ s.parser.cur.kind (rw (ne_eqb s.parser.cur.kind k e) p) refl
 
 -- ---- cells, and lists
 
-module _ {A B : Type 0} {tokens : List ℕ} {x : Rule A} {P : A → Type 0} {Q : B → Type 0} {d r₁ l₁ d₂ r₂ l₂ mark n : ℕ} {s s₁ s₂ : Code} (y : List (List ℕ) → Rule B) where
-  pub lists_then : Refines tokens 0 0 x P stack_unchanged d r₁ l₁ s s₁ → Lists tokens y Q d₂ r₂ l₂ mark n s₁ s₂ → Lists tokens (λ xs. x >> y xs) Q (d + d₂) (r₁ + r₂) (l₁ + l₂) mark n s s₂
+module _ {kept : Kept} {A B : Type 0} {tokens : List ℕ} {x : Rule A} {P : A → Type 0} {Q : B → Type 0} {d r₁ l₁ d₂ r₂ l₂ mark n : ℕ} {s s₁ s₂ : Code} (y : List (List ℕ) → Rule B) where
+  pub lists_then : RefinesBy kept tokens 0 0 x P stack_unchanged d r₁ l₁ s s₁ → ListsBy kept tokens y Q d₂ r₂ l₂ mark n s₁ s₂ → ListsBy kept tokens (λ xs. x >> y xs) Q (d + d₂) (r₁ + r₂) (l₁ + l₂) mark n s s₂
   unfolding ◌>>◌
   lists_then p q = record {
     sticky = λ e. let e₁ : s₁ ≡ s = p.sticky e in q.sticky (ap going e₁ ∙ e) ∙ e₁;
@@ -303,12 +312,12 @@ module _ {A B : Type 0} {tokens : List ℕ} {x : Rule A} {P : A → Type 0} {Q :
           (record { status = h.status; over = flatten xs ++ h.over; related = rw (← append_assoc stack (flatten xs) h.over) h.related })
 
 -- a step that fails ends the list
-module _ {A B C : Type 0} {tokens : List ℕ} {x : Rule A} {P : A → Type 0} {Q : B → Type 0} {d r₁ l₁ d' r' l' mark n : ℕ} {s s' : Code} {e : Diagnostic} (res : Std.Result C Diagnostic) (y : List (List ℕ) → Rule B) where
-  pub lists_stop : Refines tokens 0 0 x P stack_unchanged d r₁ l₁ s s' → s'.parser.error ≡ Failed e → Passed e res → Lists tokens (λ xs. x >> y xs) Q d' r' l' mark n s (with_error s' (error_of res))
+module _ {kept : Kept} {A B C : Type 0} {tokens : List ℕ} {x : Rule A} {P : A → Type 0} {Q : B → Type 0} {d r₁ l₁ d' r' l' mark n : ℕ} {s s' : Code} {e : Diagnostic} (res : Std.Result C Diagnostic) (y : List (List ℕ) → Rule B) where
+  pub lists_stop : RefinesBy kept tokens 0 0 x P stack_unchanged d r₁ l₁ s s' → s'.parser.error ≡ Failed e → Passed e res → ListsBy kept tokens (λ xs. x >> y xs) Q d' r' l' mark n s (with_error s' (error_of res))
   unfolding ◌>>◌
   lists_stop q f k =
       let g : going s' ≡ false = ap is_going f in
-      subst (Lists tokens (λ xs. x >> y xs) Q d' r' l' mark n s) (passed_on res f k) (record {
+      subst (ListsBy kept tokens (λ xs. x >> y xs) Q d' r' l' mark n s) (passed_on res f k) (record {
         sticky = q.sticky;
         same = q.same;
         monotone = q.monotone;
@@ -323,8 +332,8 @@ module _ {A B C : Type 0} {tokens : List ℕ} {x : Rule A} {P : A → Type 0} {Q
 
 -- ---- another way to write a rule
 
-module _ {A : Type 0} {tokens : List ℕ} {Q : A → Type 0} {grow : A → List ℕ → List ℕ} {r l d r' l' : ℕ} {s s' : Code} {x y : Rule A} where
-  pub as_rule : ((m : State) → y m ≡ x m) → Refines tokens r l x Q grow d r' l' s s' → Refines tokens r l y Q grow d r' l' s s'
+module _ {kept : Kept} {A : Type 0} {tokens : List ℕ} {Q : A → Type 0} {grow : A → List ℕ → List ℕ} {r l d r' l' : ℕ} {s s' : Code} {x y : Rule A} where
+  pub as_rule : ((m : State) → y m ≡ x m) → RefinesBy kept tokens r l x Q grow d r' l' s s' → RefinesBy kept tokens r l y Q grow d r' l' s s'
   as_rule e p = record {
     sticky = p.sticky;
     same = p.same;
@@ -351,26 +360,26 @@ bind_assoc {A} {B} {C} x f g m = go (x m)
     go (ok a s) = refl
     go (err e s) = refl
 
-module _ {A B C : Type 0} {tokens : List ℕ} {Q : C → Type 0} {grow : C → List ℕ → List ℕ} {r l d r' l' : ℕ} {s s' : Code} (x : Rule A) (f : A → Rule B) (g : B → Rule C) where
-  pub reassoc : Refines tokens r l ((x >>= f) >>= g) Q grow d r' l' s s' → Refines tokens r l (x >>= (λ a. f a >>= g)) Q grow d r' l' s s'
+module _ {kept : Kept} {A B C : Type 0} {tokens : List ℕ} {Q : C → Type 0} {grow : C → List ℕ → List ℕ} {r l d r' l' : ℕ} {s s' : Code} (x : Rule A) (f : A → Rule B) (g : B → Rule C) where
+  pub reassoc : RefinesBy kept tokens r l ((x >>= f) >>= g) Q grow d r' l' s s' → RefinesBy kept tokens r l (x >>= (λ a. f a >>= g)) Q grow d r' l' s s'
   reassoc p = as_rule (bind_assoc x f g) p
 
 -- the token being read is looked at
-pub looks : {tokens : List ℕ} {s : Code} → Refines tokens 0 0 cur (λ t. t ≡ token_of s.parser.cur) stack_unchanged 0 0 0 s s
+pub looks : {kept : Kept} {tokens : List ℕ} {s : Code} → RefinesBy kept tokens 0 0 cur (λ t. t ≡ token_of s.parser.cur) stack_unchanged 0 0 0 s s
 unfolding cur
 looks = record { sticky = λ e. refl; same = refl; monotone = omega arith; progress = λ e. omega arith; simulates = λ R L stack m h. (current_represents h.related, h) }
 
-module _ {A : Type 0} {tokens : List ℕ} {Q : A → Type 0} {grow : A → List ℕ → List ℕ} {r l d r' l' : ℕ} {s s' : Code} (k : ℕ) (x y : Rule A) where
+module _ {kept : Kept} {A : Type 0} {tokens : List ℕ} {Q : A → Type 0} {grow : A → List ℕ → List ℕ} {r l d r' l' : ℕ} {s s' : Code} (k : ℕ) (x y : Rule A) where
   -- the code is the same by either rule
-  pub if_kind-both : Refines tokens r l x Q grow d r' l' s s' → Refines tokens r l y Q grow d r' l' s s' → Refines tokens r l (if_kind k x y) Q grow d r' l' s s'
+  pub if_kind-both : RefinesBy kept tokens r l x Q grow d r' l' s s' → RefinesBy kept tokens r l y Q grow d r' l' s s' → RefinesBy kept tokens r l (if_kind k x y) Q grow d r' l' s s'
   if_kind-both p q = either (eqb s.parser.cur.kind k) (λ e. if_kind-yes x y p (eqb-true _ _ e)) (λ e. if_kind-no x y q (eqb-false _ _ e))
 
 -- ---- lists of members
 
 -- members, and then their list
-module _ {A : Type 0} {tokens : List ℕ} {x : Rule (List (List ℕ))} {Q : A → Type 0} {r l d r₁ l₁ d₂ r₂ l₂ mark n : ℕ} {s s₁ s₂ : Code} (y : List (List ℕ) → Rule A) where
-  pub lists-after : Refines tokens r l x (Collected tokens n s₁) all_grown d r₁ l₁ s s₁ → Lists tokens y Q d₂ r₂ l₂ mark n s₁ s₂ → mark ≡ s.parser.used.scratch
-      → Refines tokens r l (x >>= y) Q stack_unchanged (d + d₂) (r₁ + r₂) (l₁ + l₂) s s₂
+module _ {kept : Kept} {A : Type 0} {tokens : List ℕ} {x : Rule (List (List ℕ))} {Q : A → Type 0} {r l d r₁ l₁ d₂ r₂ l₂ mark n : ℕ} {s s₁ s₂ : Code} (y : List (List ℕ) → Rule A) where
+  pub lists-after : RefinesBy kept tokens r l x (Collected tokens n s₁) all_grown d r₁ l₁ s s₁ → ListsBy kept tokens y Q d₂ r₂ l₂ mark n s₁ s₂ → mark ≡ s.parser.used.scratch
+      → RefinesBy kept tokens r l (x >>= y) Q stack_unchanged (d + d₂) (r₁ + r₂) (l₁ + l₂) s s₂
   unfolding ◌>>=◌
   lists-after p q k = record {
     sticky = λ e. let e₁ : s₁ ≡ s = p.sticky e in q.sticky (ap going e₁ ∙ e) ∙ e₁;
@@ -392,9 +401,9 @@ module _ {A : Type 0} {tokens : List ℕ} {x : Rule (List (List ℕ))} {Q : A �
       go R L stack j (err e m) h = subst (λ (t : Code). FailedAt tokens t e R L stack m) (sym (q.sticky (failed-fails h))) h
 
 -- a list, and then what goes on with it
-module _ {A B : Type 0} {tokens : List ℕ} {y : List (List ℕ) → Rule A} {run : A} {Q : B → Type 0} {d r₁ l₁ r₂ l₂ d₂ r₃ l₃ mark n : ℕ} {s s₁ s₂ : Code} (f : A → Rule B) where
-  pub lists_seq : Lists tokens y (λ a. a ≡ run) d r₁ l₁ mark n s s₁ → Refines tokens r₂ l₂ (f run) Q stack_unchanged d₂ r₃ l₃ s₁ s₂ → r₂ ≤ r₁ → l₂ ≤ l₁
-      → Lists tokens (λ xs. y xs >>= f) Q (d + d₂) (r₃ + (r₁ - r₂)) (l₃ + (l₁ - l₂)) mark n s s₂
+module _ {kept : Kept} {A B : Type 0} {tokens : List ℕ} {y : List (List ℕ) → Rule A} {run : A} {Q : B → Type 0} {d r₁ l₁ r₂ l₂ d₂ r₃ l₃ mark n : ℕ} {s s₁ s₂ : Code} (f : A → Rule B) where
+  pub lists_seq : ListsBy kept tokens y (λ a. a ≡ run) d r₁ l₁ mark n s s₁ → RefinesBy kept tokens r₂ l₂ (f run) Q stack_unchanged d₂ r₃ l₃ s₁ s₂ → r₂ ≤ r₁ → l₂ ≤ l₁
+      → ListsBy kept tokens (λ xs. y xs >>= f) Q (d + d₂) (r₃ + (r₁ - r₂)) (l₃ + (l₁ - l₂)) mark n s s₂
   unfolding ◌>>=◌
   lists_seq p q a b = record {
     sticky = λ e. let e₁ : s₁ ≡ s = p.sticky e in q.sticky (ap going e₁ ∙ e) ∙ e₁;
@@ -418,8 +427,8 @@ module _ {A B : Type 0} {tokens : List ℕ} {y : List (List ℕ) → Rule A} {ru
       go R L stack a b (err e m) h = subst (λ (x : Code). FailedAt tokens x e R L stack m) (sym (q.sticky (failed-fails h))) h
 
 -- a list that fails ends what goes on with it
-module _ {A B : Type 0} {tokens : List ℕ} {y : List (List ℕ) → Rule A} {P : A → Type 0} {d r₁ l₁ mark n : ℕ} {s s' : Code} (f : A → Rule B) where
-  pub lists_fail : Lists tokens y P d r₁ l₁ mark n s s' → going s' ≡ false → Lists tokens (λ xs. y xs >>= f) (λ _. Unit {0}) 0 0 0 mark n s s'
+module _ {kept : Kept} {A B : Type 0} {tokens : List ℕ} {y : List (List ℕ) → Rule A} {P : A → Type 0} {d r₁ l₁ mark n : ℕ} {s s' : Code} (f : A → Rule B) where
+  pub lists_fail : ListsBy kept tokens y P d r₁ l₁ mark n s s' → going s' ≡ false → ListsBy kept tokens (λ xs. y xs >>= f) (λ _. Unit {0}) 0 0 0 mark n s s'
   unfolding ◌>>=◌
   lists_fail p g = record {
     sticky = p.sticky;
@@ -435,9 +444,9 @@ module _ {A B : Type 0} {tokens : List ℕ} {y : List (List ℕ) → Rule A} {P 
       go R L stack (err e m) h = h
 
 -- members, and then a step that changes none
-module _ {A : Type 0} {tokens : List ℕ} {x : Rule (List (List ℕ))} {y : Rule A} {v : A} {r l d r₁ l₁ d₂ r₂ l₂ n : ℕ} {s s₁ s₂ : Code} where
-  pub collected_then : Refines tokens r l x (Collected tokens n s₁) all_grown d r₁ l₁ s s₁ → Refines tokens 0 0 y (λ a. a ≡ v) stack_unchanged d₂ r₂ l₂ s₁ s₂
-      → Refines tokens r l (x >>= (λ xs. y >> pure xs)) (Collected tokens n s₂) all_grown (d + d₂) (r₁ + r₂) (l₁ + l₂) s s₂
+module _ {kept : Kept} {A : Type 0} {tokens : List ℕ} {x : Rule (List (List ℕ))} {y : Rule A} {v : A} {r l d r₁ l₁ d₂ r₂ l₂ n : ℕ} {s s₁ s₂ : Code} where
+  pub collected_then : RefinesBy kept tokens r l x (Collected tokens n s₁) all_grown d r₁ l₁ s s₁ → RefinesBy kept tokens 0 0 y (λ a. a ≡ v) stack_unchanged d₂ r₂ l₂ s₁ s₂
+      → RefinesBy kept tokens r l (x >>= (λ xs. y >> pure xs)) (Collected tokens n s₂) all_grown (d + d₂) (r₁ + r₂) (l₁ + l₂) s s₂
   unfolding ◌>>=◌ ◌>>◌ pure
   collected_then p q = record {
     sticky = λ e. let e₁ : s₁ ≡ s = p.sticky e in q.sticky (ap going e₁ ∙ e) ∙ e₁;
@@ -462,9 +471,9 @@ module _ {A : Type 0} {tokens : List ℕ} {x : Rule (List (List ℕ))} {y : Rule
       go R L stack (err e m) h = subst (λ (t : Code). FailedAt tokens t e R L stack m) (sym (q.sticky (failed-fails h))) h
 
 -- one member
-pub collected_one : {tokens : List ℕ} {l : ℕ} {s s' : Code} (cells : List ℕ) → Pushes tokens l cells s s' → Refines tokens 1 l (pure (cells ∷ [])) (Collected tokens 1 s') all_grown 0 1 0 s s'
+pub collected_one : {kept : Kept} {tokens : List ℕ} {l : ℕ} {s s' : Code} (cells : List ℕ) → PushesBy kept tokens l cells s s' → RefinesBy kept tokens 1 l (pure (cells ∷ [])) (Collected tokens 1 s') all_grown 0 1 0 s s'
 unfolding pure flatten
-collected_one {tokens} {l} {s} {s'} cells p = record {
+collected_one {kept} {tokens} {l} {s} {s'} cells p = record {
   sticky = p.sticky;
   same = p.same;
   monotone = p.monotone;

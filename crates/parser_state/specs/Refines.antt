@@ -17,7 +17,7 @@ use Rattle.rules.specs.Rules.{readers, stage_one, require_no_docs}
 use Rattle.ast.specs.declared.Run.{Run}
 use Rattle.ast.specs.declared.NodeId.{NodeId}
 use Rattle.ast.specs.declared.TypeExprId.{TypeExprId}
-use Rattle.parser_state.specs.Represents.{Failed, with_error, Reading, Code, loan, code_of, code_after, going, ahead, Represents, FailedAt, is_going}
+use Rattle.parser_state.specs.Represents.{Failed, with_error, Reading, Code, loan, Kept, AsLent, kept_of, code_of, code_after, going, ahead, Represents, FailedAt, is_going}
 
 -- a set of rules: the powers of the signs, and the script whose signs they are
 pub record Rules : Type 0 where
@@ -66,18 +66,25 @@ GivesCount tokens s (Err e) xs = ⊥
 
 -- From `r` records' and `l` list cells' room to `r'` and `l'`, taking `d` tokens or more where it
 -- does not fail.
-pub record Refines {A : Type 0} (tokens : List ℕ) (r l : ℕ) (x : Rule A) (Q : A → Type 0) (grow : A → List ℕ → List ℕ) (d r' l' : ℕ) (s s' : Code) : Type 0 where
+pub record RefinesBy {A : Type 0} (kept : Kept) (tokens : List ℕ) (r l : ℕ) (x : Rule A) (Q : A → Type 0) (grow : A → List ℕ → List ℕ) (d r' l' : ℕ) (s s' : Code) : Type 0 where
   -- once failed, the code changes nothing
   pub sticky : going s ≡ false → s' ≡ s
-  -- the arrays stay those that were lent, and as long
-  pub same : loan s' ≡ loan s
+  -- the arrays stay those that were lent, or as long too
+  pub same : kept_of kept (loan s') ≡ kept_of kept (loan s)
   pub monotone : length (ahead tokens s') ≤ length (ahead tokens s)
   pub progress : going s' ≡ true → length (ahead tokens s') + d ≤ length (ahead tokens s)
   pub simulates : (R L : ℕ) (stack : List ℕ) (m : State) → Represents tokens s (R + r) (L + l) stack m → Ends tokens Q grow s' R L r' l' stack (x m)
 
+-- the arrays stay those that were lent, and as long
+abbrev pub Refines : {A : Type 0} (tokens : List ℕ) (r l : ℕ) (x : Rule A) (Q : A → Type 0) (grow : A → List ℕ → List ℕ) (d r' l' : ℕ) (s s' : Code) → Type 0
+Refines tokens r l x Q grow d r' l' s s' = RefinesBy AsLent tokens r l x Q grow d r' l' s s'
+
 -- a token is taken
+abbrev pub TakesBy : Kept → List ℕ → Rule Token → Code → Code → Type 0
+TakesBy kept tokens x s s' = RefinesBy kept tokens 0 0 x (λ t. t ≡ token_of s.parser.cur) stack_unchanged 1 1 8 s s'
+
 abbrev pub Takes : List ℕ → Rule Token → Code → Code → Type 0
-Takes tokens x s s' = Refines tokens 0 0 x (λ t. t ≡ token_of s.parser.cur) stack_unchanged 1 1 8 s s'
+Takes tokens x s s' = TakesBy AsLent tokens x s s'
 
 -- a type is read
 abbrev pub ReadsType : List ℕ → Rule TypeExprId → Parser → Parser → Std.Result TypeExprId Diagnostic → Type 0
@@ -104,20 +111,29 @@ abbrev pub ReadsList : List ℕ → Rule Run → Parser → Parser → Std.Resul
 ReadsList tokens x p p' r = Refines tokens 0 0 x (Gives r) stack_unchanged 1 1 8 (code_of p) (code_after p' r)
 
 -- a member of a list is read, and its cells are pushed
+abbrev pub ReadsMemberBy : Kept → List ℕ → Rule (List ℕ) → Code → Code → Type 0
+ReadsMemberBy kept tokens x s s' = RefinesBy kept tokens 0 0 x (λ _. Unit {0}) grown 1 0 0 s s'
+
 abbrev pub ReadsMember : List ℕ → Rule (List ℕ) → Code → Code → Type 0
-ReadsMember tokens x s s' = Refines tokens 0 0 x (λ _. Unit {0}) grown 1 0 0 s s'
+ReadsMember tokens x s s' = ReadsMemberBy AsLent tokens x s s'
 
 -- cells are pushed
+abbrev pub PushesBy : Kept → List ℕ → ℕ → List ℕ → Code → Code → Type 0
+PushesBy kept tokens l cells s s' = RefinesBy kept tokens 0 l (pure cells) (λ _. Unit {0}) grown 0 0 0 s s'
+
 abbrev pub Pushes : List ℕ → ℕ → List ℕ → Code → Code → Type 0
-Pushes tokens l cells s s' = Refines tokens 0 l (pure cells) (λ _. Unit {0}) grown 0 0 0 s s'
+Pushes tokens l cells s s' = PushesBy AsLent tokens l cells s s'
 
 -- the code fails at the token being read
-pub record Refuses (tokens : List ℕ) (number wanted : ℕ) (s s' : Code) : Type 0 where
+pub record RefusesBy (kept : Kept) (tokens : List ℕ) (number wanted : ℕ) (s s' : Code) : Type 0 where
   pub sticky : going s ≡ false → s' ≡ s
-  pub same : loan s' ≡ loan s
+  pub same : kept_of kept (loan s') ≡ kept_of kept (loan s)
   pub monotone : length (ahead tokens s') ≤ length (ahead tokens s)
   pub fails : going s' ≡ false
   pub simulates : (R L : ℕ) (stack : List ℕ) (m : State) → Represents tokens s R L stack m → FailedAt tokens s' (at_token number wanted (current m.left)) R L stack m
+
+abbrev pub Refuses : (tokens : List ℕ) (number wanted : ℕ) (s s' : Code) → Type 0
+Refuses tokens number wanted s s' = RefusesBy AsLent tokens number wanted s s'
 
 -- a rule that fails at a token that was met before
 unfoldable pub fail_at : {A : Type 0} → ℕ → Token → Rule A
@@ -159,10 +175,13 @@ unfoldable pub closed : ℕ → List (List ℕ) → Rule Run
 closed stop xs = expect stop >> alloc_slice xs
 
 -- what is pushed above `mark` cells becomes a list of `n` members
-pub record Lists {A : Type 0} (tokens : List ℕ) (x : List (List ℕ) → Rule A) (Q : A → Type 0) (d r' l' : ℕ) (mark n : ℕ) (s s' : Code) : Type 0 where
+pub record ListsBy {A : Type 0} (kept : Kept) (tokens : List ℕ) (x : List (List ℕ) → Rule A) (Q : A → Type 0) (d r' l' : ℕ) (mark n : ℕ) (s s' : Code) : Type 0 where
   pub sticky : going s ≡ false → s' ≡ s
-  pub same : loan s' ≡ loan s
+  pub same : kept_of kept (loan s') ≡ kept_of kept (loan s)
   pub monotone : length (ahead tokens s') ≤ length (ahead tokens s)
   pub progress : going s' ≡ true → length (ahead tokens s') + d ≤ length (ahead tokens s)
   pub simulates : (R L : ℕ) (stack : List ℕ) (xs : List (List ℕ)) (m : State) → length stack ≡ mark → length xs ≡ n → length xs + length m.left ≤ max_bytes + 1
       → Represents tokens s R L (stack ++ flatten xs) m → Ends tokens Q stack_unchanged s' R L r' l' stack (x xs m)
+
+abbrev pub Lists : {A : Type 0} (tokens : List ℕ) (x : List (List ℕ) → Rule A) (Q : A → Type 0) (d r' l' : ℕ) (mark n : ℕ) (s s' : Code) → Type 0
+Lists tokens x Q d r' l' mark n s s' = ListsBy AsLent tokens x Q d r' l' mark n s s'

@@ -58,6 +58,19 @@ pub record Loan : Type 0 where
 abbrev pub loan : Code → Loan
 loan s = record { names = s.names; nodes = length s.nodes; types = length s.types; lists = length s.lists }
 
+-- what is said of the loan: that the arrays stay those that were lent, or that they stay as long too
+pub data Kept : Type 0 where
+  AsNamed : Kept
+  AsLent : Kept
+
+abbrev pub KeptOf : Kept → Type 0
+KeptOf AsNamed = Names
+KeptOf AsLent = Loan
+
+abbrev pub kept_of : (kept : Kept) → Loan → KeptOf kept
+kept_of AsNamed lent = lent.names
+kept_of AsLent lent = lent
+
 abbrev pub reading : Parser → Reading
 reading p = record { cur = p.cur; at = p.at; used = p.used; error = Going }
 

@@ -3,8 +3,8 @@ use Rattle.std.specs.Prelude.{Option, None, Some, Result, ℕ, List}
 use Rattle.lex.specs.declared.diagnostic.Diagnostic.{Diagnostic}
 use Rattle.rules.specs.Combinators.{Rule}
 use Rattle.parser_state.specs.Members.{Calls}
-use Rattle.parser_state.specs.Refines.{ReadsMember}
-use Rattle.parser_state.specs.Represents.{Code, code_of, code_after}
+use Rattle.parser_state.specs.Refines.{ReadsMemberBy}
+use Rattle.parser_state.specs.Represents.{Code, Kept, code_of, code_after}
 use Rattle.parser_state.specs.declared.Parser.{Parser}
 use Rattle.std.specs.Borrow.{MutBor}
 
@@ -46,5 +46,5 @@ abbrev pub AnyTypes : Run → Run
 AnyTypes run s s' = (types : Option (List ℕ)) → run (lending None types None s) (lending None types None s')
 
 -- a closure reads a member by the rule, whatever the nodes and types hold
-abbrev pub ReadsEachAny : List ℕ → Rule (List ℕ) → Option (List ℕ) → Option (List ℕ) → Calls → Type 0
-ReadsEachAny tokens item nodes types post = (u : MutBor Parser) (r : Result (Unit {0}) Diagnostic) (v : MutBor Parser) → post u r v → ReadsMember tokens item (lending nodes types None (code_of u.now)) (lending nodes types None (code_after v.now r))
+abbrev pub ReadsEachAny : Kept → List ℕ → Rule (List ℕ) → Option (List ℕ) → Option (List ℕ) → Calls → Type 0
+ReadsEachAny kept tokens item nodes types post = (u : MutBor Parser) (r : Result (Unit {0}) Diagnostic) (v : MutBor Parser) → post u r v → ReadsMemberBy kept tokens item (lending nodes types None (code_of u.now)) (lending nodes types None (code_after v.now r))

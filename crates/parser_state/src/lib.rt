@@ -16,14 +16,14 @@ ghost use Rattle.rules.specs.Combinators.{list_until, keep_doc, collect_docs, ta
 ghost use Rattle.ast.specs.declared.Node.{Node};
 ghost use Rattle.ast.specs.declared.Node.TheVariants as N;
 ghost use Rattle.ast.specs.declared.TypeExpr.{TypeExpr};
-ghost use Rattle.parser_state.specs.Represents.{code_of, code_after, reading, with_lists, IsPlace};
+ghost use Rattle.parser_state.specs.Represents.{Kept, code_of, code_after, reading, with_lists, IsPlace};
 ghost use Rattle.parser_state.specs.Keeps.{KeepsAll, KeepsNodes, KeepsTypes};
 ghost use Rattle.parser_state.specs.Keeps.{KeepsNodesTypes, KeepsNodesLists, KeepsTypesLists};
-ghost use Rattle.parser_state.specs.Refines.{Refines, stack_unchanged, all_grown, Takes, Gives};
-ghost use Rattle.parser_state.specs.Refines.{GivesCount, Refuses, Pushes, Lists, ReadsList, failed};
+ghost use Rattle.parser_state.specs.Refines.{Refines, RefinesBy, stack_unchanged, all_grown, Takes};
+ghost use Rattle.parser_state.specs.Refines.{Gives, GivesCount, Refuses, Pushes, Lists, failed};
 ghost use Rattle.parser_state.specs.Refines.{fail_at, no_docs_wait, at_entry, doc_at, doc_follows};
 ghost use Rattle.parser_state.specs.Refines.{member_follows, closed};
-ghost use Rattle.parser_state.specs.Members.{members_until, ReadsEach, KeepsEach};
+ghost use Rattle.parser_state.specs.Members.{members_until, ReadsEach, ReadsEachBy, KeepsEach};
 ghost use Rattle.parser_state.specs.Wherever.{AnyArrays, AnyTypesLists, AnyNodesLists};
 ghost use Rattle.parser_state.specs.Wherever.{AnyNodesTypes, AnyNodes, ReadsEachAny, lending};
 
@@ -31,6 +31,9 @@ use ast::lent::CELLS_PER_BYTE;
 use ast::{Node, NodeId, NodeKind, Run, TypeExpr, TypeExprId};
 use lex::{Diagnostic, MAX_BYTES, Type};
 use tokens::{Entry, token_at};
+
+#[cfg(test)]
+mod tests;
 
 // How much is made: node and type records, value numbers, list cells; the pending docs; and the
 // cells of lists under construction.
@@ -641,13 +644,14 @@ impl Parser<'_> {
         requires stop { 1 < stop }
         requires callable { F.IsAlwaysCallable member }
         requires reads { (item : Rule (List ℕ)) × ReadsEach tokens.now item (F.post member) }
-        ensures reads { (item : Rule (List ℕ)) → ReadsEach tokens.now item (F.post member)
-            → Refines tokens.now 0 0 (members_until stop item)
+        ensures reads { (kept : Kept) (item : Rule (List ℕ)) →
+            ReadsEachBy kept tokens.now item (F.post member)
+            → RefinesBy kept tokens.now 0 0 (members_until stop item)
             (GivesCount tokens.now (code_of self.new) result) all_grown 1 1 8 (code_of self.old)
             (code_after self.new result) }
-        ensures wherever { (item : Rule (List ℕ)) (nodes types : Option (List ℕ)) →
-            ReadsEachAny tokens.now item nodes types (F.post member)
-            → Refines tokens.now 0 0 (members_until stop item)
+        ensures wherever { (kept : Kept) (item : Rule (List ℕ)) (nodes types : Option (List ℕ)) →
+            ReadsEachAny kept tokens.now item nodes types (F.post member)
+            → RefinesBy kept tokens.now 0 0 (members_until stop item)
             (GivesCount tokens.now (code_of self.new) result) all_grown 1 1 8
             (lending nodes types None (code_of self.old))
             (lending nodes types None (code_after self.new result)) }
@@ -675,12 +679,14 @@ impl Parser<'_> {
         requires stop { 1 < stop }
         requires callable { F.IsAlwaysCallable member }
         requires reads { (item : Rule (List ℕ)) × ReadsEach tokens.now item (F.post member) }
-        ensures reads { (item : Rule (List ℕ)) → ReadsEach tokens.now item (F.post member)
-            → ReadsList tokens.now (list_until stop item) self.old self.new result }
-        ensures wherever { (item : Rule (List ℕ)) (nodes types : Option (List ℕ)) →
-            ReadsEachAny tokens.now item nodes types (F.post member)
-            → Refines tokens.now 0 0 (list_until stop item) (Gives result) stack_unchanged 1 1 8
-            (lending nodes types None (code_of self.old))
+        ensures reads { (kept : Kept) (item : Rule (List ℕ)) →
+            ReadsEachBy kept tokens.now item (F.post member)
+            → RefinesBy kept tokens.now 0 0 (list_until stop item) (Gives result) stack_unchanged
+            1 1 8 (code_of self.old) (code_after self.new result) }
+        ensures wherever { (kept : Kept) (item : Rule (List ℕ)) (nodes types : Option (List ℕ)) →
+            ReadsEachAny kept tokens.now item nodes types (F.post member)
+            → RefinesBy kept tokens.now 0 0 (list_until stop item) (Gives result) stack_unchanged
+            1 1 8 (lending nodes types None (code_of self.old))
             (lending nodes types None (code_after self.new result)) }
         ensures short { IfOk result (λ run. run.len ≤ max_bytes) }
         ensures nodes { KeepsEach KeepsNodes (F.post member) → KeepsNodes self.old self.new }

@@ -3,12 +3,12 @@ use Rattle.std.proofs.Common.{ℕ, Bool, true, false, eqb, List, [], ◌∷◌, 
 use Rattle.rules.specs.Tree.{State, Result, ok, err}
 use Rattle.rules.specs.Combinators.{Rule}
 use Rattle.rules.specs.Rules.{strike_single}
-use Rattle.parser_state.specs.Represents.{Code}
-use Rattle.parser_state.specs.Refines.{Ends, Refines}
+use Rattle.parser_state.specs.Represents.{Code, Kept}
+use Rattle.parser_state.specs.Refines.{Ends, RefinesBy}
 use Rattle.parser_state.proofs.Steps.{noted, represents_noted}
 
-module _ {tokens : List ℕ} {x : Rule (List (List ℕ))} {Q : List (List ℕ) → Type 0} {grow : List (List ℕ) → List ℕ → List ℕ} {r l d r' l' : ℕ} {s s' : Code} where
-  pub strike_as : Refines tokens r l x Q grow d r' l' s s' → Refines tokens r l (strike_single x) Q grow d r' l' s s'
+module _ {kept : Kept} {tokens : List ℕ} {x : Rule (List (List ℕ))} {Q : List (List ℕ) → Type 0} {grow : List (List ℕ) → List ℕ → List ℕ} {r l d r' l' : ℕ} {s s' : Code} where
+  pub strike_as : RefinesBy kept tokens r l x Q grow d r' l' s s' → RefinesBy kept tokens r l (strike_single x) Q grow d r' l' s s'
   unfolding strike_single
   strike_as p = record { sticky = p.sticky; same = p.same; monotone = p.monotone; progress = p.progress; simulates = λ R L stack m h. go R L stack m (x m) (p.simulates R L stack m h) }
     where

@@ -5,8 +5,8 @@ use Rattle.lex.specs.Kind.{k_str, k_int, k_double, k_bool, k_void, k_option, k_a
 use Rattle.rules.specs.Combinators.{choose, fail_expecting, Readers}
 use Rattle.rules.specs.Rules.{readers, parse_type, type_by_kind, atom_type}
 use Rattle.ast.specs.declared.TypeExprId.{TypeExprId}
-use Rattle.parser_state.specs.Represents.{Code}
-use Rattle.parser_state.specs.Refines.{Rules, Refines, Refuses, stack_unchanged, deeper}
+use Rattle.parser_state.specs.Represents.{Code, Kept}
+use Rattle.parser_state.specs.Refines.{Rules, RefinesBy, RefusesBy, stack_unchanged, deeper}
 use Rattle.parser_state.proofs.Steps.{either, at-kind, refused}
 
 deeper-zero : (rules : Rules) (levels : ℕ) → levels ≡ 0 → (deeper rules levels).type ≡ fail_expecting 10 0
@@ -53,20 +53,20 @@ module _ (below : Readers) (k : ℕ) where
       break : (n : ℕ) → k_str ≤ n → n ≤ k_void → k ≡ n → ⊥
       break n p q e = ⊎_elim (λ w. omega arith) (λ w. omega arith) h
 
-module _ {tokens : List ℕ} {Q : TypeExprId → Type 0} {d r' l' : ℕ} {s s' : Code} (rules : Rules) (levels : ℕ) where
-  pub too_deep : levels ≡ 0 → Refuses tokens 10 0 s s' → Refines tokens 0 0 (deeper rules levels).type Q stack_unchanged d r' l' s s'
+module _ {kept : Kept} {tokens : List ℕ} {Q : TypeExprId → Type 0} {d r' l' : ℕ} {s s' : Code} (rules : Rules) (levels : ℕ) where
+  pub too_deep : levels ≡ 0 → RefusesBy kept tokens 10 0 s s' → RefinesBy kept tokens 0 0 (deeper rules levels).type Q stack_unchanged d r' l' s s'
   too_deep e p = rw (deeper-zero rules levels e) (refused p)
 
-module _ {tokens : List ℕ} {Q : TypeExprId → Type 0} {r l d r' l' : ℕ} {s s' : Code} (rules : Rules) (levels : ℕ) where
-  pub type_at : (kind : ℕ) → (levels ≡ 0 → ⊥) → Refines tokens r l (type_by_kind (deeper rules (levels - 1)) kind) Q stack_unchanged d r' l' s s' → s.parser.cur.kind ≡ kind
-      → Refines tokens r l (deeper rules levels).type Q stack_unchanged d r' l' s s'
+module _ {kept : Kept} {tokens : List ℕ} {Q : TypeExprId → Type 0} {r l d r' l' : ℕ} {s s' : Code} (rules : Rules) (levels : ℕ) where
+  pub type_at : (kind : ℕ) → (levels ≡ 0 → ⊥) → RefinesBy kept tokens r l (type_by_kind (deeper rules (levels - 1)) kind) Q stack_unchanged d r' l' s s' → s.parser.cur.kind ≡ kind
+      → RefinesBy kept tokens r l (deeper rules levels).type Q stack_unchanged d r' l' s s'
   unfolding parse_type
   type_at kind f p e = rw (deeper-suc rules levels f) (at-kind _ kind p e)
 
-  pub type-atom : {k : ℕ} → (levels ≡ 0 → ⊥) → Refines tokens r l atom_type Q stack_unchanged d r' l' s s' → k ≡ s.parser.cur.kind → k_str ≤ k → k < k_option → Refines tokens r l (deeper rules levels).type Q stack_unchanged d r' l' s s'
+  pub type-atom : {k : ℕ} → (levels ≡ 0 → ⊥) → RefinesBy kept tokens r l atom_type Q stack_unchanged d r' l' s s' → k ≡ s.parser.cur.kind → k_str ≤ k → k < k_option → RefinesBy kept tokens r l (deeper rules levels).type Q stack_unchanged d r' l' s s'
   type-atom {k} f p e a b = type_at k f (rw (of_atom (deeper rules (levels - 1)) k a b) p) (sym e)
 
-module _ {tokens : List ℕ} {Q : TypeExprId → Type 0} {d r' l' : ℕ} {s s' : Code} (rules : Rules) (levels : ℕ) where
-  pub type-none : {k : ℕ} → (levels ≡ 0 → ⊥) → Refuses tokens 23 0 s s' → k ≡ s.parser.cur.kind → (k < k_str) ⊎ (k_void < k) → (k ≡ k_option → ⊥) → (k ≡ k_array → ⊥) → (k ≡ k_foreign → ⊥) → (k ≡ k_record → ⊥)
-      → Refines tokens 0 0 (deeper rules levels).type Q stack_unchanged d r' l' s s'
+module _ {kept : Kept} {tokens : List ℕ} {Q : TypeExprId → Type 0} {d r' l' : ℕ} {s s' : Code} (rules : Rules) (levels : ℕ) where
+  pub type-none : {k : ℕ} → (levels ≡ 0 → ⊥) → RefusesBy kept tokens 23 0 s s' → k ≡ s.parser.cur.kind → (k < k_str) ⊎ (k_void < k) → (k ≡ k_option → ⊥) → (k ≡ k_array → ⊥) → (k ≡ k_foreign → ⊥) → (k ≡ k_record → ⊥)
+      → RefinesBy kept tokens 0 0 (deeper rules levels).type Q stack_unchanged d r' l' s s'
   type-none {k} f p e h a b c d = type_at rules levels k f (rw (of_none (deeper rules (levels - 1)) k h a b c d) (refused p)) (sym e)

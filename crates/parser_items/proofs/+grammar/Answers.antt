@@ -4,11 +4,11 @@ use Rattle.lex.specs.Kind.{k_curly_right, k_import, k_extern, k_let, k_fn}
 use Rattle.ast.specs.Layout.{token_cells, run_cells, node_cells}
 use Rattle.rules.specs.Combinators.{choose}
 use Rattle.rules.specs.Rules.{node_member, parse_prefix, parse_expr, parse_let, parse_fn, parse_body, parse_match, field, record_literal, array_literal, group, unary, call, postfix_step, postfix, binary, infix_step, infixes, stage_one}
-use Rattle.parser_state.specs.Represents.{reading}
+use Rattle.parser_state.specs.Represents.{AsLent, reading}
 use Rattle.parser_state.specs.Refines.{rules_of, deeper}
 use Rattle.parser_state.proofs.Steps.{read, read_at, looks, as_rule, seq, then, done, enough, stops, stops_then, fails_as, fails, refused, at-kind, if_kind-yes, if_kind-no, lists_seq, lists_fail}
 use Rattle.parser_state.proofs.Rounds.{round_start, round_start_at, round_again, round_out, again_of, again_fails, loop_stops, lighter, struck_as}
-use Rattle.parser_state.proofs.Loops.{member-going}
+use Rattle.parser_state.proofs.Loops.{member-going, each-asked}
 use Rattle.parser_operators.specs.Tests.{operand_class, operand_of}
 use Rattle.parser_operators.specs.Matches.{case_cells, match_end, match_node}
 use Rattle.parser_operators.proofs.Tables.{power_below, as_is_none}
@@ -129,10 +129,10 @@ unfolding node_member
 items-list_until-returns t c = enough (seq _ c.in_ok-n.ensures (c.push_cell.ensures.reads _)) tt
 
 pub items-list_until-requires-clause-reads : goal.items-list_until-requires-clause-reads
-items-list_until-requires-clause-reads t c = (node_member (deeper (rules_of c.args.source.now.script.now) c.args.levels).prefix, λ u r v h. h)
+items-list_until-requires-clause-reads t c = (node_member (deeper (rules_of c.args.source.now.script.now) c.args.levels).prefix, each-asked AsLent (λ u r v h. h))
 
 pub items-returns : goal.items-returns
-items-returns t c = c.list_until.ensures.reads (node_member (deeper (rules_of c.args.source.now.script.now) c.args.levels).prefix) (λ u r v h. h)
+items-returns t c = c.list_until.ensures.reads AsLent (node_member (deeper (rules_of c.args.source.now.script.now) c.args.levels).prefix) (λ u r v h. h)
 
 -- ---- match
 
@@ -261,10 +261,10 @@ unfolding record_literal node_cells token_cells run_cells
 record_literal-returns t c = enough (read _ c.advance.ensures.reads refl (seq _ c.in_ok-fields.ensures (c.push_token_node.ensures.reads _ _ refl))) tt
 
 pub inits-list_until-requires-clause-reads : goal.inits-list_until-requires-clause-reads
-inits-list_until-requires-clause-reads t c = (field (deeper (rules_of c.args.source.now.script.now) c.args.levels), λ u r v h. h)
+inits-list_until-requires-clause-reads t c = (field (deeper (rules_of c.args.source.now.script.now) c.args.levels), each-asked AsLent (λ u r v h. h))
 
 pub inits-returns : goal.inits-returns
-inits-returns t c = c.list_until.ensures.reads (field (deeper (rules_of c.args.source.now.script.now) c.args.levels)) (λ u r v h. h)
+inits-returns t c = c.list_until.ensures.reads AsLent (field (deeper (rules_of c.args.source.now.script.now) c.args.levels)) (λ u r v h. h)
 
 pub field-returns-in_err-expect_ident : goal.field-returns-in_err-expect_ident
 unfolding field
@@ -299,10 +299,10 @@ unfolding node_member
 elems-list_until-returns t c = enough (seq _ c.in_ok-n.ensures (c.push_cell.ensures.reads _)) tt
 
 pub elems-list_until-requires-clause-reads : goal.elems-list_until-requires-clause-reads
-elems-list_until-requires-clause-reads t c = (node_member ((deeper (rules_of c.args.source.now.script.now) c.args.levels).expr 0), λ u r v h. h)
+elems-list_until-requires-clause-reads t c = (node_member ((deeper (rules_of c.args.source.now.script.now) c.args.levels).expr 0), each-asked AsLent (λ u r v h. h))
 
 pub elems-returns : goal.elems-returns
-elems-returns t c = c.list_until.ensures.reads (node_member ((deeper (rules_of c.args.source.now.script.now) c.args.levels).expr 0)) (λ u r v h. h)
+elems-returns t c = c.list_until.ensures.reads AsLent (node_member ((deeper (rules_of c.args.source.now.script.now) c.args.levels).expr 0)) (λ u r v h. h)
 
 pub group-returns-in_err-id : goal.group-returns-in_err-id
 unfolding group

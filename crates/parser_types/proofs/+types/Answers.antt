@@ -5,8 +5,10 @@ use Rattle.ast.specs.Layout.{type_cells, token_cells, run_cells}
 use Rattle.ast.specs.declared.TypeExpr.TheVariants as T
 use Rattle.rules.specs.Combinators.{choose}
 use Rattle.rules.specs.Rules.{array_type, option_type, record_type, typed_name, type_by_kind}
+use Rattle.parser_state.specs.Represents.{AsLent}
 use Rattle.parser_state.specs.Refines.{rules_of, deeper}
 use Rattle.parser_state.proofs.Steps.{read, seq, then, enough, fails, stops, stops_then}
+use Rattle.parser_state.proofs.Loops.{each-asked}
 use Rattle.parser_types.specs.Inner.{inner_type}
 use Rattle.parser_types.proofs.TypeKinds.{too_deep, type_at, type-atom, type-none}
 use Rattle.std.specs.Prelude.{None}
@@ -91,10 +93,10 @@ pub typed_name-returns-clause-reads : goal.typed_name-returns-clause-reads
 typed_name-returns-clause-reads t c = λ rules. typed_name-returns-clause-wherever t c rules None
 
 pub typed_names-list_until-requires-clause-reads : goal.typed_names-list_until-requires-clause-reads
-typed_names-list_until-requires-clause-reads t c = (typed_name (deeper (rules_of []) c.args.levels), λ u r v h. h.0 (rules_of []) None)
+typed_names-list_until-requires-clause-reads t c = (typed_name (deeper (rules_of []) c.args.levels), each-asked AsLent (λ u r v h. h.0 (rules_of []) None))
 
 pub typed_names-returns-clause-wherever : goal.typed_names-returns-clause-wherever
-typed_names-returns-clause-wherever t c = λ rules nodes. c.list_until.ensures.wherever (typed_name (deeper rules c.args.levels)) nodes None (λ u r v h. h.0 rules nodes)
+typed_names-returns-clause-wherever t c = λ rules nodes. c.list_until.ensures.wherever AsLent (typed_name (deeper rules c.args.levels)) nodes None (λ u r v h. h.0 rules nodes)
 
 pub typed_names-returns-clause-reads : goal.typed_names-returns-clause-reads
 typed_names-returns-clause-reads t c = λ rules. typed_names-returns-clause-wherever t c rules None

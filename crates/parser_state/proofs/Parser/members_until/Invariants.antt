@@ -2,7 +2,7 @@
 use Rattle.std.proofs.Common.{ℕ, List}
 use Rattle.std.specs.Prelude.{Option, None}
 use Rattle.rules.specs.Combinators.{Rule}
-use Rattle.parser_state.specs.Represents.{code_of}
+use Rattle.parser_state.specs.Represents.{Kept, code_of}
 use Rattle.parser_state.specs.Keeps.{KeepsNodes, KeepsTypes}
 use Rattle.parser_state.specs.Members.{KeepsEach}
 use Rattle.parser_state.specs.Wherever.{ReadsEachAny, lending}
@@ -12,8 +12,8 @@ use Rattle.parser_state.proofs.Parser.members_until.Given as goal
 
 abbrev pub invariant-loop-member : goal.invariant-loop-member
 invariant-loop-member g l =
-    ((item : Rule (List ℕ)) (nodes types : Option (List ℕ)) → ReadsEachAny l.tokens item nodes types (goal.F-post g l.member)
-    → MembersInvariant l.tokens l.stop item (lending nodes types None (code_of l.initial.self)) (lending nodes types None (code_of l.self)) l.members)
+    ((kept : Kept) (item : Rule (List ℕ)) (nodes types : Option (List ℕ)) → ReadsEachAny kept l.tokens item nodes types (goal.F-post g l.member)
+    → MembersInvariant kept l.tokens l.stop item (lending nodes types None (code_of l.initial.self)) (lending nodes types None (code_of l.self)) l.members)
     × (KeepsEach KeepsNodes (goal.F-post g l.member) → KeepsNodes l.initial.self l.self)
     × (KeepsEach KeepsTypes (goal.F-post g l.member) → KeepsTypes l.initial.self l.self)
 

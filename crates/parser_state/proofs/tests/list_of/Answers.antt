@@ -1,0 +1,6 @@
+-- `parser_state::tests::list_of` meets its contract.
+use Rattle.parser_state.specs.Represents.{AsNamed}
+use Rattle.parser_state.proofs.tests.list_of.Goals as goal
+
+pub returns-clause-reads : goal.returns-clause-reads
+returns-clause-reads g c = c.list_until.ensures.reads AsNamed
