@@ -44,16 +44,21 @@ comment (b ∷ bs) = go (eqb b 10) refl (comment bs)
     go true q h = rw (eqb-true b 10 q) (omega arith)
     go false q h = simp (q, skipped, count_while, differs_from) (omega arith)
 
--- a run of blanks
-blanks : (bs : List ℕ) → count_while is_ws bs + skipped false (drop (count_while is_ws bs) bs) ≡ skipped false bs
-unfolding skipped count_while
-blanks [] = refl
-blanks (b ∷ bs) = go (is_ws b) refl (blanks bs)
-  where
-    go : (t : Bool) → is_ws b ≡ t → count_while is_ws bs + skipped false (drop (count_while is_ws bs) bs) ≡ skipped false bs
-        → count_while is_ws (b ∷ bs) + skipped false (drop (count_while is_ws (b ∷ bs)) (b ∷ bs)) ≡ skipped false (b ∷ bs)
-    go true q h = simp (q, skipped, count_while) (omega arith)
-    go false q h = simp (q, count_while) (zero-add _)
+-- a run of bytes that are blanks by a test of theirs
+module _ (has : ℕ → Bool) (blank : (b : ℕ) → has b ≡ true → is_ws b ≡ true) where
+  run : (bs : List ℕ) → count_while has bs + skipped false (drop (count_while has bs) bs) ≡ skipped false bs
+  unfolding skipped count_while
+  run [] = refl
+  run (b ∷ bs) = go (has b) refl (run bs)
+    where
+      go : (t : Bool) → has b ≡ t → count_while has bs + skipped false (drop (count_while has bs) bs) ≡ skipped false bs
+          → count_while has (b ∷ bs) + skipped false (drop (count_while has (b ∷ bs)) (b ∷ bs)) ≡ skipped false (b ∷ bs)
+      go true q h = simp (q, blank b q, skipped, count_while) (omega arith)
+      go false q h = simp (q, count_while) (zero-add _)
+
+-- spaces are blanks
+abbrev pub is_space : ℕ → Bool
+is_space b = eqb b 32
 
 hash : (b next : ℕ) → begins_comment b next ≡ true → b ≡ 35
 unfolding begins_comment
@@ -77,8 +82,14 @@ module _ (s : List ℕ) (i n : ℕ) (scanned : i + skipped false (drop i s) ≡ 
   unfolding skipped
   skip_end h = omega (arith, rw (drop_of_length-le s h) at scanned)
 
+  skip_run : (has : ℕ → Bool) → ((b : ℕ) → has b ≡ true → is_ws b ≡ true) → (k : ℕ) → k ≡ i + count_while has (drop i s) → k + skipped false (drop k s) ≡ n
+  skip_run has blank k e = rw (e, ← drop-drop (count_while has (drop i s)) i s) (omega (arith, run has blank (drop i s)))
+
   pub skip_blanks : (k : ℕ) → k ≡ i + count_while is_ws (drop i s) → k + skipped false (drop k s) ≡ n
-  skip_blanks k e = rw (e, ← drop-drop (count_while is_ws (drop i s)) i s) (omega (arith, blanks (drop i s)))
+  skip_blanks k e = skip_run is_ws (λ b h. h) k e
+
+  pub skip_spaces : (k : ℕ) → k ≡ i + count_while is_space (drop i s) → k + skipped false (drop k s) ≡ n
+  skip_spaces k e = skip_run is_space (λ b h. space_separates b (eqb-true b 32 h)) k e
 
   module _ (h : i < length s) where
     pub skip_blank : is_ws (get_or s i 0) ≡ true → i + 1 + skipped false (drop (i + 1) s) ≡ n
