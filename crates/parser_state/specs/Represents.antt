@@ -58,7 +58,7 @@ pub record Loan : Type 0 where
 abbrev pub loan : Code → Loan
 loan s = record { names = s.names; nodes = length s.nodes; types = length s.types; lists = length s.lists }
 
--- what is said of the loan: that the arrays stay those that were lent, or that they stay as long too
+-- what is said of the loan: that the arrays stay those that were lent, or as long too
 pub data Kept : Type 0 where
   AsNamed : Kept
   AsLent : Kept

@@ -643,7 +643,8 @@ impl Parser<'_> {
     ) -> Result<u32, Diagnostic>
         requires stop { 1 < stop }
         requires callable { F.IsAlwaysCallable member }
-        requires reads { (item : Rule (List ℕ)) × ReadsEach tokens.now item (F.post member) }
+        requires reads { (item : Rule (List ℕ))
+            × ReadsEach tokens.now item (F.post member) }
         ensures reads { (kept : Kept) (item : Rule (List ℕ)) →
             ReadsEachBy kept tokens.now item (F.post member)
             → RefinesBy kept tokens.now 0 0 (members_until stop item)
